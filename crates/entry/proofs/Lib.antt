@@ -1,0 +1,5 @@
+pub mod Levels
+pub mod Fields
+pub mod Written
+pub mod Marks
+pub mod OtherRights

@@ -1,0 +1,4 @@
+pub mod Entry
+pub mod Words
+pub mod Marks
+pub mod Kept

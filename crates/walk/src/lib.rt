@@ -1,0 +1,126 @@
+// What a walk through the tables finds: the page that an address means, for any bytes.
+ghost use mathlib.Core.Path.{_≡_};
+ghost use Prim.Native.Nat.{_<_};
+ghost use Rattle.word.specs.Memory.{memory, holds};
+ghost use Rattle.walk.specs.Walk as the;
+use entry::Entry;
+use entry::Rights;
+use word::Cell;
+
+// What an address means.
+pub enum Found {
+    // the page's first address, its size, where it lies in physical memory, and the rights of the whole way
+    Page {
+        base: u64,
+        size: u64,
+        frame: u64,
+        rights: Rights,
+    },
+    // an entry on the way says nothing, or has a reserved bit set
+    Nothing,
+    // the way leads to a table that does not lie in the window
+    Outside,
+}
+
+// A walk on its way: at the table in a page, with the rights so far; or at its end.
+pub enum Place {
+    Going(u64, Rights),
+    Ended(Found),
+}
+
+// Which entry of a table of level n the address goes through.
+pub fn index(n: u64, va: u64) -> u64
+    ensures { λ r. ⌜ (n < 4 → r ≡ the.indexOf n va) ⌝ }
+{
+    va / entry::size(n) % 512
+}
+
+// Where the range that the entry covers begins.
+fn base(n: u64, va: u64) -> u64
+    requires { ⌜ n < 4 ⌝ }
+    ensures { λ r. ⌜ r ≡ the.baseOf n va ⌝ }
+{
+    let s = entry::size(n);
+    va / s * s
+}
+
+// What comes of an entry of level n; r: the rights of the way to it.
+fn enter(n: u64, va: u64, r: Rights, e: Entry) -> Place
+    requires { ⌜ n < 4 ⌝ }
+    ensures { λ p. ⌜ p ≡ the.entered n va r e ⌝ }
+{
+    match e {
+        Entry::Nothing => Place::Ended(Found::Nothing),
+        Entry::Page(f, g) => Place::Ended(Found::Page {
+            base: base(n, va),
+            size: entry::size(n),
+            frame: f,
+            rights: entry::both(r, g),
+        }),
+        Entry::Table(t, g) => Place::Going(t, entry::both(r, g)),
+    }
+}
+
+// The walk reads its entry of the table in page t.
+fn arrive(mem: &[u8], origin: u64, n: u64, va: u64, t: u64, r: Rights) -> Place
+    requires { ⌜ n < 4 ⌝ }
+    ensures { λ q. ⌜ q ≡ the.stepOf (holds (now (mem .entry)) origin) (memory (now (mem .entry)) origin) n va (the.going t r) ⌝ }
+{
+    let c = word::read(mem, origin, t, index(n, va));
+    match c {
+        Cell::Word(w) => enter(n, va, r, entry::decode(n, w)),
+        Cell::Outside => Place::Ended(Found::Outside),
+    }
+}
+
+// One step of a walk, at level n.
+pub fn step(mem: &[u8], origin: u64, n: u64, va: u64, p: Place) -> Place
+    ensures { λ q. ⌜ (n < 4 → q ≡ the.stepOf (holds (now (mem .entry)) origin) (memory (now (mem .entry)) origin) n va p) ⌝ }
+{
+    if 3 < n {
+        return p;
+    }
+    match p {
+        Place::Going(t, r) => arrive(mem, origin, n, va, t, r),
+        Place::Ended(f) => Place::Ended(f),
+    }
+}
+
+// Where a walk begins; the root is given as in CR3.
+pub fn begin(root: u64, va: u64) -> Place
+    ensures { λ p. ⌜ p ≡ the.start root va ⌝ }
+{
+    if 281474976710656 <= va {
+        return Place::Ended(Found::Nothing);
+    }
+    Place::Going(
+        entry::table(root),
+        Rights {
+            writable: true,
+            user: true,
+            noexec: false,
+        },
+    )
+}
+
+// What a walk has found.
+pub fn answer(p: Place) -> Found
+    ensures { λ f. ⌜ f ≡ the.foundOf p ⌝ }
+{
+    match p {
+        Place::Going(_, _) => Found::Nothing,
+        Place::Ended(f) => f,
+    }
+}
+
+// What the address means in the tables below this root, for any bytes and any numbers.
+pub fn look_up(mem: &[u8], origin: u64, root: u64, va: u64) -> Found
+    ensures { λ f. ⌜ f ≡ the.walk (holds (now (mem .entry)) origin) (memory (now (mem .entry)) origin) root va ⌝ }
+{
+    let p4 = begin(root, va);
+    let p3 = step(mem, origin, 3, va, p4);
+    let p2 = step(mem, origin, 2, va, p3);
+    let p1 = step(mem, origin, 1, va, p2);
+    let p0 = step(mem, origin, 0, va, p1);
+    answer(p0)
+}

@@ -1,0 +1,4 @@
+pub mod Bytes
+pub mod Set
+pub mod Tests
+pub mod Memory

@@ -1,0 +1,100 @@
+// Words of eight bytes in a window of physical memory: one read and one write, each for any bytes and any numbers.
+ghost use mathlib.Core.Path.{_≡_};
+ghost use Prim.Native.Nat.{_+_, _%_, _<_, _≤_};
+ghost use lib.ListN.{length};
+ghost use Rattle.word.specs.Bytes.{wordAt, putWord};
+ghost use Rattle.word.specs.Memory.{holds, readOf, written};
+
+// What reading an entry answers.
+pub enum Cell {
+    Word(u64),
+    Outside,
+}
+
+fn wide(x: u8) -> u64
+    ensures { λ r. ⌜ (r ≡ x) × (r < 256) ⌝ }
+{
+    x as u64
+}
+
+fn byte(w: u64) -> u8
+    ensures { λ r. ⌜ r ≡ w % 256 ⌝ }
+{
+    (w % 256) as u8
+}
+
+// The word whose first byte is at `at`. This form becomes one 8-byte load.
+fn load(mem: &[u8], at: usize) -> u64
+    requires { ⌜ at + 8 ≤ length (now mem) ⌝ }
+    ensures { λ r. ⌜ r ≡ wordAt (now (mem .entry)) at ⌝ }
+{
+    wide(mem[at])
+        | (wide(mem[at + 1]) << 8)
+        | (wide(mem[at + 2]) << 16)
+        | (wide(mem[at + 3]) << 24)
+        | (wide(mem[at + 4]) << 32)
+        | (wide(mem[at + 5]) << 40)
+        | (wide(mem[at + 6]) << 48)
+        | (wide(mem[at + 7]) << 56)
+}
+
+// Puts the word w at byte `at`. This form becomes one 8-byte store.
+fn store(mem: &mut [u8], at: usize, w: u64)
+    requires { ⌜ at + 8 ≤ length (now mem) ⌝ }
+    ensures { λ _. ⌜ now (mem .exit) ≡ putWord (now (mem .entry)) at w ⌝ }
+{
+    mem[at] = byte(w);
+    mem[at + 1] = byte(w >> 8);
+    mem[at + 2] = byte(w >> 16);
+    mem[at + 3] = byte(w >> 24);
+    mem[at + 4] = byte(w >> 32);
+    mem[at + 5] = byte(w >> 40);
+    mem[at + 6] = byte(w >> 48);
+    mem[at + 7] = byte(w >> 56);
+}
+
+// Does page p lie wholly in the window?
+pub fn inside(mem: &[u8], origin: u64, p: u64) -> bool
+    ensures { λ r. ⌜ r ≡ holds (now (mem .entry)) origin p ⌝ }
+{
+    if 1099511627776 <= p {
+        return false;
+    }
+    let first = p * 4096;
+    if first < origin {
+        return false;
+    }
+    let len = mem.len() as u64;
+    if len < 4096 {
+        return false;
+    }
+    if len - 4096 < first - origin {
+        return false;
+    }
+    true
+}
+
+// Entry i of page p, where that page lies in the window.
+pub fn read(mem: &[u8], origin: u64, p: u64, i: u64) -> Cell
+    ensures { λ r. ⌜ r ≡ readOf (now (mem .entry)) origin p i ⌝ }
+{
+    if 512 <= i {
+        return Cell::Outside;
+    }
+    if inside(mem, origin, p) {
+        return Cell::Word(load(mem, (p * 4096 - origin + i * 8) as usize));
+    }
+    Cell::Outside
+}
+
+// Sets entry i of page p, where that page lies in the window, and else nothing.
+pub fn write(mem: &mut [u8], origin: u64, p: u64, i: u64, w: u64)
+    ensures { λ _. ⌜ now (mem .exit) ≡ written (now (mem .entry)) origin p i w ⌝ }
+{
+    if 512 <= i {
+        return;
+    }
+    if inside(mem, origin, p) {
+        store(mem, (p * 4096 - origin + i * 8) as usize, w);
+    }
+}
