@@ -4,6 +4,7 @@ ghost use Prim.Native.Nat.{_+_, _%_, _<_, _≤_};
 ghost use lib.ListN.{length};
 ghost use Rattle.word.specs.Bytes.{wordAt, putWord};
 ghost use Rattle.word.specs.Memory.{holds, readOf, written};
+ghost use Rattle.word.specs.Writes.{carried, zeros};
 
 // What reading an entry answers.
 pub enum Cell {
@@ -96,5 +97,16 @@ pub fn write(mem: &mut [u8], origin: u64, p: u64, i: u64, w: u64)
     }
     if inside(mem, origin, p) {
         store(mem, (p * 4096 - origin + i * 8) as usize, w);
+    }
+}
+
+// Clears page p, entry by entry.
+pub fn clear(mem: &mut [u8], origin: u64, p: u64)
+    ensures { λ _. ⌜ now (mem .exit) ≡ carried (now (mem .entry)) origin (zeros p 512) ⌝ }
+{
+    let mut i: u64 = 0;
+    while i < 512 {
+        write(mem, origin, p, i, 0);
+        i += 1;
     }
 }
