@@ -1,0 +1,120 @@
+-- Pages and their ranges, whatever the bytes are: an address lies in its page, every address there gets that page, and so two pages' ranges never overlap.
+use Prim.Native.Nat.{ℕ, zero, suc, _+_, _*_, _/_, _^_, _<_, _≤_}
+use mathlib.Core.Bool.{Bool, true, false, cond}
+use mathlib.Core.Path.{_≡_, refl, sym, ap, _∙_}
+use native.Mathlib.Decide.{decLt}
+use native.Mathlib.Omega.{arith}
+use borrow.Author.Tests.{lt-ltb, le-ltb}
+use lib.Dec.{ltb}
+use Rattle.entry.specs.Entry.{sizeOf, says, both, tableOf, everything}
+use Rattle.entry.specs.declared.Rights.{Rights}
+use Rattle.entry.specs.declared.Entry.{Entry}
+use Rattle.entry.specs.declared.Entry.the-variants as entry
+use Rattle.walk.specs.Walk.{indexOf, baseOf, entryOf, entered, stepOf, run, start, foundOf, walk}
+use Rattle.walk.specs.declared.Found.{Found}
+use Rattle.walk.specs.declared.Found.the-variants.{Page, Nothing, Outside}
+use Rattle.walk.specs.declared.Place.{Place}
+use Rattle.walk.specs.declared.Place.the-variants.{Going, Ended}
+use Rattle.walk.proofs.Digits.{agree-up, same-index, same-base, base-le, base-above, in-range, size-pos}
+use Rattle.walk.proofs.Steps.{run-ended}
+
+module _ (h : ℕ → Bool) (m : ℕ → ℕ) (va : ℕ) where
+  -- the walk ends in a page of level k, and so does the walk of every address that agrees with va there
+  record Ends (n : ℕ) (p : Place) (b s f : ℕ) (r : Rights) : Type 0 where
+    level : ℕ
+    low : level < n
+    base : b ≡ baseOf level va
+    size : s ≡ sizeOf level
+    shared : (vb : ℕ) → vb / sizeOf level ≡ va / sizeOf level → foundOf (run h m n vb p) ≡ Page b s f r
+
+  -- a place that has ended in something else
+  other : (n : ℕ) (g : Found) (b s f : ℕ) (r : Rights) → foundOf (run h m n va (Ended g)) ≡ Page b s f r → g ≡ Page b s f r
+  unfolding foundOf
+  other n g b s f r e = sym (ap foundOf (run-ended h m n va g)) ∙ e
+
+  ends : (n t : ℕ) (q : Rights) (b s f : ℕ) (r : Rights) → foundOf (run h m n va (Going t q)) ≡ Page b s f r → Ends n (Going t q) b s f r
+  unfolding run stepOf foundOf entered
+  ends zero t q b s f r e = let z : _≡_ {A = ℕ} 0 1 = cc in absurd (omega arith)
+  ends (suc n) t q b s f r e = go (h t) (says n (m (entryOf n va t))) refl refl (λ u g k. ends n u g b s f r k) e
+    where
+      go : (x : Bool) (w : Entry) → h t ≡ x → says n (m (entryOf n va t)) ≡ w
+          → ((u : ℕ) (g : Rights) → foundOf (run h m n va (Going u g)) ≡ Page b s f r → Ends n (Going u g) b s f r)
+          → foundOf (run h m n va (cond x (entered n va q w) (Ended Outside))) ≡ Page b s f r → Ends (suc n) (Going t q) b s f r
+      go false w hx ew ih k = let z : _≡_ {A = ℕ} 0 1 = cc (other n Outside b s f r k) in absurd (omega arith)
+      go true entry.Nothing hx ew ih k = let z : _≡_ {A = ℕ} 0 1 = cc (other n Nothing b s f r k) in absurd (omega arith)
+      go true (entry.Page d g) hx ew ih k =
+          let same = other n (Page (baseOf n va) (sizeOf n) d (both q g)) b s f r k in
+          record {
+            level = n;
+            low = omega arith;
+            base = cc;
+            size = cc;
+            shared = λ vb y.
+                rw (hx, same-index n vb va y, ew, same-base n vb va y, run-ended h m n vb (Page (baseOf n va) (sizeOf n) d (both q g))) same;
+          }
+      go true (entry.Table u g) hx ew ih k =
+          let o = ih u (both q g) k in
+          record {
+            level = o .level;
+            low = omega (arith, o .low);
+            base = o .base;
+            size = o .size;
+            shared = λ vb y.
+                rw (hx, same-index n vb va (agree-up (o .level) n vb va (omega (arith, o .low)) y), ew) (o .shared vb y);
+          }
+
+-- what a walk that ends in a page shows
+pub record Covers (h : ℕ → Bool) (m : ℕ → ℕ) (root va b s f : ℕ) (r : Rights) : Type 0 where
+  pub level : ℕ
+  pub low : level < 4
+  pub base : b ≡ baseOf level va
+  pub size : s ≡ sizeOf level
+  pub begins : b ≤ va
+  pub reaches : va < b + s
+  pub everywhere : (vb : ℕ) → b ≤ vb → vb < b + s → walk h m root vb ≡ Page b s f r
+
+-- an aligned range that begins below 2 ^ 48 ends there or below
+below : (n va vb : ℕ) → n < 4 → va < 2 ^ 48 → vb < baseOf n va + sizeOf n → vb < 2 ^ 48
+unfolding baseOf sizeOf
+below zero va vb u v w = omega arith
+below (suc zero) va vb u v w = omega arith
+below (suc (suc zero)) va vb u v w = omega arith
+below (suc (suc (suc zero))) va vb u v w = omega arith
+below (suc (suc (suc (suc n)))) va vb u v w = absurd (omega arith)
+
+-- EVERY ADDRESS OF A PAGE'S RANGE GETS THAT PAGE, and the address that found it lies there
+pub page-covers : (h : ℕ → Bool) (m : ℕ → ℕ) (root va b s f : ℕ) (r : Rights) → walk h m root va ≡ Page b s f r → Covers h m root va b s f r
+unfolding walk start
+page-covers h m root va b s f r e = go (decLt va (2 ^ 48))
+  where
+    covered : va < 2 ^ 48 → (k : ℕ) → k < 4 → b ≡ baseOf k va → s ≡ sizeOf k
+        → ((vb : ℕ) → vb / sizeOf k ≡ va / sizeOf k → foundOf (run h m 4 vb (Going (tableOf root) everything)) ≡ Page b s f r)
+        → Covers h m root va b s f r
+    covered u k low base size shared = record {
+      level = k;
+      low = low;
+      base = base;
+      size = size;
+      begins = rw base (base-le k va);
+      reaches = rw (base, size) (base-above k va);
+      everywhere = λ vb x y.
+          let x′ : baseOf k va ≤ vb = rw base at x in
+          let y′ : vb < baseOf k va + sizeOf k = rw (base, size) at y in
+          rw (lt-ltb vb (2 ^ 48) (below k va vb low u y′)) (shared vb (in-range k va vb x′ y′));
+    }
+
+    go : Dec (va < 2 ^ 48) → Covers h m root va b s f r
+    go (no n) =
+        let high : 2 ^ 48 ≤ va = omega arith in
+        let k : foundOf (run h m 4 va (Ended Nothing)) ≡ Page b s f r = rw (le-ltb va (2 ^ 48) high) at e in
+        let z : _≡_ {A = ℕ} 0 1 = cc (other h m va 4 Nothing b s f r k) in absurd (omega arith)
+    go (yes u) =
+        let o = ends h m va 4 (tableOf root) everything b s f r (rw (lt-ltb va (2 ^ 48) u) at e) in
+        covered u (o .level) (o .low) (o .base) (o .size) (o .shared)
+
+-- TWO PAGES' RANGES NEVER OVERLAP: pages that share an address are one page
+pub pages-apart : (h : ℕ → Bool) (m : ℕ → ℕ) (root va vb b s f b′ s′ f′ : ℕ) (r r′ : Rights)
+    → walk h m root va ≡ Page b s f r → walk h m root vb ≡ Page b′ s′ f′ r′
+    → (x : ℕ) → b ≤ x → x < b + s → b′ ≤ x → x < b′ + s′ → Page b s f r ≡ Page b′ s′ f′ r′
+pages-apart h m root va vb b s f b′ s′ f′ r r′ e e′ x u v u′ v′ =
+    sym (page-covers h m root va b s f r e .everywhere x u v) ∙ page-covers h m root vb b′ s′ f′ r′ e′ .everywhere x u′ v′
