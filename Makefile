@@ -1,0 +1,19 @@
+# make test   every test, from nothing; the last line counts them
+# make demo   the demonstration
+# make walks  the compiled library against the manual's walk alone, with what is proved already
+# make clean  removes all that was made
+.PHONY: test demo walks clean
+
+test:
+	@tools/test
+
+demo:
+	@mkdir -p target
+	@rt check demo >target/demo.log 2>&1 || { cat target/demo.log; exit 1; }
+	@tools/run demo
+
+walks:
+	@tools/test archive rust walks
+
+clean:
+	rm -rf target rust/target
