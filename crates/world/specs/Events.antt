@@ -1,0 +1,87 @@
+-- What happens to memory, one word at a time, and the moments of a list of such events.
+use mathlib.Core.Path.{_≡_, refl, subst}
+use mathlib.Core.List.{List, [], _∷_, _++_}
+use mathlib.Core.Logic.{_⊎_, inl, inr}
+use Prim.Native.Nat.{ℕ}
+use native.Mathlib.Decide.{ℕ-discrete}
+use Rattle.word.specs.Memory.{set}
+use Rattle.word.proofs.Set.{set-same, set-other}
+
+-- The code writes a word; the machine marks one (accessed, dirty).
+pub data Event (Word : Type 0) : Type 0 where
+  write : ℕ → Word → Event Word
+  mark : ℕ → Word → Event Word
+
+module _ {Word : Type 0} where
+  unfoldable pub happen : (ℕ → Word) → Event Word → ℕ → Word
+  happen m (write a v) = set m a v
+  happen m (mark a v) = set m a v
+
+  -- the memory at the end
+  unfoldable pub after : (ℕ → Word) → List (Event Word) → ℕ → Word
+  after m [] = m
+  after m (e ∷ es) = after (happen m e) es
+
+  pub after-append : (es fs : List (Event Word)) (m : ℕ → Word) → after m (es ++ fs) ≡ after (after m es) fs
+  unfolding after
+  after-append [] fs m = refl
+  after-append (e ∷ es) fs m = after-append es fs (happen m e)
+
+  -- At some moment P holds of the memory: before the first event, between two, or after the last.
+  unfoldable pub Among : (ℕ → Word) → List (Event Word) → ((ℕ → Word) → Type 0) → Type 0
+  Among m [] P = P m
+  Among m (e ∷ es) P = P m ⊎ Among (happen m e) es P
+
+  -- At every moment P holds of the memory.
+  unfoldable pub All : (ℕ → Word) → List (Event Word) → ((ℕ → Word) → Type 0) → Type 0
+  All m [] P = P m
+  All m (e ∷ es) P = P m × All (happen m e) es P
+
+  pub among-map : (es : List (Event Word)) (m : ℕ → Word) (P Q : (ℕ → Word) → Type 0) → ((m' : ℕ → Word) → P m' → Q m') → Among m es P → Among m es Q
+  unfolding Among
+  among-map [] m P Q f p = f m p
+  among-map (e ∷ es) m P Q f (inl p) = inl (f m p)
+  among-map (e ∷ es) m P Q f (inr p) = inr (among-map es (happen m e) P Q f p)
+
+  -- what holds of each moment that there is, holds at every moment
+  pub all-moments : (es : List (Event Word)) (m : ℕ → Word) (P : (ℕ → Word) → Type 0) → ((m' : ℕ → Word) → Among m es (λ n. n ≡ m') → P m') → All m es P
+  unfolding Among All
+  all-moments [] m P f = f m refl
+  all-moments (e ∷ es) m P f = (f m (inl refl), all-moments es (happen m e) P (λ m' q. f m' (inr q)))
+
+  pub all-map : (es : List (Event Word)) (m : ℕ → Word) (P Q : (ℕ → Word) → Type 0) → ((m' : ℕ → Word) → P m' → Q m') → All m es P → All m es Q
+  unfolding All
+  all-map [] m P Q f p = f m p
+  all-map (e ∷ es) m P Q f p = (f m (p .0), all-map es (happen m e) P Q f (p .1))
+
+  pub all-first : (es : List (Event Word)) (m : ℕ → Word) (P : (ℕ → Word) → Type 0) → All m es P → P m
+  unfolding All
+  all-first [] m P p = p
+  all-first (e ∷ es) m P p = p .0
+
+  pub all-last : (es : List (Event Word)) (m : ℕ → Word) (P : (ℕ → Word) → Type 0) → All m es P → P (after m es)
+  unfolding All after
+  all-last [] m P p = p
+  all-last (e ∷ es) m P p = all-last es (happen m e) P (p .1)
+
+  pub all-append : (es fs : List (Event Word)) (m : ℕ → Word) (P : (ℕ → Word) → Type 0) → All m es P → All (after m es) fs P → All m (es ++ fs) P
+  unfolding All after
+  all-append [] fs m P p q = q
+  all-append (e ∷ es) fs m P p q = (p .0, all-append es fs (happen m e) P (p .1) q)
+
+  -- A mark that shows what was there is seen nowhere.
+  pub mark-same : {View : Type 0} (see : Word → View) (m : ℕ → Word) (a : ℕ) (v : Word) → see v ≡ see (m a) → (x : ℕ) → see (set m a v x) ≡ see (m x)
+  mark-same see m a v e x = go (ℕ-discrete a x)
+    where
+      go : Dec (a ≡ x) → see (set m a v x) ≡ see (m x)
+      go (yes p) = subst (λ y. see (set m a v y) ≡ see (m y)) p (rw set-same e)
+      go (no n) = rw set-other
+
+  -- Memories that show the same show the same after one write.
+  pub set-both : {View : Type 0} (see : Word → View) (m m' : ℕ → Word) (a : ℕ) (v : Word) → ((x : ℕ) → see (m' x) ≡ see (m x))
+      → (x : ℕ) → see (set m' a v x) ≡ see (set m a v x)
+  set-both see m m' a v h x = go (ℕ-discrete a x)
+    where
+      go : Dec (a ≡ x) → see (set m' a v x) ≡ see (set m a v x)
+      go (yes p) = subst (λ y. see (set m' a v y) ≡ see (set m a v y)) p (rw (set-same m' a v, set-same m a v))
+      go (no n) = rw (set-other m' a v x n, set-other m a v x n) (h x)

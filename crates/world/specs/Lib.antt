@@ -1,0 +1,14 @@
+pub mod Events
+pub mod Walker
+pub mod Ways
+pub mod Held
+pub mod Discipline
+pub mod Rules
+pub mod Marks
+pub mod Turns
+pub mod Reports
+pub mod OneChange
+pub mod Walks
+pub mod Ties
+pub mod Tiny
+pub mod Sanity

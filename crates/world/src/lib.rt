@@ -1,0 +1,1 @@
+// Walks beside writers, with caches: all of it is in specs/.
