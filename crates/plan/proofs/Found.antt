@@ -1,0 +1,80 @@
+-- What it shows that a page was found: the way to it, its level, and what its entry says.
+use Prim.Native.Nat.{ℕ, _+_, _%_, _^_, _<_, _≤_}
+use mathlib.Core.Bool.{Bool, true, false, cond}
+use mathlib.Core.Path.{_≡_, refl, subst}
+use native.Mathlib.Omega.{arith}
+use borrow.Author.Tests.{leb-true, ltb-true, eqb-true}
+use lib.Dec.{leb, ltb, eqb}
+use Rattle.entry.specs.Entry.{sizeOf, says}
+use Rattle.entry.specs.declared.Rights.{Rights}
+use Rattle.entry.specs.declared.Entry.{Entry}
+use Rattle.entry.specs.declared.Entry.the-variants as entry
+use Rattle.pool.specs.Stands.{standsOf}
+use Rattle.pool.specs.declared.Space.{Space}
+use Rattle.pool.specs.declared.Fit.{Fit}
+use Rattle.pool.specs.declared.Fit.the-variants as fit
+use Rattle.plan.specs.declared.descent.Way.{Way}
+use Rattle.plan.specs.declared.descent.Why.{Why}
+use Rattle.plan.specs.declared.descent.Why.the-variants as why
+use Rattle.plan.specs.declared.finding.Spot.{Spot}
+use Rattle.plan.specs.declared.finding.Sought.{Sought}
+use Rattle.plan.specs.declared.finding.Sought.the-variants.{Found, Refused}
+use Rattle.plan.specs.declared.Reason.the-variants.{NothingStarts, Stray}
+use Rattle.plan.specs.Descend.{wayOf}
+use Rattle.plan.specs.Find.{startsOf, spotOf, becauseOf, stoppedOf, soughtOf, foundOf}
+
+pub record FoundAt (h : ℕ → Bool) (m : ℕ → ℕ) (sp : Space) (va : ℕ) (s : Spot) : Type 0 where
+  pub stands : standsOf h sp ≡ fit.Fits
+  pub address : va < 2 ^ 48
+  pub way : wayOf h m sp va 4 ≡ s .way
+  pub low : s .way .level < 4
+  pub page : s .way .why ≡ why.Page
+  pub starts : va % sizeOf (s .way .level) ≡ 0
+  pub rights : Rights
+  pub entry : says (s .way .level) (s .way .word) ≡ entry.Page (s .frame) rights
+  pub size : s .size ≡ sizeOf (s .way .level)
+
+module _ (h : ℕ → Bool) (m : ℕ → ℕ) (sp : Space) (va : ℕ) (s : Spot) where
+  clash : _≡_ {A = ℕ} 0 1 → FoundAt h m sp va s
+  clash z = absurd (omega arith)
+
+  module _ (w : Way) (st : standsOf h sp ≡ fit.Fits) (u : va < 2 ^ 48) (ew : wayOf h m sp va 4 ≡ w) where
+    spotted : w .level < 4 → w .why ≡ why.Page → va % sizeOf (w .level) ≡ 0 → (x : Entry) → says (w .level) (w .word) ≡ x → spotOf w x ≡ Found s
+        → FoundAt h m sp va s
+    unfolding spotOf
+    spotted l y a entry.Nothing ex k = clash cc
+    spotted l y a (entry.Table t g) ex k = clash cc
+    spotted l y a (entry.Page f g) ex k =
+        let same : record { way = w; frame = f; size = sizeOf (w .level) } ≡ s = cc in
+        subst (FoundAt h m sp va) same (record { stands = st; address = u; way = ew; low = l; page = y; starts = a; rights = g; entry = ex; size = refl })
+
+    starting : w .level < 4 → w .why ≡ why.Page → (b : Bool) → startsOf (w .level) va ≡ b
+        → cond b (spotOf w (says (w .level) (w .word))) (Refused NothingStarts) ≡ Found s → FoundAt h m sp va s
+    starting l y true eb k = spotted l y (unfold startsOf in eqb-true _ 0 eb) (says (w .level) (w .word)) refl k
+    starting l y false eb k = clash cc
+
+    because : w .level < 4 → (y : Why) → w .why ≡ y → becauseOf va w y ≡ Found s → FoundAt h m sp va s
+    unfolding becauseOf
+    because l why.Stray e k = clash cc
+    because l why.Nothing e k = clash cc
+    because l why.Table e k = clash cc
+    because l why.Page e k = starting l e (startsOf (w .level) va) refl k
+
+    stopping : (b : Bool) → leb (w .level) 3 ≡ b → cond b (becauseOf va w (w .why)) (Refused Stray) ≡ Found s → FoundAt h m sp va s
+    stopping true e k = because (omega (arith, leb-true (w .level) 3 e)) (w .why) refl k
+    stopping false e k = clash cc
+
+  sought : (b : Bool) → standsOf h sp ≡ fit.Fits → ltb va (2 ^ 48) ≡ b → cond b (stoppedOf va (wayOf h m sp va 4)) (Refused NothingStarts) ≡ Found s
+      → FoundAt h m sp va s
+  unfolding stoppedOf
+  sought true st e k = let w : Way = wayOf h m sp va 4 in stopping w st (ltb-true va (2 ^ 48) e) refl (leb (w .level) 3) refl k
+  sought false st e k = clash cc
+
+  standing : (x : Fit) → standsOf h sp ≡ x → soughtOf h m sp va x ≡ Found s → FoundAt h m sp va s
+  unfolding soughtOf
+  standing fit.Fits st k = sought (ltb va (2 ^ 48)) st refl k
+  standing (fit.Refused r) st k = clash cc
+
+  pub found-at : foundOf h m sp va ≡ Found s → FoundAt h m sp va s
+  unfolding foundOf
+  found-at e = standing (standsOf h sp) refl e

@@ -1,0 +1,6 @@
+pub mod Reading
+pub mod Found
+pub mod Shapes
+pub mod Standing
+pub mod Carrying
+pub mod Keeping

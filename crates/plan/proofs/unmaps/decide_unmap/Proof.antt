@@ -1,0 +1,52 @@
+use Rattle.plan.specs.Unmap.{decideOf, soughtOf}
+use mathlib.Core.Path.{_≡_, sym, _∙_}
+use borrow.Author.Needs.{needs}
+use Rattle.plan.proofs.unmaps.decide_unmap.Statement.{statement}
+use Rattle.plan.proofs.unmaps.decide_unmap.Tie as tie
+use Rattle.plan.proofs.unmaps.decide_unmap.Reads as reads
+use Rattle.plan.proofs.unmaps.decide_unmap.Lts as lts
+use Rattle.plan.proofs.finding.find.Reads as find-reads
+use Rattle.plan.proofs.unmaps.emptied.Reads as emptied-reads
+use Rattle.plan.proofs.unmaps.remove.Reads as remove-reads
+
+-- src/unmaps.rt:124:9
+find-requires : tie.Need-find-requires
+find-requires c κs = search needs
+
+-- src/unmaps.rt:126:25
+enum-known-s : tie.Need-enum-known-s
+enum-known-s c = search needs
+
+-- src/unmaps.rt:127:23
+enum-known-s-2 : tie.Need-enum-known-s-2
+enum-known-s-2 c = search needs
+
+-- src/unmaps.rt:129:35
+emptied-requires : tie.Need-emptied-requires
+emptied-requires c κs = search needs
+
+-- src/unmaps.rt:129:13
+remove-requires : tie.Need-remove-requires
+remove-requires c κs = search needs
+
+-- src/unmaps.rt:121:1
+returns : tie.Need-returns
+unfolding decideOf soughtOf
+returns c = rw (sym (c .before .before .before .find .ensures) ∙ c .before .s .given .1)
+
+-- src/unmaps.rt:121:1
+returns-2 : tie.Need-returns-2
+unfolding decideOf soughtOf
+returns-2 c = rw (sym (c .before .before .before .before .before .before .find .ensures) ∙ c .before .before .before .before .s2 .given .1, c .remove .ensures, c .before .emptied .ensures)
+
+pub decide-unmap-spec : {M : Type 1} → statement M
+decide-unmap-spec =
+    tie.close
+    (tie.spec
+    find-requires
+    enum-known-s
+    enum-known-s-2
+    emptied-requires
+    remove-requires
+    returns
+    returns-2)

@@ -1,0 +1,93 @@
+use Rattle.plan.specs.Unmap.{emptiedOf}
+use mathlib.Core.Path.{_≡_, sym, _∙_}
+use native.Mathlib.Omega.{arith}
+use borrow.Author.Tests.{eq-eqb, ne-eqb, le-leb, lt-leb, lt-ltb, le-ltb}
+use borrow.Author.Needs.{needs}
+use Rattle.plan.proofs.unmaps.emptied.Statement.{statement}
+use Rattle.plan.proofs.unmaps.emptied.Tie as tie
+use Rattle.plan.proofs.unmaps.emptied.Reads as reads
+use Rattle.plan.proofs.unmaps.emptied.Lts as lts
+use Rattle.plan.proofs.unmaps.keeps.Reads as keeps-reads
+use Rattle.walk.proofs.index.Reads as index-reads
+
+-- src/unmaps.rt:63:9
+returns : tie.Need-returns
+unfolding emptiedOf
+returns c = simp (le-leb _ _ (c .if1 .taken))
+
+-- src/unmaps.rt:65:32
+index-requires : tie.Need-index-requires
+index-requires c κs = search needs
+
+-- src/unmaps.rt:65:8
+keeps-requires : tie.Need-keeps-requires
+keeps-requires c κs = search needs
+
+-- src/unmaps.rt:66:9
+returns-2 : tie.Need-returns-2
+unfolding emptiedOf
+returns-2 c = simp (lt-leb _ _ (c .before .before .before .if1 .left), rw (c .before .before .index .ensures (omega arith)) at (sym (c .before .keeps .ensures) ∙ c .if2 .taken))
+
+-- src/unmaps.rt:69:9
+returns-3 : tie.Need-returns-3
+unfolding emptiedOf
+returns-3 c = simp (lt-leb _ _ (c .before .before .before .before .before .if1 .left), rw (c .before .before .before .before .index .ensures (omega arith)) at (sym (c .before .before .before .keeps .ensures) ∙ c .before .before .if2 .left), le-leb _ _ (c .if3 .taken))
+
+-- src/unmaps.rt:71:44
+add-index : tie.Need-add-index
+add-index c = search needs
+
+-- src/unmaps.rt:71:32
+index-requires-2 : tie.Need-index-requires-2
+index-requires-2 c κs = search needs
+
+-- src/unmaps.rt:71:8
+keeps-requires-2 : tie.Need-keeps-requires-2
+keeps-requires-2 c κs = search needs
+
+-- src/unmaps.rt:72:9
+returns-4 : tie.Need-returns-4
+unfolding emptiedOf
+returns-4 c = simp (lt-leb _ _ (c .before .before .before .before .before .before .before .before .before .if1 .left), rw (c .before .before .before .before .before .before .before .before .index .ensures (omega arith)) at (sym (c .before .before .before .before .before .before .before .keeps .ensures) ∙ c .before .before .before .before .before .before .if2 .left), lt-leb _ _ (c .before .before .before .before .if3 .left), rw (c .before .before .index2 .ensures (omega arith)) at (sym (c .before .keeps2 .ensures) ∙ c .if4 .taken))
+
+-- src/unmaps.rt:75:9
+returns-5 : tie.Need-returns-5
+unfolding emptiedOf
+returns-5 c = simp (lt-leb _ _ (c .before .before .before .before .before .before .before .before .before .before .before .if1 .left), rw (c .before .before .before .before .before .before .before .before .before .before .index .ensures (omega arith)) at (sym (c .before .before .before .before .before .before .before .before .before .keeps .ensures) ∙ c .before .before .before .before .before .before .before .before .if2 .left), lt-leb _ _ (c .before .before .before .before .before .before .if3 .left), rw (c .before .before .before .before .index2 .ensures (omega arith)) at (sym (c .before .before .before .keeps2 .ensures) ∙ c .before .before .if4 .left), le-leb _ _ (c .if5 .taken))
+
+-- src/unmaps.rt:77:32
+index-requires-3 : tie.Need-index-requires-3
+index-requires-3 c κs = search needs
+
+-- src/unmaps.rt:77:8
+keeps-requires-3 : tie.Need-keeps-requires-3
+keeps-requires-3 c κs = search needs
+
+-- src/unmaps.rt:78:9
+returns-6 : tie.Need-returns-6
+unfolding emptiedOf
+returns-6 c = simp (lt-leb _ _ (c .before .before .before .before .before .before .before .before .before .before .before .before .before .before .if1 .left), rw (c .before .before .before .before .before .before .before .before .before .before .before .before .before .index .ensures (omega arith)) at (sym (c .before .before .before .before .before .before .before .before .before .before .before .before .keeps .ensures) ∙ c .before .before .before .before .before .before .before .before .before .before .before .if2 .left), lt-leb _ _ (c .before .before .before .before .before .before .before .before .before .if3 .left), rw (c .before .before .before .before .before .before .before .index2 .ensures (omega arith)) at (sym (c .before .before .before .before .before .before .keeps2 .ensures) ∙ c .before .before .before .before .before .if4 .left), lt-leb _ _ (c .before .before .before .if5 .left), rw (c .before .before .index3 .ensures (omega arith)) at (sym (c .before .keeps3 .ensures) ∙ c .if6 .taken))
+
+-- src/unmaps.rt:59:1
+returns-7 : tie.Need-returns-7
+unfolding emptiedOf
+returns-7 c = simp (lt-leb _ _ (c .before .before .before .before .before .before .before .before .before .before .before .before .before .before .if1 .left), rw (c .before .before .before .before .before .before .before .before .before .before .before .before .before .index .ensures (omega arith)) at (sym (c .before .before .before .before .before .before .before .before .before .before .before .before .keeps .ensures) ∙ c .before .before .before .before .before .before .before .before .before .before .before .if2 .left), lt-leb _ _ (c .before .before .before .before .before .before .before .before .before .if3 .left), rw (c .before .before .before .before .before .before .before .index2 .ensures (omega arith)) at (sym (c .before .before .before .before .before .before .keeps2 .ensures) ∙ c .before .before .before .before .before .if4 .left), lt-leb _ _ (c .before .before .before .if5 .left), rw (c .before .before .index3 .ensures (omega arith)) at (sym (c .before .keeps3 .ensures) ∙ c .if6 .left))
+
+pub emptied-spec : {M : Type 1} → statement M
+emptied-spec =
+    tie.close
+    (tie.spec
+    returns
+    index-requires
+    keeps-requires
+    returns-2
+    returns-3
+    add-index
+    index-requires-2
+    keeps-requires-2
+    returns-4
+    returns-5
+    index-requires-3
+    keeps-requires-3
+    returns-6
+    returns-7)

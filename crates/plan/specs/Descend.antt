@@ -1,0 +1,55 @@
+-- The way from the root towards the entry of an address at a target level: a fold of steps that read one entry each.
+-- It goes through pages of the pool only, and remembers the tables that it came through, the last one first.
+use Prim.Native.Nat.{ℕ, zero, suc}
+use mathlib.Core.Bool.{Bool, cond, _&&_}
+use lib.Dec.{eqb}
+use Rattle.entry.specs.Entry.{says}
+use Rattle.entry.specs.declared.Entry.{Entry}
+use Rattle.entry.specs.declared.Entry.the-variants as entry
+use Rattle.walk.specs.Walk.{entryOf}
+use Rattle.pool.specs.Book.{inPool}
+use Rattle.pool.specs.declared.Space.{Space}
+use Rattle.plan.specs.declared.descent.Why.{Why}
+use Rattle.plan.specs.declared.descent.Why.the-variants.{Nothing, Page, Table, Stray}
+use Rattle.plan.specs.declared.descent.Way.{Way}
+use Rattle.plan.specs.declared.descent.Trail.{Trail}
+use Rattle.plan.specs.declared.descent.Trail.the-variants.{At, Stopped}
+
+unfoldable pub pushOf : Way → ℕ → Way
+pushOf w t = record { why = Stray; level = w .level; word = w .word; a = t; b = w .a; c = w .b; d = w .c }
+
+unfoldable pub stopOf : Why → ℕ → ℕ → Way → Trail
+stopOf y n x w = Stopped (record { why = y; level = n; word = x; a = w .a; b = w .b; c = w .c; d = w .d })
+
+-- the entry of level n, whose word is x, says so
+unfoldable pub toldOf : ℕ → ℕ → ℕ → Way → Entry → Trail
+toldOf target n x w entry.Nothing = stopOf Nothing n x w
+toldOf target n x w (entry.Page f g) = stopOf Page n x w
+toldOf target n x w (entry.Table t g) = cond (eqb n target) (stopOf Table n x w) (At t w)
+
+-- the way has come to the table in page t, of level n
+unfoldable pub arriveOf : (ℕ → Bool) → (ℕ → ℕ) → Space → ℕ → ℕ → ℕ → ℕ → Way → Trail
+arriveOf h m sp target va n t w =
+    cond (inPool sp t)
+    (cond (h t) (toldOf target n (m (entryOf n va t)) (pushOf w t) (says n (m (entryOf n va t)))) (stopOf Stray n 0 w))
+    (stopOf Stray n 0 w)
+
+unfoldable pub stepOf : (ℕ → Bool) → (ℕ → ℕ) → Space → ℕ → ℕ → ℕ → Trail → Trail
+stepOf h m sp target va n (At t w) = arriveOf h m sp target va n t w
+stepOf h m sp target va n (Stopped w) = Stopped w
+
+-- the steps at the levels below n, from the top
+unfoldable pub downOf : (ℕ → Bool) → (ℕ → ℕ) → Space → ℕ → ℕ → ℕ → Trail → Trail
+downOf h m sp target va zero s = s
+downOf h m sp target va (suc n) s = downOf h m sp target va n (stepOf h m sp target va n s)
+
+unfoldable pub endOf : Trail → Way
+endOf (At t w) = w
+endOf (Stopped w) = w
+
+abbrev pub noWay : Way
+noWay = record { why = Stray; level = 0; word = 0; a = 0; b = 0; c = 0; d = 0 }
+
+-- THE WAY of an address to its entry at the target level
+unfoldable pub wayOf : (ℕ → Bool) → (ℕ → ℕ) → Space → ℕ → ℕ → Way
+wayOf h m sp va target = endOf (downOf h m sp target va 4 (At (sp .root) noWay))

@@ -1,0 +1,47 @@
+-- The page that starts exactly at a base: where its entry is and what it says, or why there is none.
+use Prim.Native.Nat.{ℕ, _%_, _^_}
+use mathlib.Core.Bool.{Bool, cond}
+use lib.Dec.{eqb, leb, ltb}
+use Rattle.entry.specs.Entry.{sizeOf, says}
+use Rattle.entry.specs.declared.Entry.{Entry}
+use Rattle.entry.specs.declared.Entry.the-variants as entry
+use Rattle.pool.specs.Stands.{standsOf}
+use Rattle.pool.specs.declared.Space.{Space}
+use Rattle.pool.specs.declared.Fit.{Fit}
+use Rattle.pool.specs.declared.Fit.the-variants as fit
+use Rattle.plan.specs.declared.Reason.{Reason}
+use Rattle.plan.specs.declared.Reason.the-variants.{NothingStarts, Stray, Pool}
+use Rattle.plan.specs.declared.descent.Why.{Why}
+use Rattle.plan.specs.declared.descent.Why.the-variants as why
+use Rattle.plan.specs.declared.descent.Way.{Way}
+use Rattle.plan.specs.declared.finding.Spot.{Spot}
+use Rattle.plan.specs.declared.finding.Sought.{Sought}
+use Rattle.plan.specs.declared.finding.Sought.the-variants.{Found, Refused}
+use Rattle.plan.specs.Descend.{wayOf}
+
+-- va is the first address that an entry of level n covers
+unfoldable pub startsOf : ℕ → ℕ → Bool
+startsOf n va = eqb (va % sizeOf n) 0
+
+-- the way stopped at a page
+unfoldable pub spotOf : Way → Entry → Sought
+spotOf w entry.Nothing = Refused NothingStarts
+spotOf w (entry.Page f g) = Found (record { way = w; frame = f; size = sizeOf (w .level) })
+spotOf w (entry.Table t g) = Refused NothingStarts
+
+unfoldable pub becauseOf : ℕ → Way → Why → Sought
+becauseOf va w why.Stray = Refused Stray
+becauseOf va w why.Nothing = Refused NothingStarts
+becauseOf va w why.Table = Refused NothingStarts
+becauseOf va w why.Page = cond (startsOf (w .level) va) (spotOf w (says (w .level) (w .word))) (Refused NothingStarts)
+
+unfoldable pub stoppedOf : ℕ → Way → Sought
+stoppedOf va w = cond (leb (w .level) 3) (becauseOf va w (w .why)) (Refused Stray)
+
+unfoldable pub soughtOf : (ℕ → Bool) → (ℕ → ℕ) → Space → ℕ → Fit → Sought
+soughtOf h m sp va fit.Fits = cond (ltb va (2 ^ 48)) (stoppedOf va (wayOf h m sp va 4)) (Refused NothingStarts)
+soughtOf h m sp va (fit.Refused r) = Refused (Pool r)
+
+-- WHAT IS FOUND
+unfoldable pub foundOf : (ℕ → Bool) → (ℕ → ℕ) → Space → ℕ → Sought
+foundOf h m sp va = soughtOf h m sp va (standsOf h sp)

@@ -1,0 +1,5 @@
+pub mod Descend
+pub mod Find
+pub mod Protect
+pub mod Map
+pub mod Unmap

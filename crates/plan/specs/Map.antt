@@ -1,0 +1,157 @@
+-- Map: the decision, a function of the memory and what is asked, and the writes of its plan.
+use Prim.Native.Nat.{ℕ, _+_, _-_, _*_, _%_, _^_, _≤_}
+use mathlib.Core.Bool.{Bool, true, false, cond, _&&_}
+use mathlib.Core.List.{List, [], _∷_, _++_}
+use lib.Dec.{eqb, leb, ltb}
+use Rattle.word.specs.Writes.{Write, write, zeros}
+use Rattle.entry.specs.Words.{tableWord, madePage}
+use Rattle.entry.specs.declared.Made.{Made}
+use Rattle.entry.specs.declared.Made.the-variants as made
+use Rattle.walk.specs.Walk.{indexOf}
+use Rattle.pool.specs.Stands.{standsOf}
+use Rattle.pool.specs.Book.{openedOf, listedOf}
+use Rattle.pool.specs.Changes.{tookWrites}
+use Rattle.pool.specs.declared.Space.{Space}
+use Rattle.pool.specs.declared.Book.{Book}
+use Rattle.pool.specs.declared.Fit.{Fit}
+use Rattle.pool.specs.declared.Fit.the-variants as fit
+use Rattle.pool.specs.declared.Listed.{Listed}
+use Rattle.pool.specs.declared.Listed.the-variants as listed
+use Rattle.pool.specs.declared.Opened.{Opened}
+use Rattle.pool.specs.declared.Opened.the-variants as opened
+use Rattle.plan.specs.declared.Reason.{Reason}
+use Rattle.plan.specs.declared.Reason.the-variants.{Size, BaseUnaligned, FrameUnaligned, BaseRange, FrameRange, Pool, FrameInPool, Overlap, NoRoom, Stray, BadList}
+use Rattle.plan.specs.declared.descent.Way.{Way}
+use Rattle.plan.specs.declared.descent.Why.{Why}
+use Rattle.plan.specs.declared.descent.Why.the-variants as why
+use Rattle.plan.specs.declared.maps.Asked.{Asked}
+use Rattle.plan.specs.declared.maps.Shape.{Shape}
+use Rattle.plan.specs.declared.maps.Shape.the-variants.{Level, Bad}
+use Rattle.plan.specs.declared.maps.Fresh.{Fresh}
+use Rattle.plan.specs.declared.maps.Supply.{Supply}
+use Rattle.plan.specs.declared.maps.Supply.the-variants.{Pages, Lacking}
+use Rattle.plan.specs.declared.maps.Mapping.{Mapping}
+use Rattle.plan.specs.declared.maps.Placed.{Placed}
+use Rattle.plan.specs.declared.maps.Placed.the-variants.{Go, Refused}
+use Rattle.plan.specs.declared.maps.Reached.{Reached}
+use Rattle.plan.specs.Descend.{wayOf}
+
+-- Sizes, alignment, range --------------------------------------------------------------------------------------------------------
+
+unfoldable pub fitsOf : ℕ → ℕ → ℕ → ℕ → Shape
+fitsOf n size base frame =
+    cond (eqb (base % size) 0)
+    (cond (eqb (frame % size) 0)
+    (cond (leb base (2 ^ 48 - size)) (cond (leb frame (2 ^ 52 - size)) (Level n) (Bad FrameRange)) (Bad BaseRange))
+    (Bad FrameUnaligned))
+    (Bad BaseUnaligned)
+
+unfoldable pub shapeOf : ℕ → ℕ → ℕ → Shape
+shapeOf size base frame =
+    cond (eqb size 4096)
+    (fitsOf 0 4096 base frame)
+    (cond (eqb size 2097152) (fitsOf 1 2097152 base frame) (cond (eqb size 1073741824) (fitsOf 2 1073741824 base frame) (Bad Size)))
+
+-- what is asked ends at 2 ^ 52 or below
+abbrev pub Sized : Asked → Type 0
+Sized q = q .frame + q .size ≤ 2 ^ 52
+
+-- the frame and the pool share a byte
+unfoldable pub meetsOf : Space → ℕ → ℕ → Bool
+meetsOf sp frame size = ltb (sp .first * 4096) (frame + size) && ltb frame ((sp .first + sp .pages) * 4096)
+
+-- Pages for the missing tables -----------------------------------------------------------------------------------------------------
+
+abbrev pub noBook : Book
+noBook = record { head = 0; free = 0; aside = 0; tickets = 0 }
+
+unfoldable pub nthOf : (ℕ → Bool) → (ℕ → ℕ) → Space → Book → ℕ → ℕ → Listed
+nthOf h m sp b need j = cond (leb need j) (listed.Page 0) (listedOf h m sp b j)
+
+unfoldable pub freshThree : Book → ℕ → Listed → Listed → Listed → Supply
+freshThree b need (listed.Page x) (listed.Page y) (listed.Page z) = Pages (record { need = need; a = x; b = y; c = z; book = b })
+freshThree b need listed.Bad y z = Lacking BadList
+freshThree b need (listed.Page x) listed.Bad z = Lacking BadList
+freshThree b need (listed.Page x) (listed.Page y) listed.Bad = Lacking BadList
+
+unfoldable pub freshOf : (ℕ → Bool) → (ℕ → ℕ) → Space → Book → ℕ → Supply
+freshOf h m sp b need = freshThree b need (nthOf h m sp b need 0) (nthOf h m sp b need 1) (nthOf h m sp b need 2)
+
+unfoldable pub stockOf : (ℕ → Bool) → (ℕ → ℕ) → Space → ℕ → Opened → Supply
+stockOf h m sp need (opened.Book b) = cond (ltb (b .free) need) (Lacking NoRoom) (freshOf h m sp b need)
+stockOf h m sp need (opened.Refused r) = Lacking (Pool r)
+
+unfoldable pub supplyOf : (ℕ → Bool) → (ℕ → ℕ) → Space → ℕ → Supply
+supplyOf h m sp need =
+    cond (eqb need 0) (Pages (record { need = 0; a = 0; b = 0; c = 0; book = noBook })) (stockOf h m sp need (openedOf h m sp))
+
+-- The decision -----------------------------------------------------------------------------------------------------------------------
+
+unfoldable pub madeOf : Asked → ℕ → ℕ → ℕ → Fresh → Made → Placed
+madeOf q target level table f made.Refused = Refused FrameRange
+madeOf q target level table f (made.Word w) = Go (record { base = q .base; target = target; level = level; table = table; word = w; fresh = f })
+
+unfoldable pub placeOf : Asked → ℕ → ℕ → ℕ → Supply → Placed
+placeOf q target level table (Lacking y) = Refused y
+placeOf q target level table (Pages f) = madeOf q target level table f (madePage target (q .frame) (q .rights))
+
+unfoldable pub becauseOf : (ℕ → Bool) → (ℕ → ℕ) → Space → Asked → ℕ → ℕ → ℕ → Why → Placed
+becauseOf h m sp q target level table why.Nothing = placeOf q target level table (supplyOf h m sp (level - target))
+becauseOf h m sp q target level table why.Page = Refused Overlap
+becauseOf h m sp q target level table why.Table = Refused Overlap
+becauseOf h m sp q target level table why.Stray = Refused Stray
+
+unfoldable pub stoppedOf : (ℕ → Bool) → (ℕ → ℕ) → Space → Asked → ℕ → Way → Placed
+stoppedOf h m sp q target w = becauseOf h m sp q target (w .level) (w .a) (w .why)
+
+unfoldable pub fittingOf : (ℕ → Bool) → (ℕ → ℕ) → Space → Asked → ℕ → Fit → Placed
+fittingOf h m sp q target fit.Fits =
+    cond (meetsOf sp (q .frame) (q .size)) (Refused FrameInPool) (stoppedOf h m sp q target (wayOf h m sp (q .base) target))
+fittingOf h m sp q target (fit.Refused r) = Refused (Pool r)
+
+unfoldable pub standingOf : (ℕ → Bool) → (ℕ → ℕ) → Space → Asked → ℕ → Placed
+standingOf h m sp q target = fittingOf h m sp q target (standsOf h sp)
+
+unfoldable pub shapedOf : (ℕ → Bool) → (ℕ → ℕ) → Space → Asked → Shape → Placed
+shapedOf h m sp q (Level n) = standingOf h m sp q n
+shapedOf h m sp q (Bad r) = Refused r
+
+-- WHAT MAP DECIDES: size, alignment, range, the pool, overlap, room, in this order
+unfoldable pub decideOf : (ℕ → Bool) → (ℕ → ℕ) → Space → Asked → Placed
+decideOf h m sp q = shapedOf h m sp q (shapeOf (q .size) (q .base) (q .frame))
+
+-- The plan ---------------------------------------------------------------------------------------------------------------------------
+
+unfoldable pub linkOf : ℕ → ℕ
+linkOf p = cond (ltb p (2 ^ 40)) (tableWord p) 0
+
+unfoldable pub nextOf : ℕ → ℕ → Reached → Reached
+nextOf target p s = cond (leb (s .level) target) s (record { level = s .level - 1; table = p })
+
+-- above the target page p is cleared, and then linked
+unfoldable pub growOf : ℕ → ℕ → ℕ → Reached → List Write
+growOf va target p s = cond (leb (s .level) target) [] (zeros p 512 ++ (write (s .table) (indexOf (s .level) va) (linkOf p) ∷ []))
+
+abbrev pub reached0 : Mapping → Reached
+reached0 p = record { level = p .level; table = p .table }
+
+abbrev pub reached1 : Mapping → Reached
+reached1 p = nextOf (p .target) (p .fresh .a) (reached0 p)
+
+abbrev pub reached2 : Mapping → Reached
+reached2 p = nextOf (p .target) (p .fresh .b) (reached1 p)
+
+abbrev pub reached3 : Mapping → Reached
+reached3 p = nextOf (p .target) (p .fresh .c) (reached2 p)
+
+-- the new tables from the top down; then the page's own entry
+unfoldable pub buildOf : Mapping → List Write
+buildOf p =
+    growOf (p .base) (p .target) (p .fresh .a) (reached0 p)
+    ++ (growOf (p .base) (p .target) (p .fresh .b) (reached1 p)
+    ++ (growOf (p .base) (p .target) (p .fresh .c) (reached2 p)
+    ++ (write (reached3 p .table) (indexOf (reached3 p .level) (p .base)) (p .word) ∷ [])))
+
+-- WHAT MAP WRITES: the tables, the page, and in the book that pages were taken
+unfoldable pub writesOf : Space → Mapping → List Write
+writesOf sp p = buildOf p ++ cond (ltb 0 (p .fresh .need)) (tookWrites sp (p .fresh .book) (p .fresh .need)) []

@@ -1,0 +1,41 @@
+-- Protect: the decision, and the one write of its plan.
+use Prim.Native.Nat.{ℕ, _<_}
+use mathlib.Core.Bool.{Bool}
+use mathlib.Core.List.{List, [], _∷_}
+use Rattle.word.specs.Writes.{Write, write}
+use Rattle.entry.specs.Words.{withRights}
+use Rattle.entry.specs.declared.Rights.{Rights}
+use Rattle.walk.specs.Walk.{indexOf}
+use Rattle.pool.specs.declared.Space.{Space}
+use Rattle.plan.specs.declared.finding.Spot.{Spot}
+use Rattle.plan.specs.declared.finding.Sought.{Sought}
+use Rattle.plan.specs.declared.finding.Sought.the-variants as sought
+use Rattle.plan.specs.declared.protects.Change.{Change}
+use Rattle.plan.specs.declared.protects.Changing.{Changing}
+use Rattle.plan.specs.declared.protects.Changing.the-variants.{Go, Refused}
+use Rattle.plan.specs.Find.{foundOf}
+
+-- the spot's level is one of the four
+abbrev pub low : Spot → Type 0
+low s = s .way .level < 4
+
+unfoldable pub changeOf : ℕ → Spot → Rights → Change
+changeOf va s r = record {
+  table = s .way .a;
+  index = indexOf (s .way .level) va;
+  word = withRights (s .way .word) r;
+  frame = s .frame;
+  size = s .size;
+}
+
+unfoldable pub changingOf : ℕ → Rights → Sought → Changing
+changingOf va r (sought.Found s) = Go (changeOf va s r)
+changingOf va r (sought.Refused y) = Refused y
+
+-- WHAT PROTECT DECIDES
+unfoldable pub decideOf : (ℕ → Bool) → (ℕ → ℕ) → Space → ℕ → Rights → Changing
+decideOf h m sp va r = changingOf va r (foundOf h m sp va)
+
+-- what it writes
+unfoldable pub writesOf : Change → List Write
+writesOf c = write (c .table) (c .index) (c .word) ∷ []

@@ -1,0 +1,100 @@
+-- Unmap: the decision, a function of the memory and what is asked, and the writes of its plan.
+use Prim.Native.Nat.{ℕ, zero, suc, _+_, _<_}
+use mathlib.Core.Bool.{Bool, true, false, cond, _&&_, _||_}
+use mathlib.Core.List.{List, [], _∷_, _++_}
+use lib.Dec.{eqb, leb, ltb}
+use Rattle.word.specs.Memory.{at}
+use Rattle.word.specs.Writes.{Write, write}
+use Rattle.entry.specs.Entry.{bit}
+use Rattle.walk.specs.Walk.{indexOf}
+use Rattle.pool.specs.Stands.{takesOf}
+use Rattle.pool.specs.Book.{openedOf}
+use Rattle.pool.specs.Changes.{asideWrites, asideBook}
+use Rattle.pool.specs.declared.Space.{Space}
+use Rattle.pool.specs.declared.Book.{Book}
+use Rattle.pool.specs.declared.Opened.{Opened}
+use Rattle.pool.specs.declared.Opened.the-variants as opened
+use Rattle.pool.specs.declared.Reason.the-variants.{BadBook}
+use Rattle.plan.specs.declared.Reason.{Reason}
+use Rattle.plan.specs.declared.Reason.the-variants.{Pool}
+use Rattle.plan.specs.declared.descent.Way.{Way}
+use Rattle.plan.specs.declared.finding.Spot.{Spot}
+use Rattle.plan.specs.declared.finding.Sought.{Sought}
+use Rattle.plan.specs.declared.finding.Sought.the-variants as sought
+use Rattle.plan.specs.declared.unmaps.Removal.{Removal}
+use Rattle.plan.specs.declared.unmaps.Removing.{Removing}
+use Rattle.plan.specs.declared.unmaps.Removing.the-variants.{Go, Refused}
+use Rattle.plan.specs.Find.{foundOf}
+use Rattle.plan.specs.Map.{noBook}
+
+-- Which tables become empty ------------------------------------------------------------------------------------------------------
+
+-- entry k of page p is another than i, and present
+unfoldable pub otherOf : (ℕ → Bool) → (ℕ → ℕ) → ℕ → ℕ → ℕ → Bool
+otherOf h m p i k = cond (eqb k i) false (cond (h p) (bit 0 (m (at p k))) false)
+
+-- one of the first n entries of page p, entry i aside, is present
+unfoldable pub keepsOf : (ℕ → Bool) → (ℕ → ℕ) → ℕ → ℕ → ℕ → Bool
+keepsOf h m p i zero = false
+keepsOf h m p i (suc n) = otherOf h m p i n || keepsOf h m p i n
+
+-- how many tables become empty, from the one of the page's entry up; the root stays
+unfoldable pub emptiedOf : (ℕ → Bool) → (ℕ → ℕ) → ℕ → Way → ℕ
+emptiedOf h m va w =
+    cond (leb 3 (w .level)) 0
+    (cond (keepsOf h m (w .a) (indexOf (w .level) va) 512) 0
+    (cond (leb 2 (w .level)) 1
+    (cond (keepsOf h m (w .b) (indexOf (w .level + 1) va) 512) 1
+    (cond (leb 1 (w .level)) 2 (cond (keepsOf h m (w .c) (indexOf 2 va) 512) 2 3)))))
+
+-- The decision ---------------------------------------------------------------------------------------------------------------------
+
+unfoldable pub bookedOf : Space → Spot → ℕ → Book → Removing
+bookedOf sp s n b = cond (takesOf sp b n) (Go (record { spot = s; empties = n; book = b })) (Refused (Pool BadBook))
+
+unfoldable pub openOf : Space → Spot → ℕ → Opened → Removing
+openOf sp s n (opened.Book b) = bookedOf sp s n b
+openOf sp s n (opened.Refused r) = Refused (Pool r)
+
+-- a book is needed only where a table becomes empty
+unfoldable pub removeOf : (ℕ → Bool) → (ℕ → ℕ) → Space → Spot → ℕ → Removing
+removeOf h m sp s n = cond (eqb n 0) (Go (record { spot = s; empties = 0; book = noBook })) (openOf sp s n (openedOf h m sp))
+
+unfoldable pub soughtOf : (ℕ → Bool) → (ℕ → ℕ) → Space → ℕ → Sought → Removing
+soughtOf h m sp va (sought.Found s) = removeOf h m sp s (emptiedOf h m va (s .way))
+soughtOf h m sp va (sought.Refused y) = Refused y
+
+-- WHAT UNMAP DECIDES
+unfoldable pub decideOf : (ℕ → Bool) → (ℕ → ℕ) → Space → ℕ → Removing
+decideOf h m sp va = soughtOf h m sp va (foundOf h m sp va)
+
+-- The plan -------------------------------------------------------------------------------------------------------------------------
+
+-- the page's level is one of the four, with as many tables above it as become empty
+abbrev pub low : Removal → Type 0
+low r = r .spot .way .level + r .empties < 4
+
+-- the table `child` is the k-th of n that became empty: it is unlinked, and set aside
+unfoldable pub cutWrites : Space → ℕ → ℕ → ℕ → ℕ → ℕ → Book → List Write
+cutWrites sp k n parent index child b = cond (leb n k) [] (write parent index 0 ∷ asideWrites sp b child)
+
+unfoldable pub cutBook : Space → ℕ → ℕ → Book → Book
+cutBook sp k n b = cond (leb n k) b (asideBook sp b)
+
+abbrev pub book1 : Space → Removal → Book
+book1 sp r = cutBook sp 0 (r .empties) (r .book)
+
+abbrev pub book2 : Space → Removal → Book
+book2 sp r = cutBook sp 1 (r .empties) (book1 sp r)
+
+-- the book after it
+abbrev pub bookAfter : Space → Removal → Book
+bookAfter sp r = cutBook sp 2 (r .empties) (book2 sp r)
+
+-- WHAT UNMAP WRITES: the page's entry, then for each table that became empty its parent's entry and the book
+unfoldable pub writesOf : Space → ℕ → Removal → List Write
+writesOf sp va r =
+    (write (r .spot .way .a) (indexOf (r .spot .way .level) va) 0 ∷ [])
+    ++ (cutWrites sp 0 (r .empties) (r .spot .way .b) (indexOf (r .spot .way .level + 1) va) (r .spot .way .a) (r .book)
+    ++ (cutWrites sp 1 (r .empties) (r .spot .way .c) (indexOf (r .spot .way .level + 2) va) (r .spot .way .b) (book1 sp r)
+    ++ cutWrites sp 2 (r .empties) (r .spot .way .d) (indexOf (r .spot .way .level + 3) va) (r .spot .way .c) (book2 sp r)))

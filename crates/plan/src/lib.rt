@@ -1,0 +1,48 @@
+// What map, unmap and protect would write: decisions, which only read, and plans, in which every word is computed already.
+mod descent;
+mod finding;
+mod maps;
+mod protects;
+mod unmaps;
+
+pub use descent::Way;
+pub use descent::Why;
+pub use descent::descend;
+pub use maps::Asked;
+pub use maps::Mapping;
+pub use maps::Placed;
+pub use maps::carry_map;
+pub use maps::decide_map;
+pub use protects::Change;
+pub use protects::Changing;
+pub use protects::carry_protect;
+pub use protects::decide_protect;
+pub use unmaps::Removal;
+pub use unmaps::Removing;
+pub use unmaps::carry_unmap;
+pub use unmaps::decide_unmap;
+
+// Why an operation is refused: one reason for each cause.
+pub enum Reason {
+    // the size is none of 4 KiB, 2 MiB, 1 GiB
+    Size,
+    BaseUnaligned,
+    FrameUnaligned,
+    // the range does not end at 2^48 or below
+    BaseRange,
+    // the frame does not end at 2^52 or below
+    FrameRange,
+    // the window, the pool, the root or the book
+    Pool(pool::Reason),
+    FrameInPool,
+    // some address of the range is mapped
+    Overlap,
+    // fewer free pages than missing tables
+    NoRoom,
+    // no page has that base
+    NothingStarts,
+    // the tables are damaged: the way leads through a page that is no table's
+    Stray,
+    // the book is damaged: it lists a page that is no table's
+    BadList,
+}

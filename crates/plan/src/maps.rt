@@ -1,0 +1,330 @@
+// Map: for each missing level, from the top, a free page is cleared and linked; the page's own entry is written last.
+ghost use mathlib.Core.Path.{_≡_};
+ghost use Prim.Native.Nat.{_+_, _-_, _^_, _<_, _≤_};
+ghost use Rattle.word.specs.Memory.{memory, holds};
+ghost use Rattle.word.specs.Writes.{carried};
+ghost use Rattle.plan.specs.Map as the;
+use crate::Reason;
+use crate::descent::Way;
+use crate::descent::Why;
+use crate::descent::descend;
+use entry::Made;
+use entry::Rights;
+use pool::Book;
+use pool::Fit;
+use pool::Listed;
+use pool::Opened;
+use pool::Space;
+
+// What is asked: the frame, of that size, at that base, with these rights.
+pub struct Asked {
+    pub base: u64,
+    pub frame: u64,
+    pub size: u64,
+    pub rights: Rights,
+}
+
+pub enum Shape {
+    Level(u64),
+    Bad(Reason),
+}
+
+// Up to three pages that become tables, and the book that they come from.
+pub struct Fresh {
+    pub need: u64,
+    pub a: u64,
+    pub b: u64,
+    pub c: u64,
+    pub book: Book,
+}
+
+pub enum Supply {
+    Pages(Fresh),
+    Lacking(Reason),
+}
+
+// What is written: from the table at a level down, the new tables, and the page's word at the target.
+pub struct Mapping {
+    pub base: u64,
+    pub target: u64,
+    pub level: u64,
+    pub table: u64,
+    pub word: u64,
+    pub fresh: Fresh,
+}
+
+pub enum Placed {
+    Go(Mapping),
+    Refused(Reason),
+}
+
+// The asked range and frame, for pages of level n.
+fn fits(n: u64, size: u64, base: u64, frame: u64) -> Shape
+    requires { ⌜ (0 < size) × (size ≤ 1073741824) ⌝ }
+    ensures { λ r. ⌜ r ≡ the.fitsOf n size base frame ⌝ }
+{
+    if base % size != 0 {
+        return Shape::Bad(Reason::BaseUnaligned);
+    }
+    if frame % size != 0 {
+        return Shape::Bad(Reason::FrameUnaligned);
+    }
+    if 281474976710656 - size < base {
+        return Shape::Bad(Reason::BaseRange);
+    }
+    if 4503599627370496 - size < frame {
+        return Shape::Bad(Reason::FrameRange);
+    }
+    Shape::Level(n)
+}
+
+fn shaped(size: u64, base: u64, frame: u64) -> Shape
+    ensures { λ r. ⌜ r ≡ the.shapeOf size base frame ⌝ }
+{
+    if size == 4096 {
+        return fits(0, 4096, base, frame);
+    }
+    if size == 2097152 {
+        return fits(1, 2097152, base, frame);
+    }
+    if size == 1073741824 {
+        return fits(2, 1073741824, base, frame);
+    }
+    Shape::Bad(Reason::Size)
+}
+
+// Do the frame and the pool share a byte?
+fn meets(space: Space, frame: u64, size: u64) -> bool
+    ensures { λ r. ⌜ (frame + size ≤ 2 ^ 52 → space .pages ≤ 2 ^ 32 → r ≡ the.meetsOf space frame size) ⌝ }
+{
+    if 1099511627776 <= space.first {
+        return false;
+    }
+    if 4294967296 < space.pages {
+        return false;
+    }
+    if 9223372036854775808 <= frame {
+        return false;
+    }
+    if 9223372036854775808 <= size {
+        return false;
+    }
+    if frame + size <= space.first * 4096 {
+        return false;
+    }
+    frame < (space.first + space.pages) * 4096
+}
+
+// The free page at position j, where more than j are needed.
+fn nth(mem: &[u8], space: Space, book: Book, need: u64, j: u64) -> Listed
+    ensures { λ r. ⌜ r ≡ the.nthOf (holds (now (mem .entry)) (space .origin)) (memory (now (mem .entry)) (space .origin)) space book need j ⌝ }
+{
+    if need <= j {
+        return Listed::Page(0);
+    }
+    pool::free_page(mem, space, book, j)
+}
+
+fn take_fresh(mem: &[u8], space: Space, book: Book, need: u64) -> Supply
+    ensures { λ r. ⌜ r ≡ the.freshOf (holds (now (mem .entry)) (space .origin)) (memory (now (mem .entry)) (space .origin)) space book need ⌝ }
+{
+    let x = nth(mem, space, book, need, 0);
+    let y = nth(mem, space, book, need, 1);
+    let z = nth(mem, space, book, need, 2);
+    let Listed::Page(a) = x else {
+        return Supply::Lacking(Reason::BadList);
+    };
+    let Listed::Page(b) = y else {
+        return Supply::Lacking(Reason::BadList);
+    };
+    let Listed::Page(c) = z else {
+        return Supply::Lacking(Reason::BadList);
+    };
+    Supply::Pages(Fresh {
+        need: need,
+        a: a,
+        b: b,
+        c: c,
+        book: book,
+    })
+}
+
+// The pages for the missing tables. A book is needed only where a table is missing.
+fn supplied(mem: &[u8], space: Space, need: u64) -> Supply
+    ensures { λ r. ⌜ r ≡ the.supplyOf (holds (now (mem .entry)) (space .origin)) (memory (now (mem .entry)) (space .origin)) space need ⌝ }
+{
+    if need == 0 {
+        return Supply::Pages(Fresh {
+            need: 0,
+            a: 0,
+            b: 0,
+            c: 0,
+            book: Book {
+                head: 0,
+                free: 0,
+                aside: 0,
+                tickets: 0,
+            },
+        });
+    }
+    let o = pool::open(mem, space);
+    match o {
+        Opened::Refused(r) => Supply::Lacking(Reason::Pool(r)),
+        Opened::Book(b) => {
+            if b.free < need {
+                return Supply::Lacking(Reason::NoRoom);
+            }
+            take_fresh(mem, space, b, need)
+        }
+    }
+}
+
+// The page's word was made.
+fn worded(q: Asked, target: u64, level: u64, table: u64, f: Fresh, m: Made) -> Placed
+    ensures { λ r. ⌜ r ≡ the.madeOf q target level table f m ⌝ }
+{
+    match m {
+        Made::Refused => Placed::Refused(Reason::FrameRange),
+        Made::Word(w) => Placed::Go(Mapping {
+            base: q.base,
+            target: target,
+            level: level,
+            table: table,
+            word: w,
+            fresh: f,
+        }),
+    }
+}
+
+// The way stopped at an entry that says nothing, at this level in this table.
+fn place(q: Asked, target: u64, level: u64, table: u64, s: Supply) -> Placed
+    ensures { λ r. ⌜ r ≡ the.placeOf q target level table s ⌝ }
+{
+    match s {
+        Supply::Lacking(y) => Placed::Refused(y),
+        Supply::Pages(f) => {
+            let rights = q.rights;
+            worded(
+                q,
+                target,
+                level,
+                table,
+                f,
+                entry::page_word(target, q.frame, rights),
+            )
+        }
+    }
+}
+
+// How far a is above b.
+fn above(a: u64, b: u64) -> u64
+    ensures { λ r. ⌜ r ≡ a - b ⌝ }
+{
+    if a < b {
+        return 0;
+    }
+    a - b
+}
+
+fn stopped(mem: &[u8], space: Space, q: Asked, target: u64, w: Way) -> Placed
+    ensures { λ r. ⌜ r ≡ the.stoppedOf (holds (now (mem .entry)) (space .origin)) (memory (now (mem .entry)) (space .origin)) space q target w ⌝ }
+{
+    let y = w.why;
+    match y {
+        Why::Nothing => place(
+            q,
+            target,
+            w.level,
+            w.a,
+            supplied(mem, space, above(w.level, target)),
+        ),
+        Why::Page => Placed::Refused(Reason::Overlap),
+        Why::Table => Placed::Refused(Reason::Overlap),
+        Why::Stray => Placed::Refused(Reason::Stray),
+    }
+}
+
+// The pool is where it says, and the frame does not meet it.
+fn standing(mem: &[u8], space: Space, q: Asked, target: u64) -> Placed
+    ensures { λ r. ⌜ (the.Sized q → r ≡ the.standingOf (holds (now (mem .entry)) (space .origin)) (memory (now (mem .entry)) (space .origin)) space q target) ⌝ }
+{
+    let fit = pool::stands(mem, space);
+    match fit {
+        Fit::Refused(r) => Placed::Refused(Reason::Pool(r)),
+        Fit::Fits => {
+            if meets(space, q.frame, q.size) {
+                return Placed::Refused(Reason::FrameInPool);
+            }
+            stopped(mem, space, q, target, descend(mem, space, q.base, target))
+        }
+    }
+}
+
+// What map would write.
+pub fn decide_map(mem: &[u8], space: Space, q: Asked) -> Placed
+    ensures { λ r. ⌜ r ≡ the.decideOf (holds (now (mem .entry)) (space .origin)) (memory (now (mem .entry)) (space .origin)) space q ⌝ }
+{
+    let s = shaped(q.size, q.base, q.frame);
+    match s {
+        Shape::Bad(r) => Placed::Refused(r),
+        Shape::Level(n) => standing(mem, space, q, n),
+    }
+}
+
+// The plan is carried out -----------------------------------------------------------------------------------------------------
+
+pub struct Reached {
+    pub level: u64,
+    pub table: u64,
+}
+
+// The word that names the table in page p.
+fn link(p: u64) -> u64
+    ensures { λ r. ⌜ r ≡ the.linkOf p ⌝ }
+{
+    if 1099511627776 <= p {
+        return 0;
+    }
+    4096 * p + 7
+}
+
+// Above the target page p is cleared and then linked, and the way goes on there.
+fn grow(mem: &mut [u8], origin: u64, va: u64, target: u64, p: u64, s: Reached) -> Reached
+    ensures { λ r. ⌜ r ≡ the.nextOf target p s ⌝ }
+    ensures { λ _. ⌜ (s .level < 4 → now (mem .exit) ≡ carried (now (mem .entry)) origin (the.growOf va target p s)) ⌝ }
+{
+    if s.level <= target {
+        return s;
+    }
+    word::clear(mem, origin, p);
+    word::write(mem, origin, s.table, walk::index(s.level, va), link(p));
+    Reached {
+        level: s.level - 1,
+        table: p,
+    }
+}
+
+fn build(mem: &mut [u8], origin: u64, m: Mapping)
+    ensures { λ _. ⌜ (m .level < 4 → now (mem .exit) ≡ carried (now (mem .entry)) origin (the.buildOf m)) ⌝ }
+{
+    let f = m.fresh;
+    let s0 = Reached {
+        level: m.level,
+        table: m.table,
+    };
+    let s1 = grow(mem, origin, m.base, m.target, f.a, s0);
+    let s2 = grow(mem, origin, m.base, m.target, f.b, s1);
+    let s3 = grow(mem, origin, m.base, m.target, f.c, s2);
+    word::write(mem, origin, s3.table, walk::index(s3.level, m.base), m.word);
+}
+
+pub fn carry_map(mem: &mut [u8], space: Space, m: Mapping)
+    ensures { λ _. ⌜ (m .level < 4 → now (mem .exit) ≡ carried (now (mem .entry)) (space .origin) (the.writesOf space m)) ⌝ }
+{
+    build(mem, space.origin, m);
+    let f = m.fresh;
+    let b = f.book;
+    if 0 < f.need {
+        pool::took(mem, space, b, f.need);
+    }
+}

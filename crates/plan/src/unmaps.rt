@@ -1,0 +1,173 @@
+// Unmap: the page's entry is cleared first; then each table that became empty is unlinked, bottom up, and set aside.
+ghost use mathlib.Core.Path.{_≡_};
+ghost use Prim.Native.Nat.{_<_};
+ghost use Rattle.word.specs.Memory.{memory, holds};
+ghost use Rattle.word.specs.Writes.{carried};
+ghost use Rattle.walk.specs.Walk.{indexOf};
+ghost use Rattle.plan.specs.Unmap as the;
+use crate::Reason;
+use crate::descent::Way;
+use crate::finding::Sought;
+use crate::finding::Spot;
+use crate::finding::find;
+use pool::Book;
+use pool::Opened;
+use pool::Space;
+use word::Cell;
+
+// The page that goes, how many tables become empty with it, and the book that takes them.
+pub struct Removal {
+    pub spot: Spot,
+    pub empties: u64,
+    pub book: Book,
+}
+
+pub enum Removing {
+    Go(Removal),
+    Refused(Reason),
+}
+
+// Is entry k of page p another than i, and present?
+fn other(mem: &[u8], origin: u64, p: u64, i: u64, k: u64) -> bool
+    ensures { λ r. ⌜ (k < 512 → r ≡ the.otherOf (holds (now (mem .entry)) origin) (memory (now (mem .entry)) origin) p i k) ⌝ }
+{
+    if k == i {
+        return false;
+    }
+    let c = word::read(mem, origin, p, k);
+    match c {
+        Cell::Word(w) => w % 2 == 1,
+        Cell::Outside => false,
+    }
+}
+
+// Has page p a present entry besides entry i?
+fn keeps(mem: &[u8], origin: u64, p: u64, i: u64) -> bool
+    ensures { λ r. ⌜ r ≡ the.keepsOf (holds (now (mem .entry)) origin) (memory (now (mem .entry)) origin) p i 512 ⌝ }
+{
+    let mut k: u64 = 512;
+    while 0 < k {
+        k -= 1;
+        if other(mem, origin, p, i, k) {
+            return true;
+        }
+    }
+    false
+}
+
+// How many tables become empty, from the one of the page's entry up; the root stays.
+fn emptied(mem: &[u8], origin: u64, va: u64, w: Way) -> u64
+    ensures { λ r. ⌜ r ≡ the.emptiedOf (holds (now (mem .entry)) origin) (memory (now (mem .entry)) origin) va w ⌝ }
+{
+    if 3 <= w.level {
+        return 0;
+    }
+    if keeps(mem, origin, w.a, walk::index(w.level, va)) {
+        return 0;
+    }
+    if 2 <= w.level {
+        return 1;
+    }
+    if keeps(mem, origin, w.b, walk::index(w.level + 1, va)) {
+        return 1;
+    }
+    if 1 <= w.level {
+        return 2;
+    }
+    if keeps(mem, origin, w.c, walk::index(2, va)) {
+        return 2;
+    }
+    3
+}
+
+// The book has room for the tables that become empty.
+fn booked(space: Space, s: Spot, n: u64, b: Book) -> Removing
+    ensures { λ r. ⌜ r ≡ the.bookedOf space s n b ⌝ }
+{
+    if pool::takes(space, b, n) {
+        return Removing::Go(Removal {
+            spot: s,
+            empties: n,
+            book: b,
+        });
+    }
+    Removing::Refused(Reason::Pool(pool::Reason::BadBook))
+}
+
+// A book is needed only where a table becomes empty.
+fn remove(mem: &[u8], space: Space, s: Spot, n: u64) -> Removing
+    ensures { λ r. ⌜ r ≡ the.removeOf (holds (now (mem .entry)) (space .origin)) (memory (now (mem .entry)) (space .origin)) space s n ⌝ }
+{
+    if n == 0 {
+        return Removing::Go(Removal {
+            spot: s,
+            empties: 0,
+            book: Book {
+                head: 0,
+                free: 0,
+                aside: 0,
+                tickets: 0,
+            },
+        });
+    }
+    let o = pool::open(mem, space);
+    match o {
+        Opened::Refused(r) => Removing::Refused(Reason::Pool(r)),
+        Opened::Book(b) => booked(space, s, n, b),
+    }
+}
+
+// What unmap would write.
+pub fn decide_unmap(mem: &[u8], space: Space, va: u64) -> Removing
+    ensures { λ r. ⌜ r ≡ the.decideOf (holds (now (mem .entry)) (space .origin)) (memory (now (mem .entry)) (space .origin)) space va ⌝ }
+{
+    let s = find(mem, space, va);
+    match s {
+        Sought::Refused(r) => Removing::Refused(r),
+        Sought::Found(p) => {
+            let w = p.way;
+            remove(mem, space, p, emptied(mem, space.origin, va, w))
+        }
+    }
+}
+
+// Where k is below n, the table `child` is the k-th that became empty: its entry in its parent, of level l, is cleared, and it is set aside.
+fn cut(
+    mem: &mut [u8],
+    space: Space,
+    va: u64,
+    k: u64,
+    n: u64,
+    parent: u64,
+    l: u64,
+    child: u64,
+    b: Book,
+) -> Book
+    ensures { λ r. ⌜ r ≡ the.cutBook space k n b ⌝ }
+    ensures { λ _. ⌜ ((k < n → l < 4) → now (mem .exit) ≡ carried (now (mem .entry)) (space .origin) (the.cutWrites space k n parent (indexOf l va) child b)) ⌝ }
+{
+    if n <= k {
+        return b;
+    }
+    word::write(mem, space.origin, parent, walk::index(l, va), 0);
+    pool::set_aside(mem, space, b, child)
+}
+
+// Answers the book after it.
+pub fn carry_unmap(mem: &mut [u8], space: Space, va: u64, r: Removal) -> Book
+    ensures { λ b. ⌜ (the.low r → b ≡ the.bookAfter space r) ⌝ }
+    ensures { λ _. ⌜ (the.low r → now (mem .exit) ≡ carried (now (mem .entry)) (space .origin) (the.writesOf space va r)) ⌝ }
+{
+    let s = r.spot;
+    let w = s.way;
+    let n = r.empties;
+    let l = w.level;
+    let b0 = r.book;
+    if 3 < l {
+        return b0;
+    }
+    word::write(mem, space.origin, w.a, walk::index(l, va), 0);
+    let b1 = cut(mem, space, va, 0, n, w.b, l + 1, w.a, b0);
+    let b2 = cut(mem, space, va, 1, n, w.c, l + 2, w.b, b1);
+    cut(mem, space, va, 2, n, w.d, l + 3, w.c, b2)
+}

@@ -1,0 +1,16 @@
+pub mod Far
+pub mod Counts
+pub mod Opening
+pub mod Fills
+pub mod Lists
+pub mod Census
+pub mod Booked
+pub mod Taking
+pub mod Pages
+pub mod SettingAside
+pub mod Releasing
+pub mod Listing
+pub mod Proper
+pub mod NewRoles
+pub mod Fresh
+pub mod Makes

@@ -1,0 +1,122 @@
+-- Reading a book: by what was read, and what an opened book shows.
+use Prim.Native.Nat.{ℕ, _+_, _-_, _*_, _/_, _%_, _^_, _<_, _≤_}
+use mathlib.Core.Bool.{Bool, true, false, cond, _&&_}
+use mathlib.Core.List.{List}
+use mathlib.Core.Path.{_≡_, refl, sym, ap, _∙_, subst}
+use native.Mathlib.Omega.{arith}
+use lib.Dec.{leb, eqb}
+use Rattle.word.specs.Memory.{at, memory, holds, readOf}
+use Rattle.word.specs.declared.Cell.the-variants as cell
+use Rattle.word.proofs.Memory.{read-word, read-outside, held}
+use Rattle.word.proofs.Tests.{and-both}
+use Rattle.pool.specs.declared.Space.{Space}
+use Rattle.pool.specs.declared.Fit.{Fit}
+use Rattle.pool.specs.declared.Fit.the-variants as fit
+use Rattle.pool.specs.declared.Reason.{Reason}
+use Rattle.pool.specs.declared.Listed.the-variants.{Page, Bad}
+use Rattle.pool.specs.Book.{bookPages, wordOf, mark, bookOf, roomOf, inPool, soundOf, Sound, openedOf, openedIn, headerOf, checkedOf, namedOf, usableOf}
+use Rattle.pool.specs.Create.{mayCreate, newSpace, Roomy}
+use Rattle.pool.proofs.Far.{word-at}
+use borrow.Author.Tests.{leb-true, le-leb, lt-ltb, eqb-true, eq-eqb}
+use lib.ListN.{length}
+use Rattle.pool.specs.declared.Book.{Book}
+use Rattle.pool.specs.declared.Opened.{Opened}
+use Rattle.pool.specs.declared.Opened.the-variants as opened
+use Rattle.pool.proofs.Counts.{InPool, pool-in, in-pool, sound-is, is-sound}
+
+module _ (s : List ℕ) (sp : Space) (k : ℕ) where
+  pub named-word : (w : ℕ) → readOf s (sp .origin) (sp .first + k / 512) (k % 512) ≡ cell.Word w → usableOf sp w ≡ namedOf (holds s (sp .origin)) (memory s (sp .origin)) sp k
+  unfolding namedOf
+  named-word w e =
+      let r = read-word s (sp .origin) (sp .first + k / 512) (k % 512) (omega arith) w e in
+      rw (r .0) (ap (usableOf sp) (sym (r .1) ∙ ap (memory s (sp .origin)) (word-at (sp .first) k)))
+
+  pub named-outside : readOf s (sp .origin) (sp .first + k / 512) (k % 512) ≡ cell.Outside → Bad ≡ namedOf (holds s (sp .origin)) (memory s (sp .origin)) sp k
+  unfolding namedOf
+  named-outside e = rw (read-outside s (sp .origin) (sp .first + k / 512) (k % 512) (omega arith) e)
+
+-- A POOL THAT FITS
+pub record Fitting (h : ℕ → Bool) (first pages : ℕ) : Type 0 where
+  pub small : pages ≤ 2 ^ 32
+  pub enough : bookPages pages + 2 ≤ pages
+  pub from : h first ≡ true
+  pub upto : h (first + pages - 1) ≡ true
+
+fit-yes : (b : Bool) (x : Fit) (r : Reason) → cond b x (fit.Refused r) ≡ fit.Fits → (b ≡ true) × (x ≡ fit.Fits)
+fit-yes true x r e = (refl, e)
+fit-yes false x r e = let z : _≡_ {A = ℕ} 0 1 = cc in absurd (omega arith)
+
+pub fitting : (h : ℕ → Bool) (first pages : ℕ) → roomOf h first pages ≡ fit.Fits → Fitting h first pages
+unfolding roomOf
+fitting h first pages e =
+    let a = fit-yes (leb pages (2 ^ 32)) _ _ e in
+    let b = fit-yes (leb (bookPages pages + 2) pages) _ _ (a .1) in
+    let d = fit-yes (h first && h (first + pages - 1)) _ _ (b .1) in
+    let t = and-both _ _ (d .0) in
+    record { small = leb-true _ _ (a .0); enough = leb-true _ _ (b .0); from = t .0; upto = t .1 }
+
+pub fit-small : (s : List ℕ) (origin first pages : ℕ) → Fitting (holds s origin) first pages → first + pages ≤ 2 ^ 40
+fit-small s origin first pages f = omega (arith, held s origin (first + pages - 1) (f .upto) .small, f .enough)
+
+-- a new pool has room
+pub may-fit : (len : ℕ) (h : ℕ → Bool) (origin first pages : ℕ) → mayCreate len h origin first pages ≡ fit.Fits → Fitting h first pages
+unfolding mayCreate
+may-fit len h origin first pages e =
+    let a = fit-yes (eqb (origin % 4096) 0) _ _ e in
+    let b = fit-yes (eqb (len % 4096) 0) _ _ (a .1) in
+    fitting h first pages (b .1)
+
+pub roomy : (s : List ℕ) (origin first pages : ℕ) → Fitting (holds s origin) first pages → Roomy (newSpace origin first pages)
+roomy s origin first pages f = record { small = f .small; enough = f .enough; low = omega (arith, fit-small s origin first pages f, f .enough) }
+
+-- every page of a pool that fits lies in the window
+pub fit-inside : (s : List ℕ) (origin first pages : ℕ) → Fitting (holds s origin) first pages → (p : ℕ) → first ≤ p → p < first + pages → holds s origin p ≡ true
+unfolding holds
+fit-inside s origin first pages f p u v =
+    let a = held s origin first (f .from) in
+    let z = held s origin (first + pages - 1) (f .upto) in
+    simp (lt-ltb p (2 ^ 40) (omega (arith, z .small)), le-leb origin (4096 * p) (omega (arith, a .from)), le-leb (4096 * p + 4096) (origin + length s) (omega (arith, z .upto)))
+
+-- WHAT AN OPENED BOOK SHOWS, for any bytes
+pub record Open (h : ℕ → Bool) (m : ℕ → ℕ) (sp : Space) (b : Book) : Type 0 where
+  pub fits : Fitting h (sp .first) (sp .pages)
+  pub rooted : InPool sp (sp .root)
+  pub marked : m (wordOf sp 0) ≡ mark
+  pub sized : m (wordOf sp 1) ≡ sp .pages
+  pub sound : Sound (sp .pages) b
+  pub read : bookOf m sp ≡ b
+
+open-yes : (t : Bool) (x : Opened) (r : Reason) (b : Book) → cond t x (opened.Refused r) ≡ opened.Book b → (t ≡ true) × (x ≡ opened.Book b)
+open-yes true x r b e = (refl, e)
+open-yes false x r b e = let z : _≡_ {A = ℕ} 0 1 = cc in absurd (omega arith)
+
+same-book : (b n : Book) → opened.Book b ≡ opened.Book n → b ≡ n
+same-book b n e = cc
+
+pub open-shows : (h : ℕ → Bool) (m : ℕ → ℕ) (sp : Space) (b : Book) → openedOf h m sp ≡ opened.Book b → Open h m sp b
+unfolding openedOf openedIn headerOf checkedOf
+open-shows h m sp b e = go (roomOf h (sp .first) (sp .pages)) refl e
+  where
+    go : (r : Fit) → roomOf h (sp .first) (sp .pages) ≡ r → openedIn m sp r ≡ opened.Book b → Open h m sp b
+    go (fit.Refused r) f e = let z : _≡_ {A = ℕ} 0 1 = cc in absurd (omega arith)
+    go fit.Fits f e =
+        let a = open-yes (inPool sp (sp .root)) _ _ b e in
+        let d = open-yes (eqb (m (wordOf sp 0)) mark) _ _ b (a .1) in
+        let g = open-yes (eqb (m (wordOf sp 1)) (sp .pages)) _ _ b (d .1) in
+        let k = open-yes (soundOf (sp .pages) (bookOf m sp)) _ _ b (g .1) in
+        let same = same-book (bookOf m sp) b (k .1) in
+        record {
+          fits = fitting h (sp .first) (sp .pages) f;
+          rooted = pool-in sp (sp .root) (a .0);
+          marked = eqb-true _ _ (d .0);
+          sized = eqb-true _ _ (g .0);
+          sound = subst (λ (x : Book). Sound (sp .pages) x) same (sound-is (sp .pages) (bookOf m sp) (k .0));
+          read = same;
+        }
+
+-- and so it is opened
+pub opens : (h : ℕ → Bool) (m : ℕ → ℕ) (sp : Space) → Fitting h (sp .first) (sp .pages) → InPool sp (sp .root) → m (wordOf sp 0) ≡ mark → m (wordOf sp 1) ≡ sp .pages
+    → Sound (sp .pages) (bookOf m sp) → openedOf h m sp ≡ opened.Book (bookOf m sp)
+unfolding openedOf openedIn headerOf checkedOf roomOf
+opens h m sp f r a b s =
+    simp (le-leb _ _ (f .small), le-leb _ _ (f .enough), f .from, f .upto, in-pool sp (sp .root) r, eq-eqb _ _ a, eq-eqb _ _ b, is-sound (sp .pages) (bookOf m sp) s)

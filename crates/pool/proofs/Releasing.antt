@@ -1,0 +1,156 @@
+-- Releasing the oldest pages set aside keeps the book true, and releases exactly those whose number is below the ticket.
+use Prim.Native.Nat.{ℕ, zero, suc, _+_, _-_, _*_, _/_, _%_, _^_, _<_, _≤_}
+use mathlib.Core.Bool.{Bool, true, false, cond, _&&_}
+use mathlib.Core.List.{List, [], _∷_}
+use mathlib.Core.Logic.{_⊎_, inl, inr, _≢_}
+use mathlib.Core.Path.{_≡_, refl, sym, ap, _∙_, subst}
+use native.Mathlib.Decide.{ℕ-discrete, decLt}
+use native.Mathlib.Omega.{arith}
+use borrow.Author.Tests.{le-leb, leb-true, leb-false}
+use lib.Dec.{leb}
+use Rattle.word.specs.Memory.{set}
+use Rattle.word.specs.Writes.{after}
+use Rattle.word.proofs.Set.{set-at, set-other}
+use Rattle.tables.specs.Roles.{Role, foreign, free, aside, book, root, table}
+use Rattle.pool.specs.declared.Space.{Space}
+use Rattle.pool.specs.declared.Book.{Book}
+use Rattle.pool.specs.Book.{bookPages, wordOf, bookOf, spotOf, pageAt, soundOf, Sound}
+use Rattle.pool.specs.Changes.{put, releaseWrites}
+use Rattle.pool.specs.Book.{dueOf}
+use Rattle.pool.specs.declared.Due.the-variants as due
+use Rattle.pool.specs.Booked.{Lists, Booked, thawed, released, Numbered}
+use Rattle.pool.proofs.Counts.{is-sound}
+use Rattle.tables.specs.Unseen.{Shifted}
+use Rattle.pool.proofs.Lists.{among, lists-same, lists-thawed, thawed-free, thawed-stays, thawed-shifted}
+use Rattle.pool.proofs.Booked.{after-put, word-same, word-other, made}
+
+module _ {sp : Space} {m : ℕ → ℕ} {role : ℕ → Role} (b : Booked sp m role) (k : ℕ) (u : k ≤ bookOf m sp .aside) where
+  then : ℕ → ℕ
+  then =
+      set
+      (set (set m (wordOf sp 3) (bookOf m sp .free + k)) (wordOf sp 4) (bookOf m sp .aside - k))
+      (wordOf sp 5)
+      (bookOf m sp .tickets + k)
+
+  is-then : after m (releaseWrites sp (bookOf m sp) k) ≡ then
+  unfolding then releaseWrites after
+  is-then =
+      rw (le-leb k (bookOf m sp .aside) u, is-sound (sp .pages) (bookOf m sp) (b .sound))
+      (after-put m sp 3 (bookOf m sp .free + k) (put sp 4 (bookOf m sp .aside - k) ∷ put sp 5 (bookOf m sp .tickets + k) ∷ [])
+      ∙ after-put (set m (wordOf sp 3) (bookOf m sp .free + k)) sp 4 (bookOf m sp .aside - k) (put sp 5 (bookOf m sp .tickets + k) ∷ [])
+      ∙ after-put (set (set m (wordOf sp 3) (bookOf m sp .free + k)) (wordOf sp 4) (bookOf m sp .aside - k)) sp 5 (bookOf m sp .tickets + k) [])
+
+  other : (j : ℕ) → j ≢ 3 → j ≢ 4 → j ≢ 5 → then (wordOf sp j) ≡ m (wordOf sp j)
+  unfolding then
+  other j x y z =
+      word-other _ sp 5 _ j (λ e. z (sym e)) ∙ word-other _ sp 4 _ j (λ e. y (sym e)) ∙ word-other m sp 3 _ j (λ e. x (sym e))
+
+  free-then : then (wordOf sp 3) ≡ bookOf m sp .free + k
+  unfolding then
+  free-then = word-other _ sp 5 _ 3 (omega arith) ∙ word-other _ sp 4 _ 3 (omega arith) ∙ word-same m sp 3 _
+
+  aside-then : then (wordOf sp 4) ≡ bookOf m sp .aside - k
+  unfolding then
+  aside-then = word-other _ sp 5 _ 4 (omega arith) ∙ word-same _ sp 4 _
+
+  tickets-then : then (wordOf sp 5) ≡ bookOf m sp .tickets + k
+  unfolding then
+  tickets-then = word-same _ sp 5 _
+
+  now : Book
+  now = record { head = bookOf m sp .head; free = bookOf m sp .free + k; aside = bookOf m sp .aside - k; tickets = bookOf m sp .tickets + k }
+
+  book-then : bookOf then sp ≡ now
+  unfolding now
+  book-then = rw (other 2 (omega arith) (omega arith) (omega arith), free-then, aside-then, tickets-then)
+
+  page-then : (j : ℕ) → pageAt then sp j ≡ pageAt m sp j
+  unfolding pageAt
+  page-then j =
+      rw (other 2 (omega arith) (omega arith) (omega arith))
+      (other (8 + spotOf (sp .pages) (bookOf m sp .head) j) (omega arith) (omega arith) (omega arith))
+
+  -- a page of the book does not change
+  still-book : (p : ℕ) → role p ≡ book → (j : ℕ) → j < k → pageAt m sp (bookOf m sp .free + j) ≢ p
+  still-book p e j v x =
+      let f : role p ≡ aside = ap role (sym x) ∙ b .lists .asides j (omega arith) in
+      let z : _≡_ {A = ℕ} 0 1 = cc in
+      omega arith
+
+  no-book : (p : ℕ) → released m sp k role p ≡ book
+      → ((j : ℕ) × (j < k) × (pageAt m sp (bookOf m sp .free + j) ≡ p)) ⊎ ((j : ℕ) → j < k → pageAt m sp (bookOf m sp .free + j) ≢ p) → role p ≡ book
+  no-book p e (inl r) =
+      let f : released m sp k role p ≡ free = ap (released m sp k role) (sym (r .2)) ∙ thawed-free (pageAt m sp) (bookOf m sp .free) k role (r .0) (r .1) in
+      let z : _≡_ {A = ℕ} 0 1 = cc in
+      absurd (omega arith)
+  no-book p e (inr r) = sym (thawed-stays (pageAt m sp) (bookOf m sp .free) k role p r) ∙ e
+
+  lists-then : Lists (pageAt then sp) (now .free) (now .aside) (released m sp k role)
+  unfolding now
+  lists-then = lists-same (λ j v. page-then j) (lists-thawed (b .lists) k u)
+
+  -- THE k OLDEST PAGES SET ASIDE BECOME FREE
+  pub release-booked : bookOf m sp .tickets + k ≤ 2 ^ 62 → Booked sp (after m (releaseWrites sp (bookOf m sp) k)) (released m sp k role)
+  unfolding now
+  release-booked w =
+      rw is-then
+      (made then now book-then (other 0 (omega arith) (omega arith) (omega arith) ∙ b .marked) (other 1 (omega arith) (omega arith) (omega arith) ∙ b .sized) sound-then lists-then
+      (λ p x y. thawed-stays (pageAt m sp) (bookOf m sp .free) k role p (still-book p (b .in-book p x y)) ∙ b .in-book p x y)
+      (λ p e. b .no-other p (no-book p e (among (λ j. pageAt m sp (bookOf m sp .free + j)) k p))))
+    where
+      sound-then : Sound (sp .pages) now
+      sound-then = record { small = b .sound .small; head-in = b .sound .head-in; room = omega (arith, b .sound .room); early = w }
+
+  -- no walk comes to a page that changes its role
+  pub release-shifted : Shifted role (released m sp k role)
+  release-shifted = thawed-shifted (b .lists) k u
+
+  -- a page whose number is below what is released then is free
+  pub release-frees : (p n : ℕ) → Numbered m sp p n → n < bookOf m sp .tickets + k → released m sp k role p ≡ free
+  release-frees p n h v =
+      ap (released m sp k role) (sym (h .2)) ∙ thawed-free (pageAt m sp) (bookOf m sp .free) k role (h .0) (omega (arith, h .3))
+
+  -- any other keeps its number, and stays set aside
+  pub release-keeps : (p n : ℕ) → Numbered m sp p n → bookOf m sp .tickets + k ≤ n → Numbered (after m (releaseWrites sp (bookOf m sp) k)) sp p n
+  release-keeps p n h v =
+      rw (is-then, free-then, aside-then, tickets-then)
+      (h .0 - k, omega (arith, h .1, h .3), page-then (bookOf m sp .free + k + (h .0 - k)) ∙ ap (pageAt m sp) (omega (arith, h .3)) ∙ h .2, omega (arith, h .3))
+
+  pub release-stays : (p n : ℕ) → Numbered m sp p n → bookOf m sp .tickets + k ≤ n → released m sp k role p ≡ aside
+  release-stays p n h v =
+      thawed-stays (pageAt m sp) (bookOf m sp .free) k role p far ∙ ap role (sym (h .2)) ∙ b .lists .asides (h .0) (h .1)
+    where
+      far : (j : ℕ) → j < k → pageAt m sp (bookOf m sp .free + j) ≢ p
+      far j w e =
+          let x = b .lists .once (bookOf m sp .free + j) (bookOf m sp .free + h .0) (omega arith) (omega (arith, h .1)) (e ∙ sym (h .2)) in omega (arith, h .3)
+
+-- THE REPORT IS PRECISE: of the numbers that are set aside, those below the ticket are released, and no others.
+pub record Exactly (b : Book) (t k : ℕ) : Type 0 where
+  pub enough : k ≤ b .aside
+  pub early : b .tickets + k ≤ 2 ^ 62
+  pub below : (n : ℕ) → b .tickets ≤ n → n < t → n < b .tickets + k
+  pub above : (n : ℕ) → t ≤ n → b .tickets ≤ n → b .tickets + k ≤ n
+
+pub due-exactly : (pages : ℕ) (b : Book) (t k : ℕ) → Sound pages b → dueOf b t ≡ due.Pages k → Exactly b t k
+unfolding dueOf
+due-exactly pages b t k s e = first (leb t (b .tickets)) refl e
+  where
+    third : (x : Bool) → leb t (2 ^ 62) ≡ x → b .tickets < t → t - b .tickets ≤ b .aside → cond x (due.Pages (t - b .tickets)) due.Spent ≡ due.Pages k → Exactly b t k
+    third true q u v e =
+        let w = leb-true t (2 ^ 62) q in
+        let z : t - b .tickets ≡ k = cc in
+        record { enough = omega arith; early = omega arith; below = λ n x y. omega arith; above = λ n x y. omega arith }
+    third false q u v e = let z : _≡_ {A = ℕ} 0 1 = cc in absurd (omega arith)
+
+    second : (x : Bool) → leb (t - b .tickets) (b .aside) ≡ x → b .tickets < t
+        → cond x (cond (leb t (2 ^ 62)) (due.Pages (t - b .tickets)) due.Spent) due.Unknown ≡ due.Pages k → Exactly b t k
+    second true q u e = third (leb t (2 ^ 62)) refl u (leb-true (t - b .tickets) (b .aside) q) e
+    second false q u e = let z : _≡_ {A = ℕ} 0 1 = cc in absurd (omega arith)
+
+    first : (x : Bool) → leb t (b .tickets) ≡ x
+        → cond x (due.Pages 0) (cond (leb (t - b .tickets) (b .aside)) (cond (leb t (2 ^ 62)) (due.Pages (t - b .tickets)) due.Spent) due.Unknown) ≡ due.Pages k → Exactly b t k
+    first true q e =
+        let w = leb-true t (b .tickets) q in
+        let z : 0 ≡ k = cc in
+        record { enough = omega arith; early = omega (arith, s .early); below = λ n x y. omega arith; above = λ n x y. omega arith }
+    first false q e = second (leb (t - b .tickets) (b .aside)) refl (leb-false t (b .tickets) q) e

@@ -1,0 +1,54 @@
+use Rattle.pool.specs.Book.{headerOf}
+use borrow.Author.Needs.{needs}
+use Rattle.pool.proofs.header.Statement.{statement}
+use Rattle.pool.proofs.header.Tie as tie
+use Rattle.pool.proofs.header.Reads as reads
+use Rattle.pool.proofs.header.Lts as lts
+use Rattle.pool.proofs.checked.Reads as checked-reads
+use Rattle.pool.proofs.get.Reads as get-reads
+
+-- src/lib.rt:177:9
+get-requires : tie.Need-get-requires
+get-requires c κs = search needs
+
+-- src/lib.rt:178:9
+get-requires-2 : tie.Need-get-requires-2
+get-requires-2 c κs = search needs
+
+-- src/lib.rt:180:15
+get-requires-3 : tie.Need-get-requires-3
+get-requires-3 c κs = search needs
+
+-- src/lib.rt:181:15
+get-requires-4 : tie.Need-get-requires-4
+get-requires-4 c κs = search needs
+
+-- src/lib.rt:182:16
+get-requires-5 : tie.Need-get-requires-5
+get-requires-5 c κs = search needs
+
+-- src/lib.rt:183:18
+get-requires-6 : tie.Need-get-requires-6
+get-requires-6 c κs = search needs
+
+-- src/lib.rt:185:5
+checked-requires : tie.Need-checked-requires
+checked-requires c κs = search needs
+
+-- src/lib.rt:174:1
+returns : tie.Need-returns
+unfolding headerOf
+returns c = λ h. rw (c .checked .ensures, c .before .before .before .before .before .before .get .ensures h, c .before .before .before .before .before .get2 .ensures h, c .before .before .before .before .get3 .ensures h, c .before .before .before .get4 .ensures h, c .before .before .get5 .ensures h, c .before .get6 .ensures h)
+
+pub header-spec : {M : Type 1} → statement M
+header-spec =
+    tie.close
+    (tie.spec
+    get-requires
+    get-requires-2
+    get-requires-3
+    get-requires-4
+    get-requires-5
+    get-requires-6
+    checked-requires
+    returns)

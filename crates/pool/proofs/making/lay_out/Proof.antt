@@ -1,0 +1,67 @@
+use mathlib.Core.Path.{sym, _∙_}
+use Rattle.pool.proofs.Fills.{laid-out}
+use borrow.Author.Needs.{needs}
+use Rattle.pool.proofs.making.lay_out.Statement.{statement}
+use Rattle.pool.proofs.making.lay_out.Tie as tie
+use Rattle.pool.proofs.making.lay_out.Reads as reads
+use Rattle.pool.proofs.making.lay_out.Lts as lts
+use Rattle.pool.proofs.book_pages.Reads as book-pages-reads
+use Rattle.pool.proofs.making.count.Reads as count-reads
+use Rattle.pool.proofs.making.fill.Reads as fill-reads
+use Rattle.pool.proofs.put.Reads as put-reads
+use Rattle.word.proofs.clear.Reads as clear-reads
+
+-- src/lib.rt:388:30
+book-pages-requires : tie.Need-book-pages-requires
+book-pages-requires c κs = search needs
+
+-- src/lib.rt:388:16
+sub-free : tie.Need-sub-free
+sub-free c = search needs
+
+-- src/lib.rt:388:16
+sub-free-2 : tie.Need-sub-free-2
+sub-free-2 c = search needs
+
+-- src/lib.rt:389:22
+add-fill : tie.Need-add-fill
+add-fill c = search needs
+
+-- src/lib.rt:389:5
+fill-requires : tie.Need-fill-requires
+fill-requires c κs = search needs
+
+-- src/lib.rt:390:5
+count-requires : tie.Need-count-requires
+count-requires c κs = search needs
+
+-- src/lib.rt:391:5
+clear-requires : tie.Need-clear-requires
+clear-requires c κs = search needs
+
+-- src/lib.rt:392:5
+put-requires : tie.Need-put-requires
+put-requires c κs = search needs
+
+-- src/lib.rt:384:1
+same-length : tie.Need-same-length
+same-length c = search needs
+
+-- src/lib.rt:384:1
+returns : tie.Need-returns
+returns c = c .before .before .put .ensures ∙ rw (c .before .before .before .before .before .before .clear .ensures, c .before .before .before .before .before .before .before .before .before .before .count .ensures, c .before .before .before .before .before .before .before .before .before .before .before .before .before .before .fill .ensures, c .before .before .before .before .before .before .before .before .before .before .before .before .before .before .before .before .before .before .book-pages .ensures) (laid-out _ _)
+
+pub lay-out-spec : {M : Type 1} → statement M
+lay-out-spec =
+    tie.close
+    (tie.spec
+    book-pages-requires
+    sub-free
+    sub-free-2
+    add-fill
+    fill-requires
+    count-requires
+    clear-requires
+    put-requires
+    same-length
+    returns)

@@ -1,0 +1,60 @@
+use mathlib.Core.Path.{sym, _∙_}
+use borrow.Author.Tests.{le-leb, lt-leb}
+use Rattle.word.specs.Writes.{carried}
+use Rattle.pool.specs.Changes.{tookWrites}
+use borrow.Author.Needs.{needs}
+use Rattle.pool.proofs.took.Statement.{statement}
+use Rattle.pool.proofs.took.Tie as tie
+use Rattle.pool.proofs.took.Reads as reads
+use Rattle.pool.proofs.took.Lts as lts
+use Rattle.pool.proofs.put.Reads as put-reads
+use Rattle.pool.proofs.sound.Reads as sound-reads
+use Rattle.pool.proofs.spot.Reads as spot-reads
+
+-- src/lib.rt:300:9
+returns : tie.Need-returns
+unfolding tookWrites carried
+returns c = simp (lt-leb _ _ (c .if1 .taken))
+
+-- src/lib.rt:302:8
+sound-requires : tie.Need-sound-requires
+sound-requires c κs = search needs
+
+-- src/lib.rt:303:28
+spot-requires : tie.Need-spot-requires
+spot-requires c κs = search needs
+
+-- src/lib.rt:303:9
+put-requires : tie.Need-put-requires
+put-requires c κs = search needs
+
+-- src/lib.rt:304:9
+put-requires-2 : tie.Need-put-requires-2
+put-requires-2 c κs = search needs
+
+-- src/lib.rt:296:1
+same-length : tie.Need-same-length
+same-length c = search needs
+
+-- src/lib.rt:296:1
+returns-2 : tie.Need-returns-2
+unfolding tookWrites carried
+returns-2 c = simp (le-leb _ _ (c .before .before .before .before .before .before .before .before .before .before .before .before .if1 .left), sym (c .before .before .before .before .before .before .before .before .before .before .before .sound .ensures) ∙ c .before .before .before .before .before .before .before .before .before .before .if2 .taken, c .before .before .put2 .ensures, c .before .before .before .before .before .before .before .put .ensures, c .before .before .before .before .before .before .before .before .spot .ensures)
+
+-- src/lib.rt:296:1
+returns-3 : tie.Need-returns-3
+unfolding tookWrites carried
+returns-3 c = simp (le-leb _ _ (c .before .before .if1 .left), sym (c .before .sound .ensures) ∙ c .if2 .left)
+
+pub took-spec : {M : Type 1} → statement M
+took-spec =
+    tie.close
+    (tie.spec
+    returns
+    sound-requires
+    spot-requires
+    put-requires
+    put-requires-2
+    same-length
+    returns-2
+    returns-3)

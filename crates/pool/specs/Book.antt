@@ -1,0 +1,113 @@
+-- The book of a pool: eight words, then a slot for each page of the pool; word k is entry k % 512 of the pool's page k / 512.
+--   word 0 the mark · 1 the number of pages · 2 head · 3 free · 4 aside · 5 tickets · 6, 7 nothing yet · 8 + j slot j
+-- The slots are a ring. From the head on it lists the free pages, oldest first, and right behind them the pages set aside, oldest first.
+-- Everything here is over a memory m, with h: which pages lie in the window.
+use Prim.Native.Nat.{ℕ, _+_, _-_, _*_, _/_, _^_, _<_, _≤_}
+use mathlib.Core.Bool.{Bool, true, false, cond, _&&_, not}
+use lib.Dec.{leb, ltb, eqb}
+use Rattle.pool.specs.declared.Space.{Space}
+use Rattle.pool.specs.declared.Book.{Book}
+use Rattle.pool.specs.declared.Reason.{Reason}
+use Rattle.pool.specs.declared.Reason.the-variants.{PoolLarge, PoolSmall, PoolOutside, BadRoot, NoBook, OtherBook, BadBook}
+use Rattle.pool.specs.declared.Fit.{Fit}
+use Rattle.pool.specs.declared.Fit.the-variants as fit
+use Rattle.pool.specs.declared.Opened.{Opened}
+use Rattle.pool.specs.declared.Opened.the-variants as opened
+use Rattle.pool.specs.declared.Listed.{Listed}
+use Rattle.pool.specs.declared.Listed.the-variants.{Page, Bad}
+use Rattle.pool.specs.declared.Due.{Due}
+use Rattle.pool.specs.declared.Due.the-variants.{Pages, Unknown, Spent}
+
+-- how many pages a book has
+unfoldable pub bookPages : ℕ → ℕ
+bookPages pages = (pages + 519) / 512
+
+-- the number of word k of the book, in memory
+abbrev pub wordOf : Space → ℕ → ℕ
+wordOf sp k = 512 * sp .first + k
+
+abbrev pub mark : ℕ
+mark = 7741528751714166900
+
+-- the header's counts
+abbrev pub bookOf : (ℕ → ℕ) → Space → Book
+bookOf m sp = record { head = m (wordOf sp 2); free = m (wordOf sp 3); aside = m (wordOf sp 4); tickets = m (wordOf sp 5) }
+
+-- the slot k positions behind the head, on a ring of so many slots
+unfoldable pub spotOf : ℕ → ℕ → ℕ → ℕ
+spotOf pages head k = cond (ltb k (pages - head)) (head + k) (k - (pages - head))
+
+-- the page at position k
+unfoldable pub pageAt : (ℕ → ℕ) → Space → ℕ → ℕ
+pageAt m sp k = m (wordOf sp (8 + spotOf (sp .pages) (bookOf m sp .head) k))
+
+-- What is tested --------------------------------------------------------------------------------------------------------------
+
+-- a pool that can be counted, has room for its book, a root and a page more, and lies in the window
+unfoldable pub roomOf : (ℕ → Bool) → ℕ → ℕ → Fit
+roomOf h first pages =
+    cond (leb pages (2 ^ 32))
+    (cond (leb (bookPages pages + 2) pages)
+    (cond (h first && h (first + pages - 1)) fit.Fits (fit.Refused PoolOutside))
+    (fit.Refused PoolSmall))
+    (fit.Refused PoolLarge)
+
+-- a page of the pool behind its book
+unfoldable pub inPool : Space → ℕ → Bool
+inPool sp p = leb (sp .first + bookPages (sp .pages)) p && ltb p (sp .first + sp .pages)
+
+-- counts that the book of a pool of so many pages can have
+unfoldable pub soundOf : ℕ → Book → Bool
+soundOf pages b =
+    (leb pages (2 ^ 32) && ltb (b .head) pages) && (leb (b .free + b .aside + bookPages pages + 1) pages && leb (b .tickets) (2 ^ 62))
+
+-- the same, as numbers
+pub record Sound (pages : ℕ) (b : Book) : Type 0 where
+  pub small : pages ≤ 2 ^ 32
+  pub head-in : b .head < pages
+  pub room : b .free + b .aside + bookPages pages + 1 ≤ pages
+  pub early : b .tickets ≤ 2 ^ 62
+
+unfoldable pub checkedOf : Space → ℕ → ℕ → Book → Opened
+checkedOf sp first second b =
+    cond (eqb first mark)
+    (cond (eqb second (sp .pages)) (cond (soundOf (sp .pages) b) (opened.Book b) (opened.Refused BadBook)) (opened.Refused OtherBook))
+    (opened.Refused NoBook)
+
+unfoldable pub headerOf : (ℕ → ℕ) → Space → Opened
+headerOf m sp = checkedOf sp (m (wordOf sp 0)) (m (wordOf sp 1)) (bookOf m sp)
+
+unfoldable pub openedIn : (ℕ → ℕ) → Space → Fit → Opened
+openedIn m sp fit.Fits = cond (inPool sp (sp .root)) (headerOf m sp) (opened.Refused BadRoot)
+openedIn m sp (fit.Refused r) = opened.Refused r
+
+-- WHAT OPENING ANSWERS
+unfoldable pub openedOf : (ℕ → Bool) → (ℕ → ℕ) → Space → Opened
+openedOf h m sp = openedIn m sp (roomOf h (sp .first) (sp .pages))
+
+-- a page that can become a table: in the pool, not the book's and not the root
+unfoldable pub usableOf : Space → ℕ → Listed
+usableOf sp p = cond (not (eqb p (sp .root)) && inPool sp p) (Page p) Bad
+
+-- the page that word k of the book names
+unfoldable pub namedOf : (ℕ → Bool) → (ℕ → ℕ) → Space → ℕ → Listed
+namedOf h m sp k = cond (h (sp .first + k / 512)) (usableOf sp (m (wordOf sp k))) Bad
+
+-- the free page at position k
+unfoldable pub listedOf : (ℕ → Bool) → (ℕ → ℕ) → Space → Book → ℕ → Listed
+listedOf h m sp b k =
+    cond (ltb k (b .free) && soundOf (sp .pages) b) (namedOf h m sp (8 + spotOf (sp .pages) (b .head) k)) Bad
+
+-- Tickets ---------------------------------------------------------------------------------------------------------------------
+
+-- Pages are numbered in the order in which they are set aside; tickets counts those that were released. The ticket of a moment:
+-- the number that the next page will have.
+abbrev pub ticketOf : Book → ℕ
+ticketOf b = b .tickets + b .aside
+
+-- how many pages a report of this ticket releases: those whose number is below it
+unfoldable pub dueOf : Book → ℕ → Due
+dueOf b t =
+    cond (leb t (b .tickets))
+    (Pages 0)
+    (cond (leb (t - b .tickets) (b .aside)) (cond (leb t (2 ^ 62)) (Pages (t - b .tickets)) Spent) Unknown)

@@ -1,0 +1,38 @@
+-- What is written to a book, as lists of one-word writes. Where the counts make no sense, or there are fewer pages, nothing is.
+use Prim.Native.Nat.{ℕ, zero, suc, _+_, _-_, _/_, _%_}
+use mathlib.Core.Bool.{Bool, true, false, cond, _&&_}
+use mathlib.Core.List.{List, [], _∷_, _++_}
+use lib.Dec.{leb}
+use Rattle.word.specs.Writes.{Write, write}
+use Rattle.pool.specs.declared.Space.{Space}
+use Rattle.pool.specs.declared.Book.{Book}
+use Rattle.pool.specs.Book.{soundOf, spotOf}
+
+-- word k of the book becomes w
+abbrev pub put : Space → ℕ → ℕ → Write
+put sp k w = write (sp .first + k / 512) (k % 512) w
+
+-- the k oldest free pages are taken
+unfoldable pub tookWrites : Space → Book → ℕ → List Write
+tookWrites sp b k =
+    cond (leb k (b .free) && soundOf (sp .pages) b)
+    (put sp 2 (spotOf (sp .pages) (b .head) k) ∷ put sp 3 (b .free - k) ∷ [])
+    []
+
+-- page p is set aside, behind all others
+unfoldable pub asideWrites : Space → Book → ℕ → List Write
+asideWrites sp b p =
+    cond (soundOf (sp .pages) b)
+    (put sp (8 + spotOf (sp .pages) (b .head) (b .free + b .aside)) p ∷ put sp 4 (b .aside + 1) ∷ [])
+    []
+
+unfoldable pub asideBook : Space → Book → Book
+asideBook sp b =
+    cond (soundOf (sp .pages) b) (record { head = b .head; free = b .free; aside = b .aside + 1; tickets = b .tickets }) b
+
+-- the k oldest pages set aside become free
+unfoldable pub releaseWrites : Space → Book → ℕ → List Write
+releaseWrites sp b k =
+    cond (leb k (b .aside) && soundOf (sp .pages) b)
+    (put sp 3 (b .free + k) ∷ put sp 4 (b .aside - k) ∷ put sp 5 (b .tickets + k) ∷ [])
+    []

@@ -1,0 +1,66 @@
+-- What making a pool answers and writes.
+use Prim.Native.Nat.{ℕ, zero, suc, _+_, _-_, _%_, _^_, _<_, _≤_}
+use mathlib.Core.Bool.{Bool, true, false, cond}
+use mathlib.Core.List.{List, [], _∷_, _++_}
+use mathlib.Core.Path.{_≡_}
+use lib.Dec.{eqb}
+use Rattle.word.specs.Writes.{Write, write, zeros}
+use Rattle.pool.specs.declared.Space.{Space}
+use Rattle.pool.specs.declared.Fit.{Fit}
+use Rattle.pool.specs.declared.Fit.the-variants as fit
+use Rattle.pool.specs.declared.Reason.the-variants.{OriginUnaligned, LengthUnaligned}
+use Rattle.pool.specs.declared.Created.{Created}
+use Rattle.pool.specs.declared.Created.the-variants as created
+use Rattle.pool.specs.Book.{bookPages, mark, roomOf}
+use Rattle.pool.specs.Changes.{put}
+
+-- the window's ends are page boundaries, and the pool fits
+unfoldable pub mayCreate : ℕ → (ℕ → Bool) → ℕ → ℕ → ℕ → Fit
+mayCreate len h origin first pages =
+    cond (eqb (origin % 4096) 0)
+    (cond (eqb (len % 4096) 0) (roomOf h first pages) (fit.Refused LengthUnaligned))
+    (fit.Refused OriginUnaligned)
+
+-- a new pool's root is the page behind its book
+abbrev pub newSpace : ℕ → ℕ → ℕ → Space
+newSpace origin first pages = record { origin = origin; first = first; pages = pages; root = first + bookPages pages }
+
+-- the first n slots list the pages from `from` on
+unfoldable pub fills : Space → ℕ → ℕ → List Write
+fills sp from zero = []
+fills sp from (suc n) = fills sp from n ++ (put sp (8 + n) (from + n) ∷ [])
+
+-- a header without its mark
+unfoldable pub counts : Space → ℕ → List Write
+counts sp free =
+    put sp 1 (sp .pages) ∷ put sp 2 0 ∷ put sp 3 free ∷ put sp 4 0 ∷ put sp 5 0 ∷ put sp 6 0 ∷ put sp 7 0 ∷ []
+
+-- how many pages of a new pool are free
+abbrev pub newFree : Space → ℕ
+newFree sp = sp .pages - bookPages (sp .pages) - 1
+
+-- the slots, the counts, the root, and the mark last
+unfoldable pub layOut : Space → List Write
+layOut sp = fills sp (sp .root + 1) (newFree sp) ++ (counts sp (newFree sp) ++ (zeros (sp .root) 512 ++ (put sp 0 mark ∷ [])))
+
+-- there is room for the book, the root and a page more, and the numbers are small
+pub record Roomy (sp : Space) : Type 0 where
+  pub small : sp .pages ≤ 2 ^ 32
+  pub enough : bookPages (sp .pages) + 2 ≤ sp .pages
+  pub low : sp .root < 2 ^ 41
+
+unfoldable pub createdIn : ℕ → ℕ → Fit → Created
+createdIn first pages fit.Fits = created.Root (first + bookPages pages)
+createdIn first pages (fit.Refused r) = created.Refused r
+
+-- WHAT MAKING A POOL ANSWERS
+unfoldable pub createdOf : ℕ → (ℕ → Bool) → ℕ → ℕ → ℕ → Created
+createdOf len h origin first pages = createdIn first pages (mayCreate len h origin first pages)
+
+unfoldable pub createIn : Space → Fit → List Write
+createIn sp fit.Fits = layOut sp
+createIn sp (fit.Refused r) = []
+
+-- WHAT IT WRITES
+unfoldable pub createWrites : ℕ → (ℕ → Bool) → ℕ → ℕ → ℕ → List Write
+createWrites len h origin first pages = createIn (newSpace origin first pages) (mayCreate len h origin first pages)

@@ -1,0 +1,5 @@
+pub mod Book
+pub mod Changes
+pub mod Create
+pub mod Booked
+pub mod Stands

@@ -1,0 +1,22 @@
+-- A space that makes sense, before any book is read; and a book with room for pages to be set aside.
+use Prim.Native.Nat.{ℕ, _+_}
+use mathlib.Core.Bool.{Bool, cond, _&&_}
+use lib.Dec.{leb}
+use Rattle.pool.specs.declared.Space.{Space}
+use Rattle.pool.specs.declared.Book.{Book}
+use Rattle.pool.specs.declared.Reason.the-variants.{BadRoot}
+use Rattle.pool.specs.declared.Fit.{Fit}
+use Rattle.pool.specs.declared.Fit.the-variants.{Fits, Refused}
+use Rattle.pool.specs.Book.{bookPages, inPool, roomOf, soundOf}
+
+unfoldable pub standsIn : Space → Fit → Fit
+standsIn sp Fits = cond (inPool sp (sp .root)) Fits (Refused BadRoot)
+standsIn sp (Refused r) = Refused r
+
+-- the pool lies in the window with its book, and the root behind that
+unfoldable pub standsOf : (ℕ → Bool) → Space → Fit
+standsOf h sp = standsIn sp (roomOf h (sp .first) (sp .pages))
+
+-- n pages more can be set aside
+unfoldable pub takesOf : Space → Book → ℕ → Bool
+takesOf sp b n = soundOf (sp .pages) b && leb (b .free + b .aside + n + bookPages (sp .pages) + 1) (sp .pages)

@@ -1,0 +1,376 @@
+// The book of a pool of pages, in the pool's own first pages: which pages are free, and which are set aside until every cache was told.
+// It knows nothing of tables: what is taken, set aside and released is up to the caller.
+ghost use mathlib.Core.Path.{_≡_};
+ghost use Prim.Native.Nat.{_+_, _*_, _/_, _%_, _^_, _<_, _≤_};
+ghost use mathlib.Core.Bool.{true};
+ghost use Rattle.word.specs.Memory.{memory, holds, readOf, written};
+ghost use Rattle.word.specs.Writes.{carried};
+ghost use Rattle.pool.specs.Book as the;
+ghost use Rattle.pool.specs.Changes as to;
+ghost use Rattle.pool.specs.Stands as stand;
+use word::Cell;
+
+mod making;
+
+pub use making::create;
+
+// "the book" in ASCII.
+const MARK: u64 = 7741528751714166900;
+// The most pages that a pool may have: 16 TiB of tables.
+const MOST: u64 = 4294967296;
+// Tickets end here; it takes a million releases a second for 146,000 years.
+const LAST: u64 = 4611686018427387904;
+
+// A window's origin, and the pool in it by page numbers: its first page, how many it has, and the page of the root table.
+pub struct Space {
+    pub origin: u64,
+    pub first: u64,
+    pub pages: u64,
+    pub root: u64,
+}
+
+// What a book's header counts.
+pub struct Book {
+    pub head: u64,
+    pub free: u64,
+    pub aside: u64,
+    pub tickets: u64,
+}
+
+pub enum Reason {
+    OriginUnaligned,
+    LengthUnaligned,
+    PoolLarge,
+    PoolSmall,
+    PoolOutside,
+    BadRoot,
+    // there is no mark
+    NoBook,
+    // the book of a pool of another size
+    OtherBook,
+    // its counts cannot be
+    BadBook,
+}
+
+pub enum Fit {
+    Fits,
+    Refused(Reason),
+}
+
+pub enum Opened {
+    Book(Book),
+    Refused(Reason),
+}
+
+pub enum Listed {
+    Page(u64),
+    // a book lists what is no page for tables
+    Bad,
+}
+
+pub enum Created {
+    // the page of the root table
+    Root(u64),
+    Refused(Reason),
+}
+
+// What a report releases.
+pub enum Due {
+    Pages(u64),
+    // a ticket that was never handed out
+    Unknown,
+    // no ticket is left
+    Spent,
+}
+
+// How many pages the book of a pool has: eight words, and a slot for each page of the pool.
+pub fn book_pages(pages: u64) -> u64
+    ensures { λ r. ⌜ r ≡ the.bookPages pages ⌝ }
+{
+    pages / 512 + (pages % 512 + 519) / 512
+}
+
+// Does a pool of that many pages have room for a book, a root and a page more, and lie in the window?
+fn room(mem: &[u8], origin: u64, first: u64, pages: u64) -> Fit
+    ensures { λ r. ⌜ r ≡ the.roomOf (holds (now (mem .entry)) origin) first pages ⌝ }
+{
+    if MOST < pages {
+        return Fit::Refused(Reason::PoolLarge);
+    }
+    if pages < book_pages(pages) + 2 {
+        return Fit::Refused(Reason::PoolSmall);
+    }
+    if word::inside(mem, origin, first) {
+        if word::inside(mem, origin, first + pages - 1) {
+            return Fit::Fits;
+        }
+    }
+    Fit::Refused(Reason::PoolOutside)
+}
+
+// Is p a page of the pool, and not the book's?
+pub fn in_pool(space: Space, p: u64) -> bool
+    ensures { λ r. ⌜ r ≡ the.inPool space p ⌝ }
+{
+    if p < space.first {
+        return false;
+    }
+    let i = p - space.first;
+    if i < book_pages(space.pages) {
+        return false;
+    }
+    if space.pages <= i {
+        return false;
+    }
+    true
+}
+
+// Can a pool of that many pages have a book with these counts?
+fn sound(pages: u64, b: Book) -> bool
+    ensures { λ r. ⌜ r ≡ the.soundOf pages b ⌝ }
+{
+    if MOST < pages {
+        return false;
+    }
+    if pages <= b.head {
+        return false;
+    }
+    let used = book_pages(pages);
+    if pages <= used {
+        return false;
+    }
+    let most = pages - used - 1;
+    if most < b.free {
+        return false;
+    }
+    if most - b.free < b.aside {
+        return false;
+    }
+    b.tickets <= LAST
+}
+
+// The tests of a header.
+fn checked(space: Space, mark: u64, pages: u64, b: Book) -> Opened
+    ensures { λ r. ⌜ r ≡ the.checkedOf space mark pages b ⌝ }
+{
+    if mark != MARK {
+        return Opened::Refused(Reason::NoBook);
+    }
+    if pages != space.pages {
+        return Opened::Refused(Reason::OtherBook);
+    }
+    if sound(space.pages, b) {
+        return Opened::Book(b);
+    }
+    Opened::Refused(Reason::BadBook)
+}
+
+// Word i of a page in the window.
+fn get(mem: &[u8], origin: u64, p: u64, i: u64) -> u64
+    requires { ⌜ i < 512 ⌝ }
+    ensures { λ r. ⌜ (holds (now (mem .entry)) origin p ≡ true → r ≡ memory (now (mem .entry)) origin (512 * p + i)) ⌝ }
+{
+    let c = word::read(mem, origin, p, i);
+    match c {
+        Cell::Word(w) => w,
+        Cell::Outside => 0,
+    }
+}
+
+// The header of the book in a page of the window.
+fn header(mem: &[u8], space: Space) -> Opened
+    ensures { λ r. ⌜ (holds (now (mem .entry)) (space .origin) (space .first) ≡ true → r ≡ the.headerOf (memory (now (mem .entry)) (space .origin)) space) ⌝ }
+{
+    let mark = get(mem, space.origin, space.first, 0);
+    let pages = get(mem, space.origin, space.first, 1);
+    let b = Book {
+        head: get(mem, space.origin, space.first, 2),
+        free: get(mem, space.origin, space.first, 3),
+        aside: get(mem, space.origin, space.first, 4),
+        tickets: get(mem, space.origin, space.first, 5),
+    };
+    checked(space, mark, pages, b)
+}
+
+// The one function that reads a book's header, and tests all of it.
+pub fn open(mem: &[u8], space: Space) -> Opened
+    ensures { λ r. ⌜ r ≡ the.openedOf (holds (now (mem .entry)) (space .origin)) (memory (now (mem .entry)) (space .origin)) space ⌝ }
+{
+    let fit = room(mem, space.origin, space.first, space.pages);
+    match fit {
+        Fit::Refused(r) => Opened::Refused(r),
+        Fit::Fits => {
+            if in_pool(space, space.root) {
+                return header(mem, space);
+            }
+            Opened::Refused(Reason::BadRoot)
+        }
+    }
+}
+
+// The slot k positions behind the head, on the ring of slots.
+fn spot(pages: u64, head: u64, k: u64) -> u64
+    ensures { λ r. ⌜ r ≡ the.spotOf pages head k ⌝ }
+{
+    if pages <= head {
+        return k;
+    }
+    if k < pages - head {
+        return head + k;
+    }
+    k - (pages - head)
+}
+
+// The page that word k of the book names.
+fn named(mem: &[u8], space: Space, k: u64) -> Listed
+    ensures { λ r. ⌜ r ≡ the.namedOf (holds (now (mem .entry)) (space .origin)) (memory (now (mem .entry)) (space .origin)) space k ⌝ }
+{
+    if 1099511627776 <= space.first {
+        return Listed::Bad;
+    }
+    let c = word::read(mem, space.origin, space.first + k / 512, k % 512);
+    match c {
+        Cell::Word(p) => usable(space, p),
+        Cell::Outside => Listed::Bad,
+    }
+}
+
+// A page that can become a table.
+fn usable(space: Space, p: u64) -> Listed
+    ensures { λ r. ⌜ r ≡ the.usableOf space p ⌝ }
+{
+    if p == space.root {
+        return Listed::Bad;
+    }
+    if in_pool(space, p) {
+        return Listed::Page(p);
+    }
+    Listed::Bad
+}
+
+// The free page at position k, from the oldest on.
+pub fn free_page(mem: &[u8], space: Space, book: Book, k: u64) -> Listed
+    ensures { λ r. ⌜ r ≡ the.listedOf (holds (now (mem .entry)) (space .origin)) (memory (now (mem .entry)) (space .origin)) space book k ⌝ }
+{
+    if book.free <= k {
+        return Listed::Bad;
+    }
+    if sound(space.pages, book) {
+        return named(mem, space, 8 + spot(space.pages, book.head, k));
+    }
+    Listed::Bad
+}
+
+// The ticket of this moment: every page set aside so far has a smaller number, every later one has not.
+pub fn ticket(book: Book) -> u64
+    ensures { λ r. ⌜ (the.ticketOf book < 2 ^ 64 → r ≡ the.ticketOf book) ⌝ }
+{
+    if 18446744073709551615 - book.tickets < book.aside {
+        return 0;
+    }
+    book.tickets + book.aside
+}
+
+// How many of the oldest pages set aside a report of this ticket releases. A count in its place would be wrong where two reports overlap:
+// the pages of the one would be counted for the other.
+pub fn due_by(book: Book, ticket: u64) -> Due
+    ensures { λ r. ⌜ r ≡ the.dueOf book ticket ⌝ }
+{
+    if ticket <= book.tickets {
+        return Due::Pages(0);
+    }
+    let k = ticket - book.tickets;
+    if book.aside < k {
+        return Due::Unknown;
+    }
+    if LAST < ticket {
+        return Due::Spent;
+    }
+    Due::Pages(k)
+}
+
+// Sets word k of the book.
+fn put(mem: &mut [u8], space: Space, k: u64, w: u64)
+    ensures { λ _. ⌜ now (mem .exit) ≡ written (now (mem .entry)) (space .origin) (space .first + k / 512) (k % 512) w ⌝ }
+{
+    if 1099511627776 <= space.first {
+        return;
+    }
+    word::write(mem, space.origin, space.first + k / 512, k % 512, w)
+}
+
+// The k oldest free pages were taken.
+pub fn took(mem: &mut [u8], space: Space, book: Book, k: u64)
+    ensures { λ _. ⌜ now (mem .exit) ≡ carried (now (mem .entry)) (space .origin) (to.tookWrites space book k) ⌝ }
+{
+    if book.free < k {
+        return;
+    }
+    if sound(space.pages, book) {
+        put(mem, space, 2, spot(space.pages, book.head, k));
+        put(mem, space, 3, book.free - k);
+    }
+}
+
+// Sets page p aside, behind all others, and answers the book after it.
+pub fn set_aside(mem: &mut [u8], space: Space, book: Book, p: u64) -> Book
+    ensures { λ r. ⌜ r ≡ to.asideBook space book ⌝ }
+    ensures { λ _. ⌜ now (mem .exit) ≡ carried (now (mem .entry)) (space .origin) (to.asideWrites space book p) ⌝ }
+{
+    if sound(space.pages, book) {
+        let at = spot(space.pages, book.head, book.free + book.aside);
+        put(mem, space, 8 + at, p);
+        put(mem, space, 4, book.aside + 1);
+        return Book {
+            head: book.head,
+            free: book.free,
+            aside: book.aside + 1,
+            tickets: book.tickets,
+        };
+    }
+    book
+}
+
+// The k oldest pages set aside become free: the border moves, no slot is written.
+pub fn release(mem: &mut [u8], space: Space, book: Book, k: u64)
+    ensures { λ _. ⌜ now (mem .exit) ≡ carried (now (mem .entry)) (space .origin) (to.releaseWrites space book k) ⌝ }
+{
+    if book.aside < k {
+        return;
+    }
+    if sound(space.pages, book) {
+        put(mem, space, 3, book.free + k);
+        put(mem, space, 4, book.aside - k);
+        put(mem, space, 5, book.tickets + k);
+    }
+}
+
+// Does the space make sense: the pool in the window with its book, and the root behind that?
+pub fn stands(mem: &[u8], space: Space) -> Fit
+    ensures { λ r. ⌜ r ≡ stand.standsOf (holds (now (mem .entry)) (space .origin)) space ⌝ }
+{
+    let fit = room(mem, space.origin, space.first, space.pages);
+    match fit {
+        Fit::Refused(r) => Fit::Refused(r),
+        Fit::Fits => {
+            if in_pool(space, space.root) {
+                return Fit::Fits;
+            }
+            Fit::Refused(Reason::BadRoot)
+        }
+    }
+}
+
+// Has the book room for n pages more to be set aside?
+pub fn takes(space: Space, book: Book, n: u64) -> bool
+    ensures { λ r. ⌜ r ≡ stand.takesOf space book n ⌝ }
+{
+    if sound(space.pages, book) {
+        let most = space.pages - book_pages(space.pages) - 1;
+        if most - book.free - book.aside < n {
+            return false;
+        }
+        return true;
+    }
+    false
+}

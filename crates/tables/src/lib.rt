@@ -1,0 +1,1 @@
+// No code: what tables that we built are, and what each edit of them does, is in specs/.
