@@ -1,6 +1,6 @@
 -- Lists of writes where no walk comes: the book's, and those that clear a page before it is linked. They leave all that is said of tables;
 -- and a page that was cleared is all 0.
-use Prim.Native.Nat.{ℕ, suc, _/_, _<_}
+use Prim.Native.Nat.{ℕ, _/_, _<_}
 use mathlib.Core.List.{List, [], _∷_, _++_}
 use mathlib.Core.Logic.{_≢_}
 use mathlib.Core.Path.{_≡_, refl, sym, ap, _∙_}
@@ -59,19 +59,21 @@ pub record Untouched (σ : Setting) (m : ℕ → ℕ) (role : ℕ → Role) (xs 
   pub same : (va : ℕ) → meaning σ (after m xs) va ≡ meaning σ m va
   pub quiet : Quiet (walkerOf σ) m (eventsOf xs)
   pub obeys : ObeysOf σ role m (eventsOf xs) role
+  pub moments : world.All m (eventsOf xs) (λ m'. Built σ m' role)
   pub words : (q l i : ℕ) → Live role q l → i < 512 → after m xs (at q i) ≡ m (at q i)
   pub comes : (va n t : ℕ) → Comes σ m va n t → Comes σ (after m xs) va n t
 
 -- one write more, in front
 untouched-more : {σ : Setting} {m : ℕ → ℕ} {role : ℕ → Role} (p i v : ℕ) (xs : List Write) → Built σ m role → i < 512 → Spare role p
     → Untouched σ (set m (at p i) v) role xs → Untouched σ m role (write p i v ∷ xs)
-unfolding eventsOf after world.after world.happen
+unfolding eventsOf after world.after world.happen world.All
 untouched-more {σ} {m} {role} p i v xs b u h rest = record {
   built = rest .built;
   same = λ va. rest .same va ∙ unseen b (at p i) v idle .same va;
   quiet = quiet-more (walkerOf σ) (world.write (at p i) v) (eventsOf xs) m (same-meaning σ m (set m (at p i) v) (unseen b (at p i) v idle .same)) (rest .quiet);
   obeys = obeys-append (walkerOf σ) (world.write (at p i) v ∷ []) (eventsOf xs) (Aside role) (Aside role) (Aside role) m
       (unseen-obeys b (at p i) v idle (λ e. h .1 (ap role (sym page) ∙ e))) (rest .obeys);
+  moments = (b, rest .moments);
   words = λ q l j n w. rest .words q l j n w ∙ unseen-word m role (at p i) v idle q l j n w;
   comes = λ va n t c. rest .comes va n t (alike-comes b (set m (at p i) v) (unseen-alike m role (at p i) v idle) c);
 }
@@ -84,12 +86,13 @@ untouched-more {σ} {m} {role} p i v xs b u h rest = record {
 
 -- A LIST OF WRITES INTO SPARE PAGES leaves them.
 pub spare-untouched : {σ : Setting} {role : ℕ → Role} (xs : List Write) {m : ℕ → ℕ} → Built σ m role → Every (Spare role) xs → Untouched σ m role xs
-unfolding eventsOf after
+unfolding eventsOf after world.All
 spare-untouched {σ} {role} [] {m} b none = record {
   built = b;
   same = λ va. refl;
   quiet = quiet-nil (walkerOf σ) m;
   obeys = obeys-nil (walkerOf σ) (Aside role) m;
+  moments = b;
   words = λ q l i n u. refl;
   comes = λ va n t c. c;
 }

@@ -7,6 +7,7 @@ use mathlib.Core.Path.{_≡_, refl, sym, ap, _∙_, subst}
 use native.Mathlib.Decide.{ℕ-discrete}
 use native.Mathlib.Omega.{arith}
 use Rattle.word.specs.Memory.{set, at}
+use Rattle.word.proofs.Writes.{page-of}
 use Rattle.word.proofs.Set.{set-at, set-other}
 use Rattle.entry.specs.Entry.{says, both, everything}
 use Rattle.entry.specs.declared.Rights.{Rights}
@@ -23,7 +24,7 @@ use Rattle.world.specs.Walks.{At, oneSpace}
 use Rattle.world.specs.Ties.{reads-walk, on-way, Through, through}
 use Rattle.tables.specs.Roles.{Setting, Role, free, aside, table, unlinked, left, entryAt, Built, Bare, Plain}
 use Rattle.tables.specs.Way.{Comes, comes-left}
-use Rattle.tables.specs.OneWrite.{Spot, at-page, page-of, nothing-plain}
+use Rattle.tables.specs.OneWrite.{Spot, at-page, nothing-plain}
 use Rattle.tables.specs.Reach.{walk-reads-tables, reads-bare, way-comes}
 
 -- THE FROZEN WORDS: those of pages that are set aside.
@@ -37,6 +38,10 @@ walkerOf σ = oneSpace (σ .window) (σ .cr3)
 -- what an operation shows of its writes: from these roles to those
 abbrev pub ObeysOf : Setting → (ℕ → Role) → (ℕ → ℕ) → List (Event ℕ) → (ℕ → Role) → Type 0
 ObeysOf σ role m es role' = Obeys (walkerOf σ) (Aside role) m es (Aside role')
+
+-- no walk reads word x
+abbrev pub Unread : Setting → ℕ → (ℕ → ℕ) → Type 0
+Unread σ x m = (va : ℕ) → ¬ Reads (walkerOf σ) m va (walkerOf σ .start va) x
 
 module _ {σ : Setting} {m : ℕ → ℕ} {role : ℕ → Role} (b : Built σ m role) where
   -- What a walk reads after an entry of a table, it reads through a table that the entry names.
@@ -118,10 +123,12 @@ module _ {σ : Setting} {m : ℕ → ℕ} {role : ℕ → Role} (b : Built σ m 
           let here : set role p unlinked q ≡ aside = ap (set role p unlinked) (sym (page-of q i (s .fits))) ∙ e in
           omega (arith, s .live, ap left (sym (set-other role p unlinked q apart) ∙ here))
 
+  -- NO WALK READS a word of a page that is free, set aside, or the book's.
+  pub unread : (x : ℕ) → left (role (x / 512)) ≡ 0 → Unread σ x m
+  unread x n va r =
+      reads-walk (σ .window) (λ va. σ .cr3) (λ va. va) (λ y. y ≢ x) m va 4 (start (σ .cr3) va) x
+      (walk-reads-tables b (λ y. y ≢ x) (λ q l i h u e. omega (arith, n, h, ap (λ y. left (role y)) (sym (page-of q i u) ∙ ap (λ y. y / 512) e))) va) r refl
+
   -- 6. A WRITE WHERE NO WALK COMES, and not aside.
   pub unseen-obeys : (a v : ℕ) → left (role (a / 512)) ≡ 0 → role (a / 512) ≢ aside → ObeysOf σ role m (write a v ∷ []) role
-  unseen-obeys a v n k =
-      obeys-unseen (walkerOf σ) (Aside role) (Aside role) m a v []
-      (λ va r. reads-walk (σ .window) (λ va. σ .cr3) (λ va. va) (λ x. x ≢ a) m va 4 (start (σ .cr3) va) a
-      (walk-reads-tables b (λ x. x ≢ a) (λ q l i h u e. omega (arith, n, h, ap (λ x. left (role x)) (sym (page-of q i u) ∙ ap (λ x. x / 512) e))) va) r refl)
-      k (obeys-nil (walkerOf σ) (Aside role) (set m a v))
+  unseen-obeys a v n k = obeys-unseen (walkerOf σ) (Aside role) (Aside role) m a v [] (unread a n) k (obeys-nil (walkerOf σ) (Aside role) (set m a v))

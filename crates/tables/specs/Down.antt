@@ -1,34 +1,35 @@
--- MAP, one step at a time: from the root down, through tables that are there and tables that are cleared and linked, to the page's entry,
+-- MAP, one step at a time: down through tables that are there, and tables that are cleared and then linked, to the page's own entry,
 -- which is written last. And protect, which is one write.
 use Prim.Native.Nat.{ℕ, suc, _<_}
 use mathlib.Core.List.{List, [], _∷_, _++_, append-assoc}
-use mathlib.Core.Logic.{_≢_}
+use mathlib.Core.Logic.{_⊎_, inl, inr, _≢_}
 use mathlib.Core.Path.{_≡_, refl, sym, ap, _∙_, subst, subst₂}
 use native.Mathlib.Decide.{ℕ-discrete}
 use native.Mathlib.Omega.{arith}
 use Rattle.word.specs.Memory.{set, at}
 use Rattle.word.specs.Writes.{Write, write, after, zeros}
 use Rattle.word.proofs.Writes.{Every}
-use Rattle.word.proofs.Set.{set-same, set-other}
+use Rattle.word.proofs.Set.{set-at, set-same, set-other}
 use Rattle.entry.specs.Entry.{sizeOf, says, everything}
 use Rattle.entry.specs.declared.Rights.{Rights}
 use Rattle.entry.specs.declared.Entry.the-variants.{Nothing, Page, Table}
 use Rattle.walk.specs.Walk.{indexOf, baseOf}
 use Rattle.walk.specs.declared.Found.the-variants as found
 use Rattle.walk.proofs.Digits.{index-lt}
+use Rattle.world.specs.Events.{All}
 use Rattle.world.specs.Rules.{obeys-nil}
 use Rattle.world.specs.OneChange.{Quiet, quiet-nil}
 use Rattle.tables.specs.Roles.{Setting, Role, free, table, left, entryAt, Apart, Built, Holds, FilledBut, Sound, Zero}
 use Rattle.tables.specs.Way.{Comes, onto, comes-left}
 use Rattle.tables.specs.Meaning.{meaning}
-use Rattle.tables.specs.OneWrite.{at-page, comes-spot, table-something, nothing-plain, page-plain, comes-kept}
-use Rattle.tables.specs.Edits.{link, link-filled, write-page, page-filled, change-rights}
+use Rattle.tables.specs.OneWrite.{Spot, at-page, comes-spot, table-something, nothing-plain, page-plain, comes-kept}
+use Rattle.tables.specs.Edits.{Keeps, link, link-filled, write-page, page-filled, change-rights}
 use Rattle.tables.specs.Discipline.{Aside, walkerOf, ObeysOf, plain-obeys, link-obeys}
 use Rattle.tables.specs.Clearing.{eventsOf, Spare, spare-untouched, untouched-holds, clear-spare, cleared}
-use Rattle.tables.specs.Operation.{Changed, after-then, after-write, quiet-then, obeys-then, change-now, quiet-one, obeys-one, change-write}
+use Rattle.tables.specs.Operation.{Moment, moments-start, moments-one, moments-spare, moments-then, Changed, after-then, after-write, quiet-then, obeys-then, change-now, quiet-one, obeys-one, change-write}
 
 -- THE WAY DOWN. From m₀ on xs was written; the walk of va comes to page t with n levels left; no address's meaning has changed; t, and it
--- alone, may be empty.
+-- alone, may be empty. What is free was free.
 pub record Down (σ : Setting) (m₀ : ℕ → ℕ) (role₀ : ℕ → Role) (va : ℕ) (xs : List Write) (m : ℕ → ℕ) (role : ℕ → Role) (n t : ℕ) : Type 0 where
   pub now : m ≡ after m₀ xs
   pub built : Built σ m role
@@ -37,6 +38,8 @@ pub record Down (σ : Setting) (m₀ : ℕ → ℕ) (role₀ : ℕ → Role) (va
   pub same : (vb : ℕ) → meaning σ m vb ≡ meaning σ m₀ vb
   pub quiet : Quiet (walkerOf σ) m₀ (eventsOf xs)
   pub obeys : ObeysOf σ role₀ m₀ (eventsOf xs) role
+  pub moments : All m₀ (eventsOf xs) (Moment σ role₀ role)
+  pub unused : (p : ℕ) → role p ≡ free → role₀ p ≡ free
 
 -- It starts anywhere on the way of va.
 pub down-start : {σ : Setting} {m : ℕ → ℕ} {role : ℕ → Role} {va n t : ℕ} → Sound σ m role → Comes σ m va n t → Down σ m role va [] m role n t
@@ -49,6 +52,8 @@ down-start {σ} {m} {role} s c = record {
   same = λ vb. refl;
   quiet = quiet-nil (walkerOf σ) m;
   obeys = obeys-nil (walkerOf σ) (Aside role) m;
+  moments = moments-start (s .built);
+  unused = λ p e. e;
 }
 
 module _ {σ : Setting} {m₀ : ℕ → ℕ} {role₀ : ℕ → Role} {va : ℕ} {xs : List Write} {m : ℕ → ℕ} {role : ℕ → Role} where
@@ -63,6 +68,8 @@ module _ {σ : Setting} {m₀ : ℕ → ℕ} {role₀ : ℕ → Role} {va : ℕ}
     same = d .same;
     quiet = d .quiet;
     obeys = d .obeys;
+    moments = d .moments;
+    unused = d .unused;
   }
     where
       go : (p l q i : ℕ) → role p ≡ table (suc l) q i → Dec (p ≡ t) → Holds m l p
@@ -83,26 +90,45 @@ module _ {σ : Setting} {m₀ : ℕ → ℕ} {role₀ : ℕ → Role} {va : ℕ}
         same = λ vb. k .same vb ∙ d .same vb;
         quiet = quiet-then σ m₀ m xs (d .now) ys (d .quiet) (k .quiet);
         obeys = obeys-then σ m₀ m xs (d .now) ys role₀ role role (d .obeys) (k .obeys);
+        moments = moments-then σ m₀ m xs (d .now) ys role₀ role role (λ p. inl refl) (d .moments) (moments-spare k);
+        unused = d .unused;
       }
 
   -- a page that is free and all 0 is linked where nothing is: go on to it
   pub down-link : {n t : ℕ} (v p : ℕ) → Down σ m₀ role₀ va xs m role (suc n) t → entryAt m n t (indexOf n va) ≡ Nothing → says n v ≡ Table p everything
       → role p ≡ free → Zero m p
       → Down σ m₀ role₀ va (xs ++ (write t (indexOf n va) v ∷ [])) (set m (at t (indexOf n va)) v) (set role p (table n t (indexOf n va))) n p
-  down-link {n} {t} v p d was is new empty =
-      let i = indexOf n va in
-      let s = comes-spot (d .built) (d .comes) in
-      let k = link (d .built) s v p was is new empty in
-      record {
-        now = after-write σ m₀ m xs (d .now) t i v;
-        built = k .built;
-        comes = onto {p = p} t everything (comes-kept (d .built) s v (omega arith) (d .comes)) (rw set-same is);
-        filled = link-filled (d .built) s v p is (d .filled);
-        same = λ vb. k .same vb ∙ d .same vb;
-        quiet = quiet-then σ m₀ m xs (d .now) (write t i v ∷ []) (d .quiet) (quiet-one σ m t i v (k .same));
-        obeys = obeys-then σ m₀ m xs (d .now) (write t i v ∷ []) role₀ role (set role p (table n t i)) (d .obeys)
-            (obeys-one σ m t i v role (set role p (table n t i)) (link-obeys (d .built) s v p was new));
-      }
+  down-link {n} {t} v p d was is new empty = record {
+    now = after-write σ m₀ m xs (d .now) t i v;
+    built = k .built;
+    comes = onto {p = p} t everything (comes-kept (d .built) s v (omega arith) (d .comes)) (rw set-same is);
+    filled = link-filled (d .built) s v p is (d .filled);
+    same = λ vb. k .same vb ∙ d .same vb;
+    quiet = quiet-then σ m₀ m xs (d .now) (write t i v ∷ []) (d .quiet) (quiet-one σ m t i v (k .same));
+    obeys = obeys-then σ m₀ m xs (d .now) (write t i v ∷ []) role₀ role role' (d .obeys) (obeys-one σ m t i v role role' (link-obeys (d .built) s v p was new));
+    moments = moments-then σ m₀ m xs (d .now) (write t i v ∷ []) role₀ role role' (λ x. once x (ℕ-discrete p x)) (d .moments) (moments-one t i v (d .built) (k .built));
+    unused = λ x e. old x e (ℕ-discrete p x);
+  }
+    where
+      i : ℕ
+      i = indexOf n va
+
+      role' : ℕ → Role
+      role' = set role p (table n t i)
+
+      s : Spot role t n i
+      s = comes-spot (d .built) (d .comes)
+
+      k : Keeps σ m (set m (at t i) v) role'
+      k = link (d .built) s v p was is new empty
+
+      once : (x : ℕ) → Dec (p ≡ x) → (role' x ≡ role x) ⊎ (role x ≡ role₀ x)
+      once x (yes e) = inr (ap role (sym e) ∙ new ∙ sym (d .unused p new) ∙ ap role₀ e)
+      once x (no e) = inl (set-other role p (table n t i) x e)
+
+      old : (x : ℕ) → role' x ≡ free → Dec (p ≡ x) → role₀ x ≡ free
+      old x h (yes e) = let f : table n t i ≡ free = sym (set-at role p (table n t i) x e) ∙ h in let z : _≡_ {A = ℕ} 0 1 = cc in absurd (omega arith)
+      old x h (no e) = d .unused x (sym (set-other role p (table n t i) x e) ∙ h)
 
   -- MAP, DONE: the page's entry is written where nothing is, last.
   pub map-done : {l q : ℕ} (v f : ℕ) (g : Rights) → Down σ m₀ role₀ va xs m role (suc l) q → entryAt m l q (indexOf l va) ≡ Nothing → says l v ≡ Page f g
@@ -117,6 +143,7 @@ module _ {σ : Setting} {m₀ : ℕ → ℕ} {role₀ : ℕ → Role} {va : ℕ}
         turns = record { built = t .built; in-range = t .in-range; elsewhere = λ vb far. t .elsewhere vb far ∙ d .same vb };
         filled = page-filled (d .built) s v f g is (d .filled);
         change = change-now σ m₀ m xs (d .now) q i v (d .quiet);
+        moments = moments-then σ m₀ m xs (d .now) (write q i v ∷ []) role₀ role role (λ p. inl refl) (d .moments) (moments-one q i v (d .built) (t .built));
         obeys = obeys-then σ m₀ m xs (d .now) (write q i v ∷ []) role₀ role role (d .obeys) (obeys-one σ m q i v role role (plain-obeys (d .built) s v (nothing-plain was)));
       }
 
@@ -143,10 +170,12 @@ pub protect-done : {σ : Setting} {m : ℕ → ℕ} {role : ℕ → Role} {va l 
 unfolding after
 protect-done {σ} {m} {role} {va} {l} {q} v f g g' k c was is =
     let s = comes-spot (k .built) c in
+    let t = change-rights (k .built) c v f g g' was is in
     record {
       now = refl;
-      turns = change-rights (k .built) c v f g g' was is;
+      turns = t;
       filled = page-filled (k .built) s v f g' is (λ p j r i h d. k .filled p j r i h);
       change = change-write σ m q (indexOf l va) v;
+      moments = moments-one q (indexOf l va) v (k .built) (t .built);
       obeys = obeys-one σ m q (indexOf l va) v role role (plain-obeys (k .built) s v (page-plain f g was));
     }

@@ -1,5 +1,4 @@
--- What one write makes of the invariant: a page or nothing over either, a table over nothing, nothing over an empty table; and what
--- happens where no walk comes.
+-- What one write makes of the invariant: a page or nothing over either, a table over nothing, nothing over an empty table.
 use Prim.Native.Nat.{ℕ, suc, _≤_, _<_}
 use mathlib.Core.Logic.{_≢_}
 use mathlib.Core.Path.{_≡_, refl, sym, ap, _∙_}

@@ -1,6 +1,6 @@
 -- One write of a word at an entry that walks read: which entries show it, which walks still come to their tables, and which addresses keep
 -- their meaning. The edits of Edits.antt are instances.
-use Prim.Native.Nat.{ℕ, zero, suc, _/_, _^_, _≤_, _<_}
+use Prim.Native.Nat.{ℕ, zero, suc, _^_, _≤_, _<_}
 use mathlib.Core.Bool.{true}
 use mathlib.Core.Logic.{_≢_}
 use mathlib.Core.Path.{_≡_, refl, sym, ap, ap₂, _∙_, subst, subst₂}
@@ -36,9 +36,6 @@ at-page q i r j u v e = omega arith
 
 at-index : (q i r j : ℕ) → i < 512 → j < 512 → at q i ≡ at r j → i ≡ j
 at-index q i r j u v e = omega arith
-
-pub page-of : (q i : ℕ) → i < 512 → at q i / 512 ≡ q
-page-of q i u = omega arith
 
 -- What an entry says, told apart -----------------------------------------------------------------------------------------------
 

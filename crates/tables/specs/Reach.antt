@@ -7,6 +7,7 @@ use native.Mathlib.Omega.{arith}
 use borrow.Author.Tests.{lt-ltb, le-ltb}
 use lib.Dec.{ltb}
 use Rattle.word.specs.Memory.{at}
+use Rattle.word.proofs.Writes.{page-of}
 use Rattle.entry.specs.Entry.{both, tableOf, everything}
 use Rattle.entry.specs.declared.Rights.{Rights}
 use Rattle.entry.specs.declared.Entry.{Entry}
@@ -20,7 +21,6 @@ use Rattle.walk.specs.declared.Place.the-variants.{Going, Ended}
 use Rattle.walk.proofs.Digits.{index-lt}
 use Rattle.tables.specs.Roles.{Setting, Role, left, Live, entryAt, Built, Bare}
 use Rattle.tables.specs.Way.{Comes, begin, onto}
-use Rattle.tables.specs.OneWrite.{page-of}
 
 -- a walk that has ended reads nothing
 reads-ended : (P : ℕ → Type 0) (h : ℕ → Bool) (m : ℕ → ℕ) (n va : ℕ) (f : Found) → Reads P h m n va (Ended f)

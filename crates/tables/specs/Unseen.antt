@@ -6,6 +6,7 @@ use mathlib.Core.Path.{_≡_, refl, sym, ap, _∙_, subst}
 use native.Mathlib.Decide.{ℕ-discrete}
 use native.Mathlib.Omega.{arith}
 use Rattle.word.specs.Memory.{set, at}
+use Rattle.word.proofs.Writes.{page-of}
 use Rattle.word.proofs.Set.{set-at, set-other}
 use Rattle.entry.specs.Entry.{says}
 use Rattle.entry.specs.Marks.{Marked}
@@ -16,7 +17,6 @@ use Rattle.walk.proofs.Frame.{Same, run-agrees}
 use Rattle.tables.specs.Roles.{Setting, Role, foreign, free, aside, book, root, table, left, Idle, Live, Built, Holds, Filled, Sound}
 use Rattle.tables.specs.Way.{Comes, begin, onto, comes-left}
 use Rattle.tables.specs.Meaning.{meaning}
-use Rattle.tables.specs.OneWrite.{page-of}
 use Rattle.tables.specs.Reach.{walk-reads-tables}
 
 -- what the words of all tables say is the same, at every level, and a 0 stays 0
@@ -110,7 +110,7 @@ module _ (role role' : ℕ → Role) (h : Shifted role role') where
       go (inl f) = sym f ∙ e
       go (inr k) = absurd (idle-not x n (k .1) e)
 
-  shift-built : {σ : Setting} {m : ℕ → ℕ} → Built σ m role → Built σ m role'
+  pub shift-built : {σ : Setting} {m : ℕ → ℕ} → Built σ m role → Built σ m role'
   shift-built b = record {
     home = λ p n. b .home p (λ e. n (shift-to p foreign (λ x. x) e));
     whole = λ p u v e. b .whole p u v (shift-from p foreign (λ x. x) e);

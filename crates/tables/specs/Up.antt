@@ -17,6 +17,7 @@ use Rattle.entry.proofs.Fields.{says-absent}
 use Rattle.walk.specs.Walk.{indexOf}
 use Rattle.walk.specs.declared.Found.the-variants as found
 use Rattle.walk.proofs.Digits.{index-lt}
+use Rattle.world.specs.Events.{All}
 use Rattle.world.specs.OneChange.{OneChange}
 use Rattle.tables.specs.Roles.{Setting, Role, table, unlinked, left, entryAt, Built, Holds, FilledBut, Sound, Bare}
 use Rattle.tables.specs.Way.{Comes, comes-left, comes-parent, onto-role}
@@ -24,7 +25,7 @@ use Rattle.tables.specs.OneWrite.{Spot, comes-spot, page-plain, other-pa
 use Rattle.tables.specs.Edits.{Keeps, Turns, clear-page, clear-filled, unlink, unlink-filled}
 use Rattle.tables.specs.Discipline.{walkerOf, ObeysOf, plain-obeys, unlink-obeys}
 use Rattle.tables.specs.Clearing.{eventsOf, Spare, Untouched, spare-untouched, untouched-holds}
-use Rattle.tables.specs.Operation.{Changed, after-then, after-write, change-then, obeys-then, quiet-one, obeys-one, change-write}
+use Rattle.tables.specs.Operation.{Moment, moments-one, moments-spare, moments-then, Changed, after-then, after-write, change-then, obeys-then, quiet-one, obeys-one, change-write}
 
 -- THE WAY UP. From m₀ on xs was written; the range of va at level l has lost its page, by one write; the walk of va comes to page t with
 -- suc k levels left; t, and it alone, may be empty. Above t all roles and words are as they were, and so is t but for one entry, which is 0.
@@ -35,6 +36,7 @@ pub record Up (σ : Setting) (m₀ : ℕ → ℕ) (role₀ : ℕ → Role) (va l
   pub comes : Comes σ m va (suc k) t
   pub filled : FilledBut m role t
   pub change : OneChange (walkerOf σ) m₀ (eventsOf xs)
+  pub moments : All m₀ (eventsOf xs) (Moment σ role₀ role)
   pub obeys : ObeysOf σ role₀ m₀ (eventsOf xs) role
   pub roles : (p : ℕ) → k < left (role₀ p) → role p ≡ role₀ p
   pub above : (p j : ℕ) → suc k < left (role₀ p) → j < 512 → m (at p j) ≡ m₀ (at p j)
@@ -52,13 +54,15 @@ pub up-start : {σ : Setting} {m : ℕ → ℕ} {role : ℕ → Role} {va l q : 
 unfolding after
 up-start {σ} {m} {role} {va} {l} {q} f g k c was =
     let s = comes-spot (k .built) c in
+    let t = clear-page (k .built) c f g was in
     record {
       first = k .built;
       now = refl;
-      turns = clear-page (k .built) c f g was;
+      turns = t;
       comes = comes-kept (k .built) s 0 (omega arith) c;
       filled = clear-filled (k .built) s (k .filled);
       change = change-write σ m q (indexOf l va) 0;
+      moments = moments-one q (indexOf l va) 0 (k .built) (t .built);
       obeys = obeys-one σ m q (indexOf l va) 0 role role (plain-obeys (k .built) s 0 (page-plain f g was));
       roles = λ p u. refl;
       above = λ p j u w. other-page (k .built) s 0 p j (λ e. omega (arith, s .live, ap (λ x. left (role x)) e)) w;
@@ -86,6 +90,8 @@ module _ {σ : Setting} {m₀ : ℕ → ℕ} {role₀ : ℕ → Role} {va l : �
     comes = comes-kept b s 0 (omega arith) (comes-parent b named (d .comes) .0);
     filled = unlink-filled b s t (d .filled);
     change = change-then σ m₀ m xs (d .now) (write r i 0 ∷ []) (d .change) (quiet-one σ m r i 0 (edit .same));
+    moments = moments-then σ m₀ m xs (d .now) (write r i 0 ∷ []) role₀ role (set role t unlinked) (λ p. once p (ℕ-discrete t p)) (d .moments)
+        (moments-one r i 0 b (edit .built));
     obeys = obeys-then σ m₀ m xs (d .now) (write r i 0 ∷ []) role₀ role (set role t unlinked) (d .obeys)
         (obeys-one σ m r i 0 role (set role t unlinked) (unlink-obeys b s 0 t names bare));
     roles = λ p u. set-other role t unlinked p (λ x. omega (arith, ap left was, ap (λ y. left (role₀ y)) x)) ∙ d .roles p (omega arith);
@@ -115,6 +121,10 @@ module _ {σ : Setting} {m₀ : ℕ → ℕ} {role₀ : ℕ → Role} {va l : �
       names : entryAt m (suc k) r i ≡ Table t everything
       names = b .up t (suc k) r i named .2
 
+      once : (p : ℕ) → Dec (t ≡ p) → (set role t unlinked p ≡ role p) ⊎ (role p ≡ role₀ p)
+      once p (yes x) = inr (ap role (sym x) ∙ named ∙ sym was ∙ ap role₀ x)
+      once p (no x) = inl (set-other role t unlinked p x)
+
       edit : Keeps σ m (set m (at r i) 0) (set role t unlinked)
       edit = unlink b s t names bare
 
@@ -131,6 +141,7 @@ module _ {σ : Setting} {m₀ : ℕ → ℕ} {role₀ : ℕ → Role} {va l : �
     comes = o .comes va (suc k) t (d .comes);
     filled = λ p j q i h x. untouched-holds o p j (ap left h) (d .filled p j q i h x);
     change = change-then σ m₀ m xs (d .now) ys (d .change) (o .quiet);
+    moments = moments-then σ m₀ m xs (d .now) ys role₀ role role (λ p. inl refl) (d .moments) (moments-spare o);
     obeys = obeys-then σ m₀ m xs (d .now) ys role₀ role role (d .obeys) (o .obeys);
     roles = d .roles;
     above = λ p j w v.
@@ -158,7 +169,7 @@ module _ {σ : Setting} {m₀ : ℕ → ℕ} {role₀ : ℕ → Role} {va l : �
 
   -- UNMAP, DONE: at a table that stays.
   pub unmap-done : {k t : ℕ} → Up σ m₀ role₀ va l xs m role k t → Stays m k t → Changed σ m₀ role₀ va l found.Nothing xs m role
-  unmap-done {k} {t} d e = record { now = d .now; turns = d .turns; filled = λ p j q i h. go p j q i h (ℕ-discrete p t) e; change = d .change; obeys = d .obeys }
+  unmap-done {k} {t} d e = record { now = d .now; turns = d .turns; filled = λ p j q i h. go p j q i h (ℕ-discrete p t) e; change = d .change; moments = d .moments; obeys = d .obeys }
     where
       level : (p j q i : ℕ) → role p ≡ table (suc j) q i → p ≡ t → k ≡ j
       level p j q i h x = omega (arith, comes-left (d .turns .built) (d .comes), ap (λ y. left (role y)) x, ap left h)

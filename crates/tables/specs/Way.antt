@@ -31,6 +31,16 @@ comes-near {va = va} {n} vb h (begin e f u) = begin e f (near-below n va vb (ome
 comes-near {m = m} {va} {n} {p} vb h (onto t g c e) =
     onto t g (comes-near vb (near-up n va vb h) c) (subst (λ i. entryAt m n t i ≡ Table p g) (same-index n va vb h) e)
 
+-- a walk comes to one table at each level
+pub comes-same : {σ : Setting} {m : ℕ → ℕ} {va n p r : ℕ} → Comes σ m va n p → Comes σ m va n r → p ≡ r
+comes-same (begin e f u) (begin e' f' u') = f ∙ sym f'
+comes-same (begin e f u) (onto t g c d) = absurd (omega (arith, comes-top c))
+comes-same (onto t g c d) (begin e f u) = absurd (omega (arith, comes-top c))
+comes-same {m = m} {va} {n} {p} {r} (onto t g c d) (onto t' g' c' d') =
+    let same : t ≡ t' = comes-same c c' in
+    let f : Table p g ≡ Table r g' = sym d ∙ ap (λ x. entryAt m n x (indexOf n va)) same ∙ d' in
+    cc
+
 module _ {σ : Setting} {m : ℕ → ℕ} {role : ℕ → Role} (b : Built σ m role) where
   -- the levels left are those of the page's role
   pub comes-left : {va n p : ℕ} → Comes σ m va n p → left (role p) ≡ n

@@ -29,8 +29,8 @@ use Rattle.tables.specs.Down.{down-start, down-step, down-link, map-done
 use Rattle.tables.specs.Up.{up-start, up-step, unmap-done}
 
 -- pages 16 to 23 are lent, and are the pool; the root is in page 17
-abbrev pub σ : Setting
-σ = record { window = λ p. leb 16 p && ltb p 24; lo = 16; hi = 24; cr3 = 4096 * 17 }
+abbrev pub setting : Setting
+setting = record { window = λ p. leb 16 p && ltb p 24; lo = 16; hi = 24; cr3 = 4096 * 17 }
 
 -- At first --------------------------------------------------------------------------------------------------------------------
 
@@ -60,27 +60,27 @@ role-cases x P a b c d = one (ltb x 16) refl
     one true h = a (λ u v. omega (arith, ltb-true x 16 h))
     one false h = two (ltb x 17) h refl
 
-at-home : (p : ℕ) → 16 ≤ p → p < 24 → Home σ p
+at-home : (p : ℕ) → 16 ≤ p → p < 24 → Home setting p
 at-home p u v = record { from = u; upto = v; held = rw (le-leb 16 p u, lt-ltb p 24 v) }
 
-at-first : Sound σ memory₀ roles₀
+at-first : Sound setting memory₀ roles₀
 at-first = fresh-sound memory₀ (record {
-  home = λ p. role-cases p (λ r. r ≢ foreign → Home σ p) (λ o n. absurd (n refl)) (λ h n. at-home p (omega arith) (omega arith))
+  home = λ p. role-cases p (λ r. r ≢ foreign → Home setting p) (λ o n. absurd (n refl)) (λ h n. at-home p (omega arith) (omega arith))
       (λ h n. at-home p (omega arith) (omega arith)) (λ u v n. at-home p (omega arith) v);
   whole = λ p u v. role-cases p (λ r. r ≢ foreign) (λ o. absurd (o u v)) (λ h e. let z : _≡_ {A = ℕ} 0 1 = cc in omega arith)
       (λ h e. let z : _≡_ {A = ℕ} 0 1 = cc in omega arith) (λ w x e. let z : _≡_ {A = ℕ} 0 1 = cc in omega arith);
   starts = root-there;
-  alone = λ p. role-cases p (λ r. r ≡ root → p ≡ tableOf (σ .cr3)) (λ o e. let z : _≡_ {A = ℕ} 0 1 = cc in absurd (omega arith))
+  alone = λ p. role-cases p (λ r. r ≡ root → p ≡ tableOf (setting .cr3)) (λ o e. let z : _≡_ {A = ℕ} 0 1 = cc in absurd (omega arith))
       (λ h e. let z : _≡_ {A = ℕ} 0 1 = cc in absurd (omega arith)) (λ h e. h ∙ sym root-page) (λ u v e. let z : _≡_ {A = ℕ} 0 1 = cc in absurd (omega arith));
   bare = λ p l q i. role-cases p (λ r. r ≢ table l q i) (λ o e. let z : _≡_ {A = ℕ} 0 1 = cc in omega arith)
       (λ h e. let z : _≡_ {A = ℕ} 0 1 = cc in omega arith) (λ h e. let z : _≡_ {A = ℕ} 0 1 = cc in omega arith)
       (λ u v e. let z : _≡_ {A = ℕ} 0 1 = cc in omega arith);
 }) (λ j u. refl)
   where
-    root-page : tableOf (σ .cr3) ≡ 17
+    root-page : tableOf (setting .cr3) ≡ 17
     root-page = unfold tableOf in refl
 
-    root-there : roles₀ (tableOf (σ .cr3)) ≡ root
+    root-there : roles₀ (tableOf (setting .cr3)) ≡ root
     root-there = unfold tableOf roles₀ in refl
 
 -- a page whose words are 0, after a write into another
@@ -128,7 +128,7 @@ r₂ = set r₁ 19 (table 2 18 2)
 abbrev r₃ : ℕ → Role
 r₃ = set r₂ 20 (table 1 19 3)
 
-with-small : Sound σ m₄ r₃
+with-small : Sound setting m₄ r₃
 unfolding set ℕ-discrete indexOf sizeOf tableOf roles₀
 with-small =
     let d₀ = down-start {va = small} at-first (comes-root (omega arith)) in
@@ -173,7 +173,7 @@ zero-21 =
 gone-page : says 0 (pageWord 0 413696 everything) ≡ Page 413696 everything
 gone-page = page-word-says 0 413696 everything (record { level = omega arith; aligned = unfold sizeOf in refl; below = omega arith })
 
-with-gone : Sound σ m₆ r₄
+with-gone : Sound setting m₆ r₄
 unfolding set ℕ-discrete indexOf sizeOf tableOf roles₀
 with-gone =
     let d₀ = down-start {va = gone} with-small (comes-root (omega arith)) in
@@ -182,10 +182,10 @@ with-gone =
     let d₃ = down-link (tableWord 21) 21 d₂ (nothing-says 1) (table-says 1 21 (omega arith) (omega arith)) refl zero-21 in
     changed-sound (map-done (pageWord 0 413696 everything) 413696 everything d₃ (nothing-says 0) gone-page (inr (omega arith)))
 
-with-aside : Sound σ m₈ r₅
+with-aside : Sound setting m₈ r₅
 unfolding set ℕ-discrete indexOf sizeOf tableOf roles₀
 with-aside =
-    let c₃ = onto 17 everything (comes-root {σ = σ} {m = m₆} {va = gone} (omega arith)) (table-says 3 18 (omega arith) (omega arith)) in
+    let c₃ = onto 17 everything (comes-root {σ = setting} {m = m₆} {va = gone} (omega arith)) (table-says 3 18 (omega arith) (omega arith)) in
     let c₂ = onto 18 everything c₃ (table-says 2 19 (omega arith) (omega arith)) in
     let c₁ = onto 19 everything c₂ (table-says 1 21 (omega arith) (omega arith)) in
     let u₀ = up-start 413696 everything with-gone c₁ gone-page in
@@ -214,7 +214,7 @@ memory = set m₉ (at 18 7) (pageWord 2 1073741824 everything)
 abbrev pub roles : ℕ → Role
 roles = r₅
 
-with-middle : Sound σ m₉ r₅
+with-middle : Sound setting m₉ r₅
 unfolding set ℕ-discrete indexOf sizeOf tableOf roles₀
 with-middle =
     let d₀ = down-start {va = middle} with-aside (comes-root (omega arith)) in
@@ -223,7 +223,7 @@ with-middle =
     changed-sound (map-done (pageWord 1 2097152 readOnly) 2097152 readOnly d₂ (nothing-says 1)
     (page-word-says 1 2097152 readOnly (record { level = omega arith; aligned = refl; below = omega arith })) (inr (omega arith)))
 
-pub witness : Sound σ memory roles
+pub witness : Sound setting memory roles
 unfolding set ℕ-discrete indexOf sizeOf tableOf roles₀
 witness =
     let d₀ = down-start {va = large} with-middle (comes-root (omega arith)) in
@@ -237,8 +237,8 @@ pub witness-roles : (roles 15 ≡ foreign) × (roles 16 ≡ book) × (roles 17 �
 unfolding set ℕ-discrete roles₀
 witness-roles = (refl, refl, refl, refl, refl, refl, refl, refl, refl, refl)
 
-pub witness-means : (meaning σ memory (small + 17) ≡ found.Page small 4096 409600 everything) × (meaning σ memory gone ≡ found.Nothing)
-    × (meaning σ memory (middle + 4097) ≡ found.Page middle 2097152 2097152 readOnly) × (meaning σ memory (large + 2 ^ 29) ≡ found.Page large 1073741824 1073741824 everything)
-    × (meaning σ memory (2 ^ 48 + small) ≡ found.Nothing)
+pub witness-means : (meaning setting memory (small + 17) ≡ found.Page small 4096 409600 everything) × (meaning setting memory gone ≡ found.Nothing)
+    × (meaning setting memory (middle + 4097) ≡ found.Page middle 2097152 2097152 readOnly) × (meaning setting memory (large + 2 ^ 29) ≡ found.Page large 1073741824 1073741824 everything)
+    × (meaning setting memory (2 ^ 48 + small) ≡ found.Nothing)
 unfolding walk start run stepOf entered foundOf baseOf indexOf says presentOf largeOf padded frameOf rightsOf tableOf bit both sizeOf pageWord tableWord flag largeFlag set ℕ-discrete
 witness-means = (refl, refl, refl, refl, refl)
