@@ -4,3 +4,4 @@ pub mod Shapes
 pub mod Standing
 pub mod Carrying
 pub mod Keeping
+pub mod Trace

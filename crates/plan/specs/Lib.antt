@@ -3,3 +3,4 @@ pub mod Find
 pub mod Protect
 pub mod Map
 pub mod Unmap
+pub mod Whole
