@@ -1,26 +1,22 @@
 -- THE BOOK AND THE ROLES: each change of the book keeps it true, with the roles that the change makes.
-use Prim.Native.Nat.{ℕ, zero, suc, _+_, _-_, _*_, _/_, _%_, _^_, _<_, _≤_}
-use mathlib.Core.Bool.{Bool, true, false, cond, _&&_}
-use mathlib.Core.List.{List, [], _∷_}
+use Prim.Native.Nat.{ℕ, _+_, _/_, _%_, _<_, _≤_}
+use mathlib.Core.List.{List, _∷_}
 use mathlib.Core.Logic.{_⊎_, inl, inr, _≢_}
-use mathlib.Core.Path.{_≡_, refl, sym, ap, _∙_, subst}
-use native.Mathlib.Decide.{ℕ-discrete}
+use mathlib.Core.Path.{_≡_, sym, ap, _∙_, subst}
 use native.Mathlib.Omega.{arith}
-use borrow.Author.Tests.{le-leb}
-use lib.Dec.{leb}
 use Rattle.word.specs.Memory.{set, at}
 use Rattle.word.specs.Writes.{Write, after}
 use Rattle.word.proofs.Set.{set-same, set-other}
 use Rattle.word.proofs.Writes.{Every, every-map, after-other}
-use Rattle.tables.specs.Roles.{Role, foreign, free, aside, book, root, table}
+use Rattle.tables.specs.Roles.{Role, free, aside, book}
 use Rattle.pool.specs.declared.Space.{Space}
 use Rattle.pool.specs.declared.Book.{Book}
-use Rattle.pool.specs.Book.{bookPages, wordOf, mark, bookOf, spotOf, pageAt, soundOf, Sound}
-use Rattle.pool.specs.Changes.{put, tookWrites, asideWrites, releaseWrites}
-use Rattle.pool.specs.Booked.{Lists, Booked, Taken, thawed, released}
+use Rattle.pool.specs.Book.{bookPages, wordOf, mark, bookOf, spotOf, pageAt, Sound}
+use Rattle.pool.specs.Changes.{put}
+use Rattle.pool.specs.Booked.{Lists, Booked}
 use Rattle.pool.proofs.Far.{word-at}
-use Rattle.pool.proofs.Counts.{is-sound, spot-in, spot-more, spot-once}
-use Rattle.pool.proofs.Lists.{lists-same, lists-taken, lists-aside, lists-thawed, thawed-stays}
+use Rattle.pool.proofs.Counts.{spot-in}
+use Rattle.pool.proofs.Lists.{lists-same}
 
 -- The words of a book ------------------------------------------------------------------------------------------------------------
 
@@ -75,4 +71,11 @@ pub made : {sp : Space} (m : ℕ → ℕ) {role : ℕ → Role} (n : Book) → b
     → Sound (sp .pages) n → Lists (pageAt m sp) (n .free) (n .aside) role
     → ((p : ℕ) → sp .first ≤ p → p < sp .first + bookPages (sp .pages) → role p ≡ book)
     → ((p : ℕ) → role p ≡ book → (sp .first ≤ p) × (p < sp .first + bookPages (sp .pages))) → Booked sp m role
-made {sp} m {role} n e a b s l i o = record { marked = a; sized = b; sound = subst (λ (x : Book). Sound (sp .pages) x) (sym e) s; lists = subst (λ (x : Book). Lists (pageAt m sp) (x .free) (x .aside) role) (sym e) l; in-book = i; no-other = o }
+made {sp} m {role} n e a b s l i o = record {
+  marked = a;
+  sized = b;
+  sound = subst (λ (x : Book). Sound (sp .pages) x) (sym e) s;
+  lists = subst (λ (x : Book). Lists (pageAt m sp) (x .free) (x .aside) role) (sym e) l;
+  in-book = i;
+  no-other = o;
+}

@@ -2,7 +2,7 @@
 use Prim.Native.Nat.{ℕ, _+_, _-_, _*_, _/_, _%_, _^_, _<_, _≤_}
 use mathlib.Core.Bool.{Bool, true, false, false≢true, cond, _&&_}
 use mathlib.Core.List.{List}
-use mathlib.Core.Path.{_≡_, refl, sym, ap, _∙_}
+use mathlib.Core.Path.{_≡_, refl, sym, _∙_}
 use native.Mathlib.Omega.{arith}
 use borrow.Author.Tests.{lt-ltb, le-ltb}
 use lib.Dec.{ltb}
@@ -23,11 +23,7 @@ written-far s origin p i w h = rw (far s origin p h) (sym (none (ltb i 512)))
     none true = refl
     none false = refl
 
--- what a read of an entry answered, in either case, by the page's being held
-pub read-held : (s : List ℕ) (origin p i : ℕ) → i < 512 → holds s origin p ≡ true → readOf s origin p i ≡ cell.Word (memory s origin (at p i))
-unfolding readOf
-read-held s origin p i u h = simp (lt-ltb i 512 u, h)
-
+-- a word that was read, of a page that is held
 pub read-is : (s : List ℕ) (origin p i w : ℕ) → i < 512 → readOf s origin p i ≡ cell.Word w → holds s origin p ≡ true → w ≡ memory s origin (512 * p + i)
 read-is s origin p i w u e h = sym (read-word s origin p i u w e .1)
 

@@ -1,6 +1,6 @@
 -- The loop that fills the slots.
 use Prim.Native.Nat.{ℕ, _+_, _/_, _%_}
-use mathlib.Core.List.{List, [], _∷_, _++_}
+use mathlib.Core.List.{List, [], _∷_}
 use mathlib.Core.Path.{_≡_, refl, sym, _∙_}
 use native.Mathlib.Numerals.{add-one}
 use Rattle.word.specs.Memory.{written}
@@ -22,7 +22,10 @@ fills-next s sp from n = rw add-one (sym (carried-append s (sp .origin) (fills s
 
 -- the parts of a layout, one after the other
 pub laid-out : (s : List ℕ) (sp : Space)
-    → written (carried (carried (carried s (sp .origin) (fills sp (sp .root + 1) (newFree sp))) (sp .origin) (counts sp (newFree sp))) (sp .origin) (zeros (sp .root) 512)) (sp .origin) (sp .first + 0 / 512) (0 % 512) mark ≡ carried s (sp .origin) (layOut sp)
+    → written
+    (carried (carried (carried s (sp .origin) (fills sp (sp .root + 1) (newFree sp))) (sp .origin) (counts sp (newFree sp))) (sp .origin) (zeros (sp .root) 512))
+    (sp .origin) (sp .first + 0 / 512) (0 % 512) mark
+    ≡ carried s (sp .origin) (layOut sp)
 unfolding layOut carried
 laid-out s sp =
     sym

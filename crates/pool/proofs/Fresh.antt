@@ -1,32 +1,26 @@
 -- A NEW POOL: what `create` writes makes a true book, an empty root, and every other page free.
-use Prim.Native.Nat.{ℕ, zero, suc, _+_, _-_, _*_, _/_, _%_, _^_, _<_, _≤_}
-use mathlib.Core.Bool.{Bool, true, false}
-use mathlib.Core.List.{List, [], _∷_, _++_, append-assoc}
-use mathlib.Core.Logic.{_⊎_, inl, inr, _≢_}
-use mathlib.Core.Path.{_≡_, refl, sym, ap, _∙_}
+use Prim.Native.Nat.{ℕ, zero, suc, _+_, _-_, _/_, _%_, _<_, _≤_}
+use mathlib.Core.List.{[], _∷_, _++_}
+use mathlib.Core.Logic.{_≢_}
+use mathlib.Core.Path.{_≡_, ap, _∙_}
 use native.Mathlib.Decide.{ℕ-discrete}
 use native.Mathlib.Nat.{add-zero}
 use native.Mathlib.Omega.{arith}
-use Rattle.word.specs.Memory.{set, at, memory, holds}
-use Rattle.word.specs.Writes.{Write, after, carried, zeros}
-use Rattle.word.proofs.Set.{set-same, set-other}
-use Rattle.word.proofs.Writes.{Every, every-append, every-map, every-zeros, after-append, after-other, after-zeros, memory-carried}
-use Rattle.tables.specs.Roles.{Role, free, aside, book, Zero}
-use Rattle.tables.specs.Roles as tables
+use Rattle.word.specs.Memory.{set, at}
+use Rattle.word.specs.Writes.{after, zeros}
+use Rattle.word.proofs.Writes.{every-map, every-zeros, after-append, after-other, after-zeros}
+use Rattle.tables.specs.Roles.{free, aside, Zero}
 use Rattle.pool.specs.declared.Space.{Space}
 use Rattle.pool.specs.declared.Book.{Book}
-use Rattle.pool.specs.declared.Fit.the-variants as fit
-use Rattle.pool.specs.declared.Created.the-variants as created
-use Rattle.pool.specs.Book.{bookPages, wordOf, mark, bookOf, spotOf, pageAt, Sound}
+use Rattle.pool.specs.Book.{bookPages, wordOf, mark, bookOf, spotOf, pageAt}
 use Rattle.pool.specs.Changes.{put}
-use Rattle.pool.specs.Create.{mayCreate, newSpace, fills, counts, newFree, layOut, Roomy, createdOf, createdIn, createWrites, createIn}
-use Rattle.pool.specs.Booked.{settingOf, Lists, Booked, newRole}
+use Rattle.pool.specs.Create.{fills, counts, newFree, layOut, Roomy}
+use Rattle.pool.specs.Booked.{Lists, Booked, newRole}
 use Rattle.pool.proofs.Far.{word-at}
 use Rattle.pool.proofs.Counts.{spot-ahead}
-use Rattle.pool.proofs.Opening.{Fitting, may-fit, fit-small, fit-inside, roomy}
 use Rattle.pool.proofs.Booked.{after-put, word-same, word-other, made}
-use Rattle.pool.proofs.Proper.{OfBook, mark-proper}
-use Rattle.pool.proofs.NewRoles.{New, new-book, new-free, book-lies, free-lies, never-aside, new-sound}
+use Rattle.pool.proofs.Proper.{mark-proper}
+use Rattle.pool.proofs.NewRoles.{New, new-book, new-free, book-lies, free-lies, never-aside}
 
 -- Words after a list of writes to the book -------------------------------------------------------------------------------------
 

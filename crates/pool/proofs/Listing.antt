@@ -1,21 +1,23 @@
 -- What `free_page` answers: for any bytes a page of the pool that is neither the book's nor the root; of a true book, the page listed.
-use Prim.Native.Nat.{ℕ, _+_, _-_, _*_, _/_, _^_, _<_, _≤_}
+use Prim.Native.Nat.{ℕ, _+_, _/_, _<_, _≤_}
 use mathlib.Core.Bool.{Bool, true, false, cond, _&&_, not}
 use mathlib.Core.Logic.{_≢_}
-use mathlib.Core.Path.{_≡_, refl, sym, ap, _∙_, subst}
+use mathlib.Core.Path.{_≡_, refl, ap, _∙_, subst}
 use native.Mathlib.Decide.{decLe}
 use native.Mathlib.Omega.{arith}
 use borrow.Author.Tests.{lt-ltb, eqb-false, ne-eqb, not-true}
 use lib.Dec.{eqb, ltb}
 use Rattle.word.proofs.Tests.{and-both}
-use Rattle.tables.specs.Roles.{Role, foreign, free, book, root}
+use Rattle.tables.specs.Roles.{Role, free, book, root}
 use Rattle.pool.specs.declared.Space.{Space}
 use Rattle.pool.specs.declared.Book.{Book}
 use Rattle.pool.specs.declared.Listed.{Listed}
 use Rattle.pool.specs.declared.Listed.the-variants.{Page, Bad}
-use Rattle.pool.specs.Book.{bookPages, wordOf, bookOf, spotOf, pageAt, inPool, soundOf, usableOf, namedOf, listedOf}
+use Rattle.pool.specs.Book.{bookPages, wordOf, bookOf, spotOf, pageAt, inPool, soundOf, openedOf, usableOf, namedOf, listedOf}
 use Rattle.pool.specs.Booked.{Booked}
 use Rattle.pool.proofs.Counts.{InPool, pool-in, in-pool, is-sound, spot-in, slot-page}
+use Rattle.pool.specs.declared.Opened.the-variants as opened
+use Rattle.pool.proofs.Opening.{Fitting, opens}
 use Rattle.pool.proofs.Pages.{Owned}
 
 -- a page for tables
@@ -40,7 +42,7 @@ listed-usable h m sp b k p e =
     let g = page-yes (not (eqb (m (wordOf sp w)) (sp .root)) && inPool sp (m (wordOf sp w))) _ p (d .1) in
     let t = and-both _ _ (g .0) in
     let same = same-page (m (wordOf sp w)) p (g .1) in
-    let u : Usable sp (m (wordOf sp w)) = record { in-the-pool = pool-in sp (m (wordOf sp w)) (t .1); no-root = eqb-false (m (wordOf sp w)) (sp .root) (not-true (eqb (m (wordOf sp w)) (sp .root)) (t .0)) } in
+    let u : Usable sp (m (wordOf sp w)) = record { in-the-pool = pool-in sp (m (wordOf sp w)) (t .1); no-root = eqb-false _ _ (not-true _ (t .0)) } in
     subst (Usable sp) same u
 
 module _ {sp : Space} {m : ℕ → ℕ} {role : ℕ → Role} (b : Booked sp m role) (o : Owned sp role) where
@@ -58,14 +60,35 @@ module _ {sp : Space} {m : ℕ → ℕ} {role : ℕ → Role} (b : Booked sp m r
       go (yes d) = d
       go (no d) = let f : role p ≡ book = b .in-book p (k .0) (omega arith) in let z : _≡_ {A = ℕ} 0 1 = cc in absurd (omega arith)
 
+  -- the root, too, lies behind the book
+  pub root-behind : InPool sp (sp .root)
+  root-behind = record { behind = go (decLe (sp .first + bookPages (sp .pages)) (sp .root)); before-end = k .1 }
+    where
+      k : (sp .first ≤ sp .root) × (sp .root < sp .first + sp .pages)
+      k = o .home (sp .root) (λ x. let e = o .starts in let z : _≡_ {A = ℕ} 0 1 = cc in omega arith)
+
+      go : Dec (sp .first + bookPages (sp .pages) ≤ sp .root) → sp .first + bookPages (sp .pages) ≤ sp .root
+      go (yes d) = d
+      go (no d) =
+          let f : role (sp .root) ≡ book = b .in-book (sp .root) (k .0) (omega arith) in
+          let e = o .starts in
+          let z : _≡_ {A = ℕ} 0 1 = cc in
+          absurd (omega arith)
+
+  -- A TRUE BOOK IS OPENED, with its counts
+  pub booked-opens : (h : ℕ → Bool) → Fitting h (sp .first) (sp .pages) → openedOf h m sp ≡ opened.Book (bookOf m sp)
+  booked-opens h f = opens h m sp f root-behind (b .marked) (b .sized) (b .sound)
+
   -- OF A TRUE BOOK: the free page at that position
   pub listed-free : (h : ℕ → Bool) → ((p : ℕ) → sp .first ≤ p → p < sp .first + sp .pages → h p ≡ true) → (k : ℕ) → k < bookOf m sp .free
       → listedOf h m sp (bookOf m sp) k ≡ Page (pageAt m sp k)
   unfolding listedOf namedOf usableOf pageAt
   listed-free h w k u =
-      let p = m (wordOf sp (8 + spotOf (sp .pages) (bookOf m sp .head) k)) in
-      let x = free-usable p (b .lists .frees k u) in
-      simp (lt-ltb k (bookOf m sp .free) u, is-sound (sp .pages) (bookOf m sp) (b .sound), w (sp .first + (8 + spotOf (sp .pages) (bookOf m sp .head) k) / 512) (omega arith) (inside (spotOf (sp .pages) (bookOf m sp .head) k) (spot-in (sp .pages) (bookOf m sp .head) k (b .sound .head-in) (omega (arith, b .sound .room)))), ne-eqb p (sp .root) (x .no-root), in-pool sp p (x .in-the-pool))
+      let j = spotOf (sp .pages) (bookOf m sp .head) k in
+      let x = free-usable (m (wordOf sp (8 + j))) (b .lists .frees k u) in
+      simp (lt-ltb k (bookOf m sp .free) u, is-sound (sp .pages) (bookOf m sp) (b .sound))
+      (simp (held j (spot-in (sp .pages) (bookOf m sp .head) k (b .sound .head-in) (omega (arith, b .sound .room))), ne-eqb _ _ (x .no-root), in-pool sp _ (x .in-the-pool)))
     where
-      inside : (j : ℕ) → j < sp .pages → sp .first + (8 + j) / 512 < sp .first + sp .pages
-      inside j v = omega (arith, b .sound .room, slot-page (sp .pages) j v)
+      -- the page of a slot
+      held : (j : ℕ) → j < sp .pages → h (sp .first + (8 + j) / 512) ≡ true
+      held j v = w (sp .first + (8 + j) / 512) (omega arith) (omega (arith, b .sound .room, slot-page (sp .pages) j v))

@@ -6,7 +6,7 @@ use native.Mathlib.Decide.{ℕ-discrete, decLt}
 use native.Mathlib.Omega.{arith}
 use Rattle.word.specs.Memory.{set}
 use Rattle.word.proofs.Set.{set-at, set-other}
-use Rattle.tables.specs.Roles.{Role, foreign, free, aside, book, root, table, Idle}
+use Rattle.tables.specs.Roles.{Role, free, aside, table, Idle}
 use Rattle.tables.specs.Unseen.{Shifted}
 use Rattle.pool.specs.Booked.{Lists, Taken, thawed}
 

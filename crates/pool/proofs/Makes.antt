@@ -1,10 +1,9 @@
 -- CREATE ESTABLISHES THE INVARIANT, for any bytes; and there is a pool for which it does.
-use Prim.Native.Nat.{ℕ, zero, suc, _+_, _-_, _*_, _^_, _<_, _≤_}
-use mathlib.Core.Bool.{Bool, true, false}
-use mathlib.Core.List.{List, [], _∷_, _++_}
-use mathlib.Core.Path.{_≡_, refl, sym, ap, _∙_}
+use Prim.Native.Nat.{ℕ, _+_, _<_, _≤_}
+use mathlib.Core.Bool.{true}
+use mathlib.Core.List.{List, [], _∷_}
+use mathlib.Core.Path.{_≡_, refl}
 use native.Mathlib.Omega.{arith}
-use borrow.Author.Tests.{le-leb, lt-ltb}
 use lib.ListN.{length, replicate, length-replicate}
 use Rattle.word.specs.Memory.{memory, holds}
 use Rattle.word.specs.Writes.{Write, after, carried, zeros}

@@ -1,20 +1,16 @@
 -- The roles of a new pool, and that tables with these roles are built: the root is empty, and there is no other table.
-use Prim.Native.Nat.{ℕ, zero, suc, _+_, _-_, _*_, _^_, _<_, _≤_}
-use mathlib.Core.Bool.{Bool, true, false, cond, _&&_}
+use Prim.Native.Nat.{ℕ, _+_, _^_, _<_, _≤_}
+use mathlib.Core.Bool.{Bool, true}
 use mathlib.Core.Logic.{_≢_}
-use mathlib.Core.Path.{_≡_, refl, sym, ap, _∙_}
+use mathlib.Core.Path.{_≡_, refl, sym, _∙_}
 use native.Mathlib.Decide.{decLe, decLt, ℕ-discrete}
 use native.Mathlib.Omega.{arith}
 use borrow.Author.Tests.{le-leb, lt-leb, lt-ltb, le-ltb, eq-eqb, ne-eqb}
-use Rattle.word.specs.Memory.{at}
-use Rattle.entry.specs.Entry.{tableOf}
-use Rattle.entry.specs.declared.Entry.{Entry}
-use Rattle.entry.specs.declared.Entry.the-variants.{Nothing, Page, Table}
-use Rattle.tables.specs.Roles.{Setting, Role, foreign, free, aside, book, root, table, left, Live, entryAt, Home, Built, Filled, Sound, Zero}
-use Rattle.tables.specs.Kept.{zero-bare}
+use Rattle.tables.specs.Roles.{Role, foreign, free, aside, book, root, table, Sound, Zero}
+use Rattle.tables.specs.Start.{Fresh, fresh-sound}
 use Rattle.pool.specs.declared.Space.{Space}
 use Rattle.pool.specs.Book.{bookPages}
-use Rattle.pool.specs.Booked.{settingOf, newRole, Lists}
+use Rattle.pool.specs.Booked.{settingOf, newRole}
 use Rattle.pool.proofs.Pages.{root-page}
 
 -- the root is the page behind the book, and there is a page behind it
@@ -112,16 +108,6 @@ module _ {sp : Space} (n : New sp) where
       go r (beyond x y) e = let z : _≡_ {A = ℕ} 0 1 = cc in omega arith
       go r (out x) e = let z : _≡_ {A = ℕ} 0 1 = cc in omega arith
 
-  -- only the root is walked
-  only-root : (q l : ℕ) → Live (newRole sp) q l → q ≡ sp .root
-  only-root q l e = go (newRole sp q) (lies q) e
-    where
-      go : (r : Role) → Lies sp q r → left r ≡ suc l → q ≡ sp .root
-      go r (in-book x y) e = absurd (omega arith)
-      go r (at-root x) e = x
-      go r (beyond x y) e = absurd (omega arith)
-      go r (out x) e = absurd (omega arith)
-
   in-pool : (p : ℕ) → newRole sp p ≢ foreign → (sp .first ≤ p) × (p < sp .first + sp .pages)
   in-pool p d = go (newRole sp p) (lies p) d
     where
@@ -141,28 +127,24 @@ module _ {sp : Space} (n : New sp) where
       go r (out x) e = x (u, v)
 
   root-lies : (p : ℕ) → newRole sp p ≡ root → p ≡ sp .root
-  root-lies p e = only-root p 3 (ap left e)
+  root-lies p e = go (newRole sp p) (lies p) e
+    where
+      go : (r : Role) → Lies sp p r → r ≡ root → p ≡ sp .root
+      go r (in-book x y) e = let z : _≡_ {A = ℕ} 0 1 = cc in absurd (omega arith)
+      go r (at-root x) e = x
+      go r (beyond x y) e = let z : _≡_ {A = ℕ} 0 1 = cc in absurd (omega arith)
+      go r (out x) e = let z : _≡_ {A = ℕ} 0 1 = cc in absurd (omega arith)
 
   -- TABLES OF A NEW POOL ARE BUILT, if its pages lie in the window and the root's words are 0
   pub new-sound : (h : ℕ → Bool) (m : ℕ → ℕ) → sp .root < 2 ^ 40 → ((p : ℕ) → sp .first ≤ p → p < sp .first + sp .pages → h p ≡ true) → Zero m (sp .root)
       → Sound (settingOf h sp) m (newRole sp)
-  new-sound h m low w z = record {
-    built = record {
-      home = λ p d. let k = in-pool p d in record { from = k .0; upto = k .1; held = w p (k .0) (k .1) };
-      whole = not-foreign;
-      starts = rw (root-page (sp .root) low) new-root;
-      alone = λ p e. rw (root-page (sp .root) low) (root-lies p e);
-      down = λ q l i t g a u e. let f = nothing q l i a u in let y : _≡_ {A = ℕ} 0 1 = cc in absurd (omega arith);
-      up = λ p l q i e. absurd (never-table p l q i e);
-      low = λ p l q i e. absurd (never-table p l q i e);
-      zeros = λ q l i a u e. zero q l i a u;
-      apart = λ q l i f g a u e. let k = nothing q l i a u in let y : _≡_ {A = ℕ} 0 1 = cc in absurd (omega arith);
-    };
-    filled = λ p l q i e. absurd (never-table p (suc l) q i e);
-  }
+  new-sound h m low w z = fresh-sound m fresh (rw (root-page (sp .root) low) z)
     where
-      zero : (q l i : ℕ) → Live (newRole sp) q l → i < 512 → m (at q i) ≡ 0
-      zero q l i a u = ap (λ x. m (at x i)) (only-root q l a) ∙ z i u
-
-      nothing : (q l i : ℕ) → Live (newRole sp) q l → i < 512 → entryAt m l q i ≡ Nothing
-      nothing q l i a u = ap (λ x. entryAt m l x i) (only-root q l a) ∙ zero-bare m (suc l) (sp .root) z l i refl u
+      fresh : Fresh (settingOf h sp) (newRole sp)
+      fresh = record {
+        home = λ p d. let k = in-pool p d in record { from = k .0; upto = k .1; held = w p (k .0) (k .1) };
+        whole = not-foreign;
+        starts = rw (root-page (sp .root) low) new-root;
+        alone = λ p e. rw (root-page (sp .root) low) (root-lies p e);
+        bare = never-table;
+      }

@@ -5,7 +5,7 @@ use mathlib.Core.List.{List}
 use mathlib.Core.Path.{_≡_, refl, sym, ap, _∙_, subst}
 use native.Mathlib.Omega.{arith}
 use lib.Dec.{leb, eqb}
-use Rattle.word.specs.Memory.{at, memory, holds, readOf}
+use Rattle.word.specs.Memory.{memory, holds, readOf}
 use Rattle.word.specs.declared.Cell.the-variants as cell
 use Rattle.word.proofs.Memory.{read-word, read-outside, held}
 use Rattle.word.proofs.Tests.{and-both}
@@ -13,7 +13,7 @@ use Rattle.pool.specs.declared.Space.{Space}
 use Rattle.pool.specs.declared.Fit.{Fit}
 use Rattle.pool.specs.declared.Fit.the-variants as fit
 use Rattle.pool.specs.declared.Reason.{Reason}
-use Rattle.pool.specs.declared.Listed.the-variants.{Page, Bad}
+use Rattle.pool.specs.declared.Listed.the-variants.{Bad}
 use Rattle.pool.specs.Book.{bookPages, wordOf, mark, bookOf, roomOf, inPool, soundOf, Sound, openedOf, openedIn, headerOf, checkedOf, namedOf, usableOf}
 use Rattle.pool.specs.Create.{mayCreate, newSpace, Roomy}
 use Rattle.pool.proofs.Far.{word-at}

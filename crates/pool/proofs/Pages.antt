@@ -1,22 +1,15 @@
 -- NO PAGE IS LOST: what is free, set aside, table, root and book is all of the pool, always.
-use Prim.Native.Nat.{ℕ, zero, suc, _+_, _-_, _*_, _/_, _%_, _^_, _<_, _≤_}
-use mathlib.Core.Bool.{Bool, true, false, false≢true}
-use mathlib.Core.List.{List, [], _∷_}
-use mathlib.Core.Logic.{_⊎_, inl, inr, _≢_}
-use mathlib.Core.Path.{_≡_, refl, sym, ap, _∙_, subst}
-use native.Mathlib.Decide.{ℕ-discrete, decLt}
+use Prim.Native.Nat.{ℕ, _+_, _-_, _*_, _^_, _<_, _≤_}
+use mathlib.Core.Bool.{Bool, true, false≢true}
+use mathlib.Core.Logic.{_≢_}
+use mathlib.Core.Path.{_≡_, refl, sym, ap, _∙_}
 use native.Mathlib.Omega.{arith}
-use borrow.Author.Tests.{le-leb}
-use Rattle.word.specs.Memory.{set}
-use Rattle.word.specs.Writes.{after}
-use Rattle.word.proofs.Set.{set-at, set-other}
 use Rattle.tables.specs.Roles.{Role, foreign, free, aside, book, root, table}
 use Rattle.pool.specs.declared.Space.{Space}
-use Rattle.pool.specs.declared.Book.{Book}
-use Rattle.pool.specs.Book.{bookPages, wordOf, bookOf, spotOf, pageAt, soundOf, Sound}
-use Rattle.tables.specs.Roles.{Setting, Built}
+use Rattle.pool.specs.Book.{bookPages, bookOf, pageAt}
+use Rattle.tables.specs.Roles.{Built}
 use Rattle.entry.specs.Entry.{tableOf}
-use Rattle.pool.specs.Booked.{settingOf, Booked, tablesOf, howMany, isFree, isAside, isBook, isRoot, isTable}
+use Rattle.pool.specs.Booked.{settingOf, Booked, tablesOf, howMany, isFree, isAside, isBook, isRoot}
 use Rattle.pool.proofs.Census.{Names, names-count, census}
 
 -- The pages of the pool, and no others, have roles here, and the root is one of them.

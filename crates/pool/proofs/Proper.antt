@@ -1,20 +1,20 @@
 -- Where a change of the book writes: words of 64 bits, to pages of the book and nowhere else. For any counts.
-use Prim.Native.Nat.{ℕ, zero, suc, _+_, _-_, _*_, _/_, _%_, _^_, _<_, _≤_}
+use Prim.Native.Nat.{ℕ, zero, suc, _+_, _-_, _^_, _<_, _≤_}
 use mathlib.Core.Bool.{Bool, true, false, cond, _&&_}
-use mathlib.Core.List.{List, [], _∷_, _++_}
+use mathlib.Core.List.{List, [], _∷_}
 use mathlib.Core.Path.{_≡_, refl}
 use native.Mathlib.Omega.{arith}
 use borrow.Author.Tests.{leb-true}
 use lib.Dec.{leb}
-use Rattle.word.specs.Writes.{Write, zeros}
+use Rattle.word.specs.Writes.{Write}
 use Rattle.word.proofs.Tests.{and-both}
-use Rattle.word.proofs.Writes.{Proper, Every, every-one, every-append, every-map, every-zeros}
+use Rattle.word.proofs.Writes.{Proper, Every, every-append}
 use Rattle.word.proofs.Writes.Every.{none, more}
 use Rattle.pool.specs.declared.Space.{Space}
 use Rattle.pool.specs.declared.Book.{Book}
 use Rattle.pool.specs.Book.{bookPages, mark, spotOf, soundOf, Sound}
 use Rattle.pool.specs.Changes.{put, tookWrites, asideWrites, releaseWrites}
-use Rattle.pool.specs.Create.{fills, counts, newFree, layOut, Roomy}
+use Rattle.pool.specs.Create.{fills, counts}
 use Rattle.pool.proofs.Counts.{sound-is, spot-in, slot-page}
 
 -- page q is one of the book's

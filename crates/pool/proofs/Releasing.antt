@@ -1,24 +1,22 @@
 -- Releasing the oldest pages set aside keeps the book true, and releases exactly those whose number is below the ticket.
-use Prim.Native.Nat.{ℕ, zero, suc, _+_, _-_, _*_, _/_, _%_, _^_, _<_, _≤_}
-use mathlib.Core.Bool.{Bool, true, false, cond, _&&_}
-use mathlib.Core.List.{List, [], _∷_}
+use Prim.Native.Nat.{ℕ, _+_, _-_, _^_, _<_, _≤_}
+use mathlib.Core.Bool.{Bool, true, false, cond}
+use mathlib.Core.List.{[], _∷_}
 use mathlib.Core.Logic.{_⊎_, inl, inr, _≢_}
-use mathlib.Core.Path.{_≡_, refl, sym, ap, _∙_, subst}
-use native.Mathlib.Decide.{ℕ-discrete, decLt}
+use mathlib.Core.Path.{_≡_, refl, sym, ap, _∙_}
 use native.Mathlib.Omega.{arith}
 use borrow.Author.Tests.{le-leb, leb-true, leb-false}
 use lib.Dec.{leb}
 use Rattle.word.specs.Memory.{set}
 use Rattle.word.specs.Writes.{after}
-use Rattle.word.proofs.Set.{set-at, set-other}
-use Rattle.tables.specs.Roles.{Role, foreign, free, aside, book, root, table}
+use Rattle.tables.specs.Roles.{Role, free, aside, book}
 use Rattle.pool.specs.declared.Space.{Space}
 use Rattle.pool.specs.declared.Book.{Book}
-use Rattle.pool.specs.Book.{bookPages, wordOf, bookOf, spotOf, pageAt, soundOf, Sound}
+use Rattle.pool.specs.Book.{wordOf, bookOf, spotOf, pageAt, Sound}
 use Rattle.pool.specs.Changes.{put, releaseWrites}
-use Rattle.pool.specs.Book.{dueOf}
+use Rattle.pool.specs.Book.{dueOf, ticketOf}
 use Rattle.pool.specs.declared.Due.the-variants as due
-use Rattle.pool.specs.Booked.{Lists, Booked, thawed, released, Numbered}
+use Rattle.pool.specs.Booked.{Lists, Booked, released, Numbered}
 use Rattle.pool.proofs.Counts.{is-sound}
 use Rattle.tables.specs.Unseen.{Shifted}
 use Rattle.pool.proofs.Lists.{among, lists-same, lists-thawed, thawed-free, thawed-stays, thawed-shifted}
@@ -154,3 +152,37 @@ due-exactly pages b t k s e = first (leb t (b .tickets)) refl e
         let z : 0 ≡ k = cc in
         record { enough = omega arith; early = omega (arith, s .early); below = λ n x y. omega arith; above = λ n x y. omega arith }
     first false q e = second (leb (t - b .tickets) (b .aside)) refl (leb-false t (b .tickets) q) e
+
+module _ {sp : Space} {m : ℕ → ℕ} {role : ℕ → Role} (b : Booked sp m role) where
+  -- a page that is set aside has a number, and one only; the ticket of this moment is above it
+  pub has-number : (p : ℕ) → role p ≡ aside → (n : ℕ) × Numbered m sp p n
+  has-number p e = let r = b .lists .aside-listed p e in (bookOf m sp .tickets + r .0, (r .0, r .1, r .2, refl))
+
+  pub one-number : (p n n' : ℕ) → Numbered m sp p n → Numbered m sp p n' → n ≡ n'
+  one-number p n n' h k =
+      let e = b .lists .once (bookOf m sp .free + h .0) (bookOf m sp .free + k .0) (omega (arith, h .1)) (omega (arith, k .1)) (h .2 ∙ sym (k .2)) in
+      omega (arith, h .3, k .3)
+
+  pub below-ticket : (p n : ℕ) → Numbered m sp p n → n < ticketOf (bookOf m sp)
+  below-ticket p n h = omega (arith, h .1, h .3)
+
+  -- WHAT A REPORT DOES: pages with a number below the ticket are free, all others that were set aside stay so, with their numbers
+  pub record Told (t k : ℕ) : Type 0 where
+    pub booked : Booked sp (after m (releaseWrites sp (bookOf m sp) k)) (released m sp k role)
+    pub frees : (p n : ℕ) → Numbered m sp p n → n < t → released m sp k role p ≡ free
+    pub stays : (p n : ℕ) → Numbered m sp p n → t ≤ n → released m sp k role p ≡ aside
+    pub keeps : (p n : ℕ) → Numbered m sp p n → t ≤ n → Numbered (after m (releaseWrites sp (bookOf m sp) k)) sp p n
+
+  pub told : (t k : ℕ) → dueOf (bookOf m sp) t ≡ due.Pages k → Told t k
+  told t k e = record {
+    booked = release-booked b k (x .enough) (x .early);
+    frees = λ p n h u. release-frees b k (x .enough) p n h (x .below n (low p n h) u);
+    stays = λ p n h u. release-stays b k (x .enough) p n h (x .above n u (low p n h));
+    keeps = λ p n h u. release-keeps b k (x .enough) p n h (x .above n u (low p n h));
+  }
+    where
+      x : Exactly (bookOf m sp) t k
+      x = due-exactly (sp .pages) (bookOf m sp) t k (b .sound) e
+
+      low : (p n : ℕ) → Numbered m sp p n → bookOf m sp .tickets ≤ n
+      low p n h = omega (arith, h .3)

@@ -1,22 +1,20 @@
 -- Setting a table aside keeps the book true: there is a slot for it, since all pages are counted.
-use Prim.Native.Nat.{ℕ, zero, suc, _+_, _-_, _*_, _/_, _%_, _^_, _<_, _≤_}
-use mathlib.Core.Bool.{Bool, true, false, cond, _&&_}
-use mathlib.Core.List.{List, [], _∷_}
-use mathlib.Core.Logic.{_⊎_, inl, inr, _≢_}
-use mathlib.Core.Path.{_≡_, refl, sym, ap, _∙_, subst}
-use native.Mathlib.Decide.{ℕ-discrete, decLt}
+use Prim.Native.Nat.{ℕ, _+_, _<_, _≤_}
+use mathlib.Core.List.{[], _∷_}
+use mathlib.Core.Logic.{_≢_}
+use mathlib.Core.Path.{_≡_, refl, sym, ap, _∙_}
+use native.Mathlib.Decide.{ℕ-discrete}
 use native.Mathlib.Omega.{arith}
-use borrow.Author.Tests.{le-leb}
 use Rattle.word.specs.Memory.{set}
 use Rattle.word.specs.Writes.{after}
 use Rattle.word.proofs.Set.{set-at, set-other}
-use Rattle.tables.specs.Roles.{Role, foreign, free, aside, book, root, table}
+use Rattle.tables.specs.Roles.{Role, free, aside, book, table}
 use Rattle.pool.specs.declared.Space.{Space}
 use Rattle.pool.specs.declared.Book.{Book}
-use Rattle.pool.specs.Book.{bookPages, wordOf, bookOf, spotOf, pageAt, soundOf, Sound}
+use Rattle.pool.specs.Book.{bookPages, wordOf, bookOf, spotOf, pageAt, Sound}
 use Rattle.pool.specs.Changes.{put, asideWrites, asideBook}
-use Rattle.pool.specs.Booked.{Lists, Booked, Numbered, tablesOf, howMany, isTable}
-use Rattle.pool.proofs.Counts.{is-sound, spot-in, spot-once}
+use Rattle.pool.specs.Booked.{Lists, Booked, Numbered, tablesOf, isTable}
+use Rattle.pool.proofs.Counts.{is-sound, spot-once}
 use Rattle.pool.proofs.Lists.{lists-aside}
 use Rattle.pool.proofs.Census.{many-some}
 use Rattle.pool.proofs.Pages.{Owned, adds-up}

@@ -1,19 +1,16 @@
 -- Taking the oldest free pages keeps the book true.
-use Prim.Native.Nat.{ℕ, zero, suc, _+_, _-_, _*_, _/_, _%_, _^_, _<_, _≤_}
-use mathlib.Core.Bool.{Bool, true, false, cond, _&&_}
-use mathlib.Core.List.{List, [], _∷_}
+use Prim.Native.Nat.{ℕ, _+_, _-_, _<_, _≤_}
+use mathlib.Core.List.{[], _∷_}
 use mathlib.Core.Logic.{_⊎_, inl, inr, _≢_}
-use mathlib.Core.Path.{_≡_, refl, sym, ap, _∙_, subst}
-use native.Mathlib.Decide.{ℕ-discrete, decLt}
+use mathlib.Core.Path.{_≡_, sym, ap, _∙_}
 use native.Mathlib.Omega.{arith}
 use borrow.Author.Tests.{le-leb}
 use Rattle.word.specs.Memory.{set}
 use Rattle.word.specs.Writes.{after}
-use Rattle.word.proofs.Set.{set-at, set-other}
-use Rattle.tables.specs.Roles.{Role, foreign, free, aside, book, root, table}
+use Rattle.tables.specs.Roles.{Role, free, aside, book, table}
 use Rattle.pool.specs.declared.Space.{Space}
 use Rattle.pool.specs.declared.Book.{Book}
-use Rattle.pool.specs.Book.{bookPages, wordOf, bookOf, spotOf, pageAt, soundOf, Sound}
+use Rattle.pool.specs.Book.{wordOf, bookOf, spotOf, pageAt, Sound}
 use Rattle.pool.specs.Changes.{put, tookWrites}
 use Rattle.pool.specs.Booked.{Lists, Booked, Taken, Numbered}
 use Rattle.pool.proofs.Counts.{is-sound, spot-in, spot-more}

@@ -3,11 +3,10 @@
 -- The slots are a ring. From the head on it lists the free pages, oldest first, and right behind them the pages set aside, oldest first.
 -- Everything here is over a memory m, with h: which pages lie in the window.
 use Prim.Native.Nat.{ℕ, _+_, _-_, _*_, _/_, _^_, _<_, _≤_}
-use mathlib.Core.Bool.{Bool, true, false, cond, _&&_, not}
+use mathlib.Core.Bool.{Bool, cond, _&&_, not}
 use lib.Dec.{leb, ltb, eqb}
 use Rattle.pool.specs.declared.Space.{Space}
 use Rattle.pool.specs.declared.Book.{Book}
-use Rattle.pool.specs.declared.Reason.{Reason}
 use Rattle.pool.specs.declared.Reason.the-variants.{PoolLarge, PoolSmall, PoolOutside, BadRoot, NoBook, OtherBook, BadBook}
 use Rattle.pool.specs.declared.Fit.{Fit}
 use Rattle.pool.specs.declared.Fit.the-variants as fit

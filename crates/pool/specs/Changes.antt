@@ -1,7 +1,7 @@
 -- What is written to a book, as lists of one-word writes. Where the counts make no sense, or there are fewer pages, nothing is.
-use Prim.Native.Nat.{ℕ, zero, suc, _+_, _-_, _/_, _%_}
-use mathlib.Core.Bool.{Bool, true, false, cond, _&&_}
-use mathlib.Core.List.{List, [], _∷_, _++_}
+use Prim.Native.Nat.{ℕ, _+_, _-_, _/_, _%_}
+use mathlib.Core.Bool.{cond, _&&_}
+use mathlib.Core.List.{List, [], _∷_}
 use lib.Dec.{leb}
 use Rattle.word.specs.Writes.{Write, write}
 use Rattle.pool.specs.declared.Space.{Space}

@@ -1,10 +1,9 @@
 -- What making a pool answers and writes.
 use Prim.Native.Nat.{ℕ, zero, suc, _+_, _-_, _%_, _^_, _<_, _≤_}
-use mathlib.Core.Bool.{Bool, true, false, cond}
+use mathlib.Core.Bool.{Bool, cond}
 use mathlib.Core.List.{List, [], _∷_, _++_}
-use mathlib.Core.Path.{_≡_}
 use lib.Dec.{eqb}
-use Rattle.word.specs.Writes.{Write, write, zeros}
+use Rattle.word.specs.Writes.{Write, zeros}
 use Rattle.pool.specs.declared.Space.{Space}
 use Rattle.pool.specs.declared.Fit.{Fit}
 use Rattle.pool.specs.declared.Fit.the-variants as fit

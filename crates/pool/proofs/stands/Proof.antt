@@ -1,4 +1,4 @@
-use mathlib.Core.Path.{_≡_, sym, _∙_}
+use mathlib.Core.Path.{sym, _∙_}
 use Rattle.pool.specs.Stands.{standsOf, standsIn}
 use borrow.Author.Needs.{needs}
 use Rattle.pool.proofs.stands.Statement.{statement}

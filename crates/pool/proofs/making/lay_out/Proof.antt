@@ -1,4 +1,4 @@
-use mathlib.Core.Path.{sym, _∙_}
+use mathlib.Core.Path.{_∙_}
 use Rattle.pool.proofs.Fills.{laid-out}
 use borrow.Author.Needs.{needs}
 use Rattle.pool.proofs.making.lay_out.Statement.{statement}
