@@ -1,0 +1,215 @@
+//! What was asked: so that a run which never came to some size, reason or edge does not pass for a test of it.
+
+use crate::ledger::{Ledger, GIB1, KIB4, MIB2, PHYSICAL, SIZES, TOP};
+use crate::steps::Setup;
+use crate::{Answer, Request, REASONS};
+use std::collections::BTreeMap;
+
+/// What a run is asked.
+#[derive(Clone, Copy, PartialEq, Eq)]
+pub enum Sort {
+    /// Anything, of tables that are in order.
+    Sound,
+    /// Of these, only what one that is raw may be asked.
+    Valid,
+    /// Anything, of bytes that are damaged.
+    Damaged,
+}
+
+#[derive(Default)]
+pub struct Cover {
+    pub asked: u64,
+    counts: BTreeMap<String, u64>,
+}
+
+fn name(size: u64) -> &'static str {
+    match size {
+        KIB4 => "4 KiB",
+        MIB2 => "2 MiB",
+        GIB1 => "1 GiB",
+        _ => "?",
+    }
+}
+
+impl Cover {
+    fn add(&mut self, what: impl Into<String>) {
+        *self.counts.entry(what.into()).or_insert(0) += 1;
+    }
+
+    /// `free`: how many pages were free before; the ledger is as it is after the answer.
+    pub fn note(
+        &mut self,
+        setup: &Setup,
+        request: &Request,
+        answer: &Answer,
+        free: Option<u64>,
+        ledger: Option<&Ledger>,
+    ) {
+        self.asked += 1;
+        self.add(match setup.pages {
+            3 => "pool of 3 pages",
+            4..=9 => "pool of 4 to 9",
+            10..=99 => "pool of 10 to 99",
+            100..=504 => "pool of 100 to 504",
+            _ => "pool with a book of two pages",
+        });
+        if answer.reason() != 0 {
+            let reason = REASONS.get(answer.reason() as usize).unwrap_or(&"?");
+            self.add(format!("{} {reason}", request.name()));
+        }
+        match (*request, *answer) {
+            (Request::Map { base, frame, size, .. }, Answer::Mapped(mapped)) => match mapped.reason {
+                0 => {
+                    self.add(format!("map {}, {} tables", name(size), mapped.tables));
+                    if let Some(ledger) = ledger {
+                        if ledger.free == 0 && mapped.tables > 0 {
+                            self.add(format!("map takes the last {}", mapped.tables));
+                        }
+                        self.edges(setup, base, frame, size);
+                    }
+                }
+                4 if base == TOP => self.add("map at 2^48"),
+                6 => self.frame_in_pool(setup, frame, size),
+                8 => {
+                    if let (Some(ledger), Some(free)) = (ledger, free) {
+                        self.add(format!("map NoRoom, {} missing, {free} free", ledger.missing(base, size)));
+                    }
+                }
+                _ => {}
+            },
+            (Request::Unmap { .. }, Answer::Unmapped(unmapped)) if unmapped.reason == 0 => {
+                self.add(format!("unmap {}, {} set aside", name(unmapped.size), unmapped.aside));
+            }
+            (Request::Protect { .. }, Answer::Protected(protected)) if protected.reason == 0 => {
+                self.add(format!("protect {}", name(protected.size)));
+            }
+            (Request::Told { .. }, Answer::Told(told)) if told.reason == 0 => {
+                let rest = ledger.map_or(0, |ledger| ledger.aside);
+                self.add(match (told.released, rest) {
+                    (0, _) => "told, none",
+                    (_, 0) => "told, all",
+                    _ => "told, some",
+                });
+            }
+            (Request::Create { .. }, Answer::Created(created)) if created.reason == 0 => self.add("create done"),
+            (Request::LookUp { .. }, Answer::LookedUp(found)) => {
+                self.add(["look_up nothing", "look_up page", "look_up outside"][found.kind as usize]);
+            }
+            _ => {}
+        }
+    }
+
+    fn edges(&mut self, setup: &Setup, base: u64, frame: u64, size: u64) {
+        let end = setup.space().end();
+        let edges = [
+            ("first page of all", base == 0),
+            ("last page of all", base + size == TOP),
+            ("first frame", frame == 0),
+            ("last frame", frame + size == PHYSICAL),
+            ("frame right before the pool", frame + size == setup.pool),
+            ("frame right after the pool", frame == end),
+        ];
+        for (edge, holds) in edges {
+            if holds {
+                self.add(format!("{edge}, {}", name(size)));
+            }
+        }
+    }
+
+    fn frame_in_pool(&mut self, setup: &Setup, frame: u64, size: u64) {
+        let end = setup.space().end();
+        if frame + size == setup.pool + KIB4 {
+            self.add(format!("frame meets the pool's first page, {}", name(size)));
+        }
+        if frame + KIB4 == end {
+            self.add(format!("frame meets the pool's last page, {}", name(size)));
+        }
+        if frame < setup.pool && end < frame + size {
+            self.add(format!("frame covers the pool, {}", name(size)));
+        }
+    }
+
+    /// What there has to be, how often in 100,000 requests at least, and how often it was.
+    pub fn lines(&self, sort: Sort) -> Vec<(String, u64, u64)> {
+        let mut needed: Vec<(String, u64)> = vec![];
+        let mut need = |least: u64, what: String| needed.push((what, least));
+        for (size, most) in SIZES.into_iter().zip([3, 2, 1]) {
+            for tables in 0..=most {
+                need(50, format!("map {}, {tables} tables", name(size)));
+                need(25, format!("unmap {}, {tables} set aside", name(size)));
+            }
+            need(50, format!("protect {}", name(size)));
+        }
+        for told in ["none", "all"] {
+            need(100, format!("told, {told}"));
+        }
+        need(100, "look_up nothing".into());
+        need(100, "look_up page".into());
+        for request in ["unmap", "protect"] {
+            need(200, format!("{request} NothingStarts"));
+        }
+        for reason in ["Overlap", "NoRoom"] {
+            need(300, format!("map {reason}"));
+        }
+        if sort != Sort::Damaged {
+            need(100, "told, some".into());
+            for missing in 1..=3 {
+                need(20, format!("map takes the last {missing}"));
+                for free in 0..missing {
+                    need(20, format!("map NoRoom, {missing} missing, {free} free"));
+                }
+            }
+            for size in SIZES.map(name) {
+                need(50, format!("first page of all, {size}"));
+                need(50, format!("last page of all, {size}"));
+                need(25, format!("first frame, {size}"));
+                need(25, format!("last frame, {size}"));
+                need(5, format!("frame right before the pool, {size}"));
+                need(5, format!("frame right after the pool, {size}"));
+            }
+            for pool in ["of 3 pages", "of 4 to 9", "of 10 to 99", "of 100 to 504", "with a book of two pages"] {
+                need(300, format!("pool {pool}"));
+            }
+        }
+        if sort != Sort::Valid {
+            for reason in &REASONS[1..=6] {
+                need(50, format!("map {reason}"));
+            }
+            for request in ["map", "unmap", "protect", "told"] {
+                for reason in &REASONS[14..=19] {
+                    need(5, format!("{request} {reason}"));
+                }
+            }
+            for reason in REASONS[12..=14].iter().chain(&REASONS[16..=18]) {
+                need(5, format!("create {reason}"));
+            }
+            need(20, "told UnknownTicket".into());
+            need(2, "told SpentTickets".into());
+        }
+        if sort == Sort::Sound {
+            need(20, "map at 2^48".into());
+            need(100, "frame meets the pool's first page, 4 KiB".into());
+            need(100, "frame meets the pool's last page, 4 KiB".into());
+            for size in SIZES.map(name).into_iter().skip(1) {
+                need(2, format!("frame meets the pool's first page, {size}"));
+                need(2, format!("frame meets the pool's last page, {size}"));
+                need(5, format!("frame covers the pool, {size}"));
+            }
+        }
+        if sort == Sort::Damaged {
+            for request in ["map", "unmap", "told"] {
+                for reason in &REASONS[20..=22] {
+                    need(10, format!("{request} {reason}"));
+                }
+            }
+            for request in ["map", "unmap", "protect"] {
+                need(30, format!("{request} Stray"));
+            }
+            need(50, "map BadList".into());
+            need(20, "look_up outside".into());
+            need(100, "create done".into());
+        }
+        let count = |what: &str| self.counts.get(what).copied().unwrap_or(0);
+        needed.into_iter().map(|(what, least)| (what.clone(), least, count(&what))).collect()
+    }
+}

@@ -1,0 +1,275 @@
+//! What a request has to be answered, and the words that it has to write, one after the other: from any bytes.
+//! Ways are the manual's walk, in a window that is only the pool behind its book: where that walk leaves it, the way is
+//! stray.
+
+use crate::ledger::{asked, created};
+use crate::{Answer, LookedUp, Mapped, Protected, Request, Space, Told, Unmapped};
+use model::{walk, End, Kind, Read, Walk, Window};
+
+/// By physical addresses.
+#[derive(Clone, Copy, PartialEq, Eq, Debug)]
+pub enum Write {
+    Word(u64, u64),
+    Clear(u64),
+}
+use Write::{Clear, Word};
+
+pub struct Due {
+    pub answer: Answer,
+    pub writes: Vec<Write>,
+}
+
+/// The last four words of a book's header that say something.
+struct Book {
+    head: u64,
+    free: u64,
+    aside: u64,
+    tickets: u64,
+}
+
+/// What is done, or the reason why not.
+type Outcome = Result<(Answer, Vec<Write>), u64>;
+
+pub fn due(window: Window, request: &Request) -> Due {
+    let len = window.bytes.len();
+    let outcome = match *request {
+        Request::LookUp { origin: _, root, va } => Ok((looked_up(walk(window, root, va)), vec![])),
+        Request::Create { origin, pool, pages } => {
+            let answer = created(len, origin, pool, pages);
+            let writes = if answer.reason == 0 { new_pool(pool, pages, answer.root) } else { vec![] };
+            Ok((Answer::Created(answer), writes))
+        }
+        Request::Map { space, base, frame, size, rights } => match asked(base, frame, size) {
+            0 => Pool::standing(window, space).and_then(|pool| pool.map(base, frame, size, rights)),
+            reason => Err(reason),
+        },
+        Request::Unmap { space, base } => Pool::standing(window, space).and_then(|pool| pool.unmap(base)),
+        Request::Protect { space, base, rights } => {
+            Pool::standing(window, space).and_then(|pool| pool.protect(base, rights))
+        }
+        Request::Told { space, ticket } => Pool::standing(window, space).and_then(|pool| pool.told(ticket)),
+    };
+    let (answer, writes) = outcome.unwrap_or_else(|reason| (request.refused(reason), vec![]));
+    Due { answer, writes }
+}
+
+pub fn looked_up(walk: Walk) -> Answer {
+    Answer::LookedUp(match walk.answer {
+        model::Answer::Nothing => LookedUp::default(),
+        model::Answer::Outside => LookedUp { kind: 2, ..LookedUp::default() },
+        model::Answer::Page { base, size, frame, rights } => {
+            let rights = [rights.writable, rights.user, rights.noexec];
+            let rights = (0..3).map(|bit| u64::from(rights[bit]) << bit).sum();
+            LookedUp { kind: 1, base, size, frame, rights }
+        }
+    })
+}
+
+fn new_pool(pool: u64, pages: u64, root: u64) -> Vec<Write> {
+    let behind = (root - pool) / 4096 + 1;
+    let mut writes: Vec<Write> =
+        (behind..pages).map(|page| Word(pool + 8 * (8 + page - behind), pool / 4096 + page)).collect();
+    for (word, value) in [(1, pages), (2, 0), (3, pages - behind), (4, 0), (5, 0), (6, 0), (7, 0)] {
+        writes.push(Word(pool + 8 * word, value));
+    }
+    writes.push(Clear(root));
+    writes.push(Word(pool, u64::from_le_bytes(*b"the book")));
+    writes
+}
+
+/// From the root's, 3, down to that of the last tables.
+fn level(kind: Kind) -> u64 {
+    match kind {
+        Kind::Pml4e => 3,
+        Kind::Pdpte => 2,
+        Kind::Pde => 1,
+        Kind::Pte => 0,
+    }
+}
+
+fn index(level: u64, va: u64) -> u64 {
+    (va >> 12 >> (9 * level)) % 512
+}
+
+/// Bits 1, 2 and 63, as the rights have them.
+fn rights_bits(rights: u64) -> u64 {
+    let bit = |right: u64, at: u64| (rights >> right & 1) << at;
+    bit(0, 1) | bit(1, 2) | bit(2, 63)
+}
+
+struct Pool<'a> {
+    space: Space,
+    book: &'a [u8],
+    /// The pool behind its book.
+    tables: Window<'a>,
+}
+
+impl<'a> Pool<'a> {
+    fn standing(window: Window<'a>, space: Space) -> Result<Pool<'a>, u64> {
+        match space.refused(window.bytes.len()) {
+            0 => {
+                let place = |address: u64| (address - space.origin) as usize;
+                let (start, behind, end) = (place(space.pool), place(space.behind()), place(space.end()));
+                let tables = Window { bytes: &window.bytes[behind..end], origin: space.behind() };
+                Ok(Pool { space, book: &window.bytes[start..behind], tables })
+            }
+            reason => Err(reason),
+        }
+    }
+
+    fn walk(&self, va: u64) -> Walk {
+        walk(self.tables, self.space.root, va)
+    }
+
+    fn word(&self, at: u64) -> u64 {
+        let at = 8 * at as usize;
+        u64::from_le_bytes(self.book[at..at + 8].try_into().expect("eight bytes"))
+    }
+
+    fn open(&self) -> Result<Book, u64> {
+        if !self.book.starts_with(b"the book") {
+            return Err(20);
+        }
+        if self.word(1) != self.space.pages {
+            return Err(21);
+        }
+        let book = Book { head: self.word(2), free: self.word(3), aside: self.word(4), tickets: self.word(5) };
+        if book.head >= self.space.pages || !self.lists(&book, 0) || book.tickets > 1 << 62 {
+            return Err(22);
+        }
+        Ok(book)
+    }
+
+    /// Is there a page for each that is listed, and for so many more? The root is none.
+    fn lists(&self, book: &Book, more: u64) -> bool {
+        let listed = u128::from(book.free) + u128::from(book.aside) + u128::from(more);
+        listed < u128::from(self.space.pages - self.space.book())
+    }
+
+    /// The word of the book that lists the page at this position.
+    fn slot(&self, book: &Book, position: u64) -> u64 {
+        8 + (book.head + position) % self.space.pages
+    }
+
+    /// The physical addresses of so many of the oldest free pages.
+    fn take(&self, book: &Book, need: u64) -> Result<Vec<u64>, u64> {
+        if book.free < need {
+            return Err(8);
+        }
+        let numbers: Vec<u64> = (0..need).map(|position| self.word(self.slot(book, position))).collect();
+        let usable = |number: &u64| {
+            (self.space.behind() / 4096..self.space.end() / 4096).contains(number) && *number != self.space.root / 4096
+        };
+        if numbers.iter().all(usable) {
+            Ok(numbers.iter().map(|number| number * 4096).collect())
+        } else {
+            Err(11)
+        }
+    }
+
+    fn book_word(&self, word: u64, value: u64) -> Write {
+        Word(self.space.pool + 8 * word, value)
+    }
+
+    fn map(&self, base: u64, frame: u64, size: u64, rights: u64) -> Outcome {
+        if frame < self.space.end() && self.space.pool < frame + size {
+            return Err(6);
+        }
+        let target = [4096, 4096 << 9, 4096 << 18].iter().position(|each| *each == size).expect("a page's size") as u64;
+        let walk = self.walk(base);
+        let (kind, stray) = match walk.end {
+            End::Page(_) => return Err(7),
+            End::NotPresent(kind) | End::Reserved(kind) => (kind, false),
+            End::Outside(kind) => (kind, true),
+            End::NoAddress => unreachable!("the base is below 2^48"),
+        };
+        if level(kind) < target {
+            // The walk came through a table that stands where the page should.
+            return Err(7);
+        }
+        if stray {
+            return Err(10);
+        }
+        let need = level(kind) - target;
+        let mut writes = vec![];
+        let mut at = walk.way[kind as usize].expect("the walk read it").address;
+        let mut after = vec![];
+        if need > 0 {
+            let book = self.open()?;
+            for (down, page) in (1..).zip(self.take(&book, need)?) {
+                writes.extend([Clear(page), Word(at, page + 7)]);
+                at = page + 8 * index(level(kind) - down, base);
+            }
+            after.push(self.book_word(2, (book.head + need) % self.space.pages));
+            after.push(self.book_word(3, book.free - need));
+        }
+        let large = if target > 0 { 1 << 7 } else { 0 };
+        writes.push(Word(at, frame + 1 + large + rights_bits(rights)));
+        writes.extend(after);
+        Ok((Answer::Mapped(Mapped { reason: 0, tables: need }), writes))
+    }
+
+    /// The entries of the way to the page that starts here, the page's own first; its frame and size.
+    fn starts(&self, asked: u64) -> Result<(Vec<Read>, u64, u64), u64> {
+        let walk = self.walk(asked);
+        match walk.answer {
+            model::Answer::Page { base, size, frame, .. } if base == asked => {
+                Ok((walk.way.iter().rev().flatten().copied().collect(), frame, size))
+            }
+            model::Answer::Page { .. } | model::Answer::Nothing => Err(9),
+            model::Answer::Outside => Err(10),
+        }
+    }
+
+    /// Is the entry the only one of its table that is present?
+    fn lone(&self, entry: u64) -> bool {
+        let start = (entry / 4096 * 4096 - self.tables.origin) as usize;
+        let table = &self.tables.bytes[start..start + 4096];
+        (0..512).all(|index| table[8 * index] % 2 == 0 || index as u64 == entry % 4096 / 8)
+    }
+
+    fn unmap(&self, base: u64) -> Outcome {
+        let (way, frame, size) = self.starts(base)?;
+        let mut writes = vec![Word(way[0].address, 0)];
+        // The last of the way is the root's, and the root stays.
+        let empty = way[..way.len() - 1].iter().take_while(|entry| self.lone(entry.address)).count();
+        if empty == 0 {
+            return Ok((Answer::Unmapped(Unmapped { frame, size, ..Unmapped::default() }), writes));
+        }
+        let book = self.open()?;
+        let aside = empty as u64;
+        if !self.lists(&book, aside) {
+            return Err(22);
+        }
+        for (more, pair) in (0..).zip(way[..empty + 1].windows(2)) {
+            writes.push(Word(pair[1].address, 0));
+            writes.push(self.book_word(self.slot(&book, book.free + book.aside + more), pair[0].address / 4096));
+            writes.push(self.book_word(4, book.aside + more + 1));
+        }
+        let ticket = book.tickets + book.aside + aside;
+        Ok((Answer::Unmapped(Unmapped { reason: 0, frame, size, aside, ticket }), writes))
+    }
+
+    fn protect(&self, base: u64, rights: u64) -> Outcome {
+        let (way, frame, size) = self.starts(base)?;
+        let word = way[0].word & !rights_bits(7) | rights_bits(rights);
+        Ok((Answer::Protected(Protected { reason: 0, frame, size }), vec![Word(way[0].address, word)]))
+    }
+
+    fn told(&self, ticket: u64) -> Outcome {
+        let book = self.open()?;
+        if ticket > book.tickets + book.aside {
+            return Err(23);
+        }
+        if ticket <= book.tickets {
+            return Ok((Answer::Told(Told::default()), vec![]));
+        }
+        if ticket > 1 << 62 {
+            return Err(24);
+        }
+        let released = ticket - book.tickets;
+        let writes = [(3, book.free + released), (4, book.aside - released), (5, ticket)];
+        let writes = writes.map(|(word, value)| self.book_word(word, value)).to_vec();
+        Ok((Answer::Told(Told { reason: 0, released }), writes))
+    }
+}

@@ -1,0 +1,219 @@
+//! The model: a plain list of mappings, how many of them pass each table, and how many pages are free and set aside.
+//! It never looks at bytes, and knows tables that the operations built; what a damaged book or table does, `due` says.
+
+use crate::space::{create_refused, made};
+use crate::{Answer, Created, LookedUp, Mapped, Protected, Request, Space, Told, Unmapped};
+use std::collections::{BTreeMap, VecDeque};
+
+pub const KIB4: u64 = 4 << 10;
+pub const MIB2: u64 = 2 << 20;
+pub const GIB1: u64 = 1 << 30;
+pub const SIZES: [u64; 3] = [KIB4, MIB2, GIB1];
+/// What a table covers: the entry that names it does.
+const TABLES: [u64; 3] = [MIB2, GIB1, 512 * GIB1];
+/// The lower half of the addresses ends here, and physical memory there.
+pub const TOP: u64 = 1 << 48;
+pub const PHYSICAL: u64 = 1 << 52;
+
+#[derive(Clone, Copy, PartialEq, Eq, PartialOrd, Ord, Debug)]
+pub struct Mapping {
+    pub base: u64,
+    pub size: u64,
+    pub frame: u64,
+    pub rights: u64,
+}
+
+pub struct Ledger {
+    pub space: Space,
+    /// The window's.
+    len: usize,
+    pub mappings: Vec<Mapping>,
+    /// By what the table covers and where that starts: the mappings below it. The root is not among them.
+    tables: BTreeMap<(u64, u64), u64>,
+    pub free: u64,
+    pub aside: u64,
+    /// How many pages were released so far.
+    pub released: u64,
+    /// Tickets that were handed out, the last one last.
+    pub tickets: VecDeque<u64>,
+}
+
+/// Do the ranges share an address?
+fn meet(start: u64, size: u64, other: u64, other_size: u64) -> bool {
+    start < other + other_size && other < start + size
+}
+
+impl Ledger {
+    /// A pool that was just made, after so many pages had been released in it.
+    pub fn new(len: usize, origin: u64, pool: u64, pages: u64, released: u64) -> Ledger {
+        let space = made(origin, pool, pages);
+        let free = pages - space.book() - 1;
+        Ledger {
+            space,
+            len,
+            mappings: vec![],
+            tables: BTreeMap::new(),
+            free,
+            aside: 0,
+            released,
+            tickets: VecDeque::new(),
+        }
+    }
+
+    pub fn tables(&self) -> u64 {
+        self.tables.len() as u64
+    }
+
+    /// The tables that a page needs besides the root, the highest first.
+    fn needs(base: u64, size: u64) -> impl Iterator<Item = (u64, u64)> {
+        TABLES
+            .into_iter()
+            .rev()
+            .filter(move |covers| *covers > size)
+            .map(move |covers| (covers, base / covers * covers))
+    }
+
+    /// How many tables are missing for a page.
+    pub fn missing(&self, base: u64, size: u64) -> u64 {
+        Ledger::needs(base, size).filter(|table| !self.tables.contains_key(table)).count() as u64
+    }
+
+    pub fn means(&self, va: u64) -> LookedUp {
+        match self.mappings.iter().find(|page| (page.base..page.base + page.size).contains(&va)) {
+            None => LookedUp::default(),
+            Some(Mapping { base, size, frame, rights }) => {
+                LookedUp { kind: 1, base: *base, size: *size, frame: *frame, rights: *rights }
+            }
+        }
+    }
+
+    /// What has to be answered where so many bytes of the window are lent, and then holds. Nothing is said of another space
+    /// that makes sense: it is not ours.
+    pub fn judge(&mut self, request: &Request, lent: usize) -> Option<Answer> {
+        let told = match *request {
+            Request::Create { origin, pool, pages } => match create_refused(lent, origin, pool, pages) {
+                0 => return None,
+                reason => Err(reason),
+            },
+            Request::LookUp { origin, root, va } => {
+                // Of CR3 only the address counts.
+                let address = root % PHYSICAL / KIB4 * KIB4;
+                if origin != self.space.origin || address != self.space.root || lent != self.len {
+                    return None;
+                }
+                Ok(Answer::LookedUp(self.means(va)))
+            }
+            Request::Map { space, base, frame, size, rights } => match asked(base, frame, size) {
+                0 => match self.standing(space, lent)? {
+                    0 => self.map(base, frame, size, rights),
+                    reason => Err(reason),
+                },
+                reason => Err(reason),
+            },
+            Request::Unmap { space, base } => match self.standing(space, lent)? {
+                0 => self.unmap(base),
+                reason => Err(reason),
+            },
+            Request::Protect { space, base, rights } => match self.standing(space, lent)? {
+                0 => self.protect(base, rights),
+                reason => Err(reason),
+            },
+            Request::Told { space, ticket } => match self.standing(space, lent)? {
+                0 => self.told(ticket),
+                reason => Err(reason),
+            },
+        };
+        Some(told.unwrap_or_else(|reason| request.refused(reason)))
+    }
+
+    fn standing(&self, space: Space, lent: usize) -> Option<u64> {
+        match space.refused(lent) {
+            0 if space == self.space => Some(0),
+            0 => None,
+            reason => Some(reason),
+        }
+    }
+
+    fn map(&mut self, base: u64, frame: u64, size: u64, rights: u64) -> Result<Answer, u64> {
+        if meet(frame, size, self.space.pool, self.space.pages * KIB4) {
+            return Err(6);
+        }
+        if self.mappings.iter().any(|page| meet(base, size, page.base, page.size)) {
+            return Err(7);
+        }
+        let tables = self.missing(base, size);
+        if tables > self.free {
+            return Err(8);
+        }
+        self.free -= tables;
+        for table in Ledger::needs(base, size) {
+            *self.tables.entry(table).or_insert(0) += 1;
+        }
+        self.mappings.push(Mapping { base, size, frame, rights: rights % 8 });
+        Ok(Answer::Mapped(Mapped { reason: 0, tables }))
+    }
+
+    fn starts(&self, base: u64) -> Result<usize, u64> {
+        self.mappings.iter().position(|page| page.base == base).ok_or(9)
+    }
+
+    fn unmap(&mut self, base: u64) -> Result<Answer, u64> {
+        let Mapping { size, frame, .. } = self.mappings.swap_remove(self.starts(base)?);
+        let mut aside = 0;
+        for table in Ledger::needs(base, size) {
+            let passing = self.tables.get_mut(&table).expect("a page has its tables");
+            *passing -= 1;
+            if *passing == 0 {
+                self.tables.remove(&table);
+                aside += 1;
+            }
+        }
+        self.aside += aside;
+        let ticket = if aside == 0 { 0 } else { self.released + self.aside };
+        if aside > 0 {
+            self.tickets.push_back(ticket);
+        }
+        Ok(Answer::Unmapped(Unmapped { reason: 0, frame, size, aside, ticket }))
+    }
+
+    fn protect(&mut self, base: u64, rights: u64) -> Result<Answer, u64> {
+        let at = self.starts(base)?;
+        let page = &mut self.mappings[at];
+        page.rights = rights % 8;
+        Ok(Answer::Protected(Protected { reason: 0, frame: page.frame, size: page.size }))
+    }
+
+    fn told(&mut self, ticket: u64) -> Result<Answer, u64> {
+        if ticket > self.released + self.aside {
+            return Err(23);
+        }
+        let released = ticket.saturating_sub(self.released);
+        if released > 0 && ticket > 1 << 62 {
+            return Err(24);
+        }
+        self.free += released;
+        self.aside -= released;
+        self.released += released;
+        Ok(Answer::Told(Told { reason: 0, released }))
+    }
+}
+
+/// Why a page cannot be asked for, whatever is mapped; 0 where it can.
+pub fn asked(base: u64, frame: u64, size: u64) -> u64 {
+    match () {
+        () if !SIZES.contains(&size) => 1,
+        () if base % size != 0 => 2,
+        () if frame % size != 0 => 3,
+        () if base >= TOP || base + size > TOP => 4,
+        () if frame >= PHYSICAL || frame + size > PHYSICAL => 5,
+        () => 0,
+    }
+}
+
+/// What making a pool answers.
+pub fn created(len: usize, origin: u64, pool: u64, pages: u64) -> Created {
+    match create_refused(len, origin, pool, pages) {
+        0 => Created { reason: 0, root: made(origin, pool, pages).root },
+        reason => Created { reason, root: 0 },
+    }
+}

@@ -1,0 +1,89 @@
+//! A space, and when it makes no sense: worked out in numbers that cannot overflow.
+
+use std::fmt;
+
+/// The physical address of the window's first byte, of the pool's first page and of the root table, and how many pages the
+/// pool has.
+#[derive(Clone, Copy, PartialEq, Eq, Debug)]
+pub struct Space {
+    pub origin: u64,
+    pub pool: u64,
+    pub pages: u64,
+    pub root: u64,
+}
+
+impl Space {
+    /// How many pages hold the book: eight words, and one for each page of the pool.
+    pub fn book(&self) -> u64 {
+        book(self.pages)
+    }
+
+    /// The physical address of the first page behind the book, and that after the last.
+    pub fn behind(&self) -> u64 {
+        self.pool + 4096 * self.book()
+    }
+
+    pub fn end(&self) -> u64 {
+        self.pool + 4096 * self.pages
+    }
+
+    /// Why the space is refused, in a window of so many bytes; 0 where it is not.
+    pub fn refused(&self, len: usize) -> u64 {
+        if self.pool % 4096 != 0 {
+            return 14;
+        }
+        if self.root % 4096 != 0 {
+            return 15;
+        }
+        let reason = pool_refused(len, self.origin, self.pool, self.pages);
+        if reason != 0 {
+            return reason;
+        }
+        if (self.behind()..self.end()).contains(&self.root) {
+            0
+        } else {
+            19
+        }
+    }
+}
+
+fn book(pages: u64) -> u64 {
+    let bytes = 8 * (8 + u128::from(pages));
+    bytes.div_ceil(4096) as u64
+}
+
+fn pool_refused(len: usize, origin: u64, pool: u64, pages: u64) -> u64 {
+    let wide = |number: u64| u128::from(number);
+    let (start, end) = (wide(pool), wide(pool) + 4096 * wide(pages));
+    if pages > 4 << 30 {
+        16
+    } else if wide(pages) < wide(book(pages)) + 1 + 1 {
+        17
+    } else if start < wide(origin) || end > wide(origin) + len as u128 || end > 1 << 52 {
+        18
+    } else {
+        0
+    }
+}
+
+/// Why a pool is not made; 0 where it is.
+pub fn create_refused(len: usize, origin: u64, pool: u64, pages: u64) -> u64 {
+    match () {
+        () if origin % 4096 != 0 => 12,
+        () if len % 4096 != 0 => 13,
+        () if pool % 4096 != 0 => 14,
+        () => pool_refused(len, origin, pool, pages),
+    }
+}
+
+/// The space of a pool that was just made.
+pub fn made(origin: u64, pool: u64, pages: u64) -> Space {
+    Space { origin, pool, pages, root: pool + 4096 * book(pages) }
+}
+
+impl fmt::Display for Space {
+    fn fmt(&self, to: &mut fmt::Formatter) -> fmt::Result {
+        let Space { origin, pool, pages, root } = self;
+        write!(to, "origin {origin:#x}, pool {pool:#x} of {pages} pages, root {root:#x}")
+    }
+}

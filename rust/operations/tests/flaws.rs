@@ -1,0 +1,509 @@
+//! The test can fail: each of these wrong variants of the checked baseline has to be found, and shown by a few steps.
+//! Each does as the baseline does, and then goes wrong in one place.
+
+use model::{walk, Read, Window};
+use operations::audit::lists;
+use operations::baselines::Checked;
+use operations::cover::{Cover, Sort};
+use operations::shrink::shrink;
+use operations::{test, Created, LookedUp, Mapped, Operations, Protected, Space, Told, Unmapped};
+
+const SEED: u64 = 0x7ab1_e9a7;
+const REQUESTS: u64 = 100_000;
+/// As many as show the most that takes several: two tickets, the first of which is told.
+const MOST_STEPS: usize = 5;
+const TOP: u64 = 1 << 48;
+
+#[derive(Clone, Copy, PartialEq, Eq, Debug)]
+enum Flaw {
+    Sound,
+    // create
+    RootNotCleared,
+    OnePageLost,
+    ThreePagesRefused,
+    LengthNotAsked,
+    MarkForgotten,
+    // map
+    OverlapByBases,
+    LastPageRefused,
+    NotCleared,
+    LinkGrantsLess,
+    Bit7OfSmall,
+    NoexecLost,
+    FrameBelowMeets,
+    FrameBeforePoolRefused,
+    RoomTooLate,
+    LastPagesKept,
+    TakenTwice,
+    FreeNotCounted,
+    TablesNotCounted,
+    RangeBeforeAlignment,
+    SpaceBeforeSize,
+    ReservedIsOverlap,
+    OutsideTouched,
+    // unmap
+    EmptyLeftLinked,
+    OnlyOneUnlinked,
+    NotEmptyUnlinked,
+    RootSetAside,
+    FreedAtOnce,
+    AsideTopDown,
+    TicketOffByOne,
+    FrameNotAnswered,
+    CoveringUnmapped,
+    OnlyPresentCleared,
+    ClearedBeforeBook,
+    // protect
+    DirtyCleared,
+    AccessedCleared,
+    RightsOnlyGrow,
+    UpperProtected,
+    CoveringProtected,
+    AsideTouched,
+    // told
+    AllReleased,
+    OneMoreReleased,
+    UnknownReleasesAll,
+    OldTicketUnknown,
+    TicketsNotCounted,
+    // look_up
+    LastAddressLost,
+    // spaces and reasons
+    RootRounded,
+    PoolRounded,
+    StrayIsNothing,
+    BadBookIsNoBook,
+    BadListIsNoRoom,
+    StopsAtStray,
+}
+use Flaw::*;
+
+struct Flawed(Flaw);
+
+/// Words of the memory, by physical address.
+struct Words<'a> {
+    mem: &'a mut [u8],
+    space: Space,
+}
+
+impl Words<'_> {
+    fn at(&self, address: u64) -> usize {
+        (address - self.space.origin) as usize
+    }
+
+    fn get(&self, address: u64) -> u64 {
+        u64::from_le_bytes(self.mem[self.at(address)..][..8].try_into().unwrap())
+    }
+
+    fn put(&mut self, address: u64, word: u64) {
+        let at = self.at(address);
+        self.mem[at..at + 8].copy_from_slice(&word.to_le_bytes());
+    }
+
+    fn book(&self, word: u64) -> u64 {
+        self.get(self.space.pool + 8 * word)
+    }
+
+    fn put_book(&mut self, word: u64, to: u64) {
+        self.put(self.space.pool + 8 * word, to);
+    }
+
+    /// The word of the book that lists the page at this position.
+    fn slot(&self, position: u64) -> u64 {
+        8 + (self.book(2) + position) % self.space.pages
+    }
+
+    /// The entries on the way of an address, from the root's on.
+    fn way(&self, va: u64) -> Vec<Read> {
+        let window = Window { bytes: self.mem, origin: self.space.origin };
+        walk(window, self.space.root, va).way.into_iter().flatten().collect()
+    }
+
+    /// The pages that are listed as free, the oldest first, by address.
+    fn free(&self) -> Vec<u64> {
+        lists(self.mem, &self.space).free.iter().map(|page| page * 4096).collect()
+    }
+}
+
+fn words(mem: &mut [u8], space: Space) -> Words<'_> {
+    Words { mem, space }
+}
+
+impl Flawed {
+    /// Where a page that covers the address starts.
+    fn covering(&self, mem: &[u8], space: Space, va: u64) -> Option<u64> {
+        let found = Checked.look_up(mem, space.origin, space.root, va);
+        (found.kind == 1).then_some(found.base)
+    }
+
+    fn reason(&self, reason: u64) -> u64 {
+        match (self.0, reason) {
+            (StrayIsNothing, 10) => 9,
+            (BadBookIsNoBook, 22) => 20,
+            (BadListIsNoRoom, 11) => 8,
+            (StopsAtStray, 10) => panic!("a stray way"),
+            _ => reason,
+        }
+    }
+
+    fn space(&self, mut space: Space) -> Space {
+        match self.0 {
+            RootRounded => space.root = space.root / 4096 * 4096,
+            PoolRounded => space.pool = space.pool / 4096 * 4096,
+            _ => {}
+        }
+        space
+    }
+
+    /// What goes wrong after a page was mapped.
+    fn after_map(&self, before: &[u8], words: &mut Words, base: u64, size: u64, tables: u64) {
+        let way = words.way(base);
+        let new = &way[way.len() - 1 - tables as usize..];
+        let old = |words: &Words, address: u64| {
+            let at = words.at(address);
+            u64::from_le_bytes(before[at..at + 8].try_into().unwrap())
+        };
+        match self.0 {
+            NotCleared => {
+                for entry in &new[1..] {
+                    let page = entry.address / 4096 * 4096;
+                    for address in (page..page + 4096).step_by(8).filter(|address| *address != entry.address) {
+                        words.put(address, old(words, address));
+                    }
+                }
+            }
+            LinkGrantsLess if tables > 0 => words.put(new[0].address, new[0].word & !4),
+            Bit7OfSmall if size == 4096 => words.put(new[tables as usize].address, new[tables as usize].word | 128),
+            TakenTwice | FreeNotCounted => {
+                let head = old(words, words.space.pool + 16);
+                let free = old(words, words.space.pool + 24);
+                words.put_book(3, free);
+                if self.0 == TakenTwice {
+                    words.put_book(2, head);
+                }
+            }
+            OutsideTouched => {
+                if let Some(byte) = words.at(words.space.pool).checked_sub(1) {
+                    words.mem[byte] ^= 1;
+                }
+            }
+            _ => {}
+        }
+    }
+
+    /// What goes wrong after a page was unmapped; `way` is what led to it.
+    fn after_unmap(&self, before: &[u8], words: &mut Words, way: &[Read], answer: &mut Unmapped) {
+        let last = way[way.len() - 1];
+        match self.0 {
+            EmptyLeftLinked if answer.aside > 0 => {
+                words.mem.copy_from_slice(before);
+                words.put(last.address, 0);
+                (answer.aside, answer.ticket) = (0, 0);
+            }
+            OnlyOneUnlinked if answer.aside > 1 => {
+                words.mem.copy_from_slice(before);
+                words.put(last.address, 0);
+                words.put(way[way.len() - 2].address, 0);
+                let aside = words.book(4);
+                words.put_book(words.slot(words.book(3) + aside), last.address / 4096);
+                words.put_book(4, aside + 1);
+                (answer.aside, answer.ticket) = (1, words.book(5) + aside + 1);
+            }
+            NotEmptyUnlinked if answer.aside == 0 && way.len() > 1 => words.put(way[way.len() - 2].address, 0),
+            RootSetAside if answer.aside as usize == way.len() - 1 => {
+                let root = words.space.root;
+                if (0..512).all(|index| words.get(root + 8 * index) == 0) {
+                    let aside = words.book(4);
+                    words.put_book(words.slot(words.book(3) + aside), root / 4096);
+                    words.put_book(4, aside + 1);
+                }
+            }
+            AsideTopDown if answer.aside > 1 => {
+                let end = words.book(3) + words.book(4);
+                let (one, other) = (words.slot(end - 1), words.slot(end - 2));
+                let (first, second) = (words.book(one), words.book(other));
+                words.put_book(one, second);
+                words.put_book(other, first);
+            }
+            OnlyPresentCleared => words.put(last.address, last.word & !1),
+            TicketOffByOne => answer.ticket += u64::from(answer.ticket > 0),
+            FrameNotAnswered => answer.frame = 0,
+            FreedAtOnce if answer.ticket > 0 => {
+                Checked.told(words.mem, words.space, answer.ticket);
+            }
+            _ => {}
+        }
+    }
+}
+
+impl Operations for Flawed {
+    fn create(&self, mem: &mut [u8], origin: u64, pool: u64, pages: u64) -> Created {
+        let before = mem.to_vec();
+        let len = if self.0 == LengthNotAsked { mem.len() / 4096 * 4096 } else { mem.len() };
+        if self.0 == ThreePagesRefused && pages == 3 {
+            return Created { reason: 17, root: 0 };
+        }
+        let answer = Checked.create(&mut mem[..len], origin, pool, pages);
+        if answer.reason == 0 {
+            let mut words = words(mem, Space { origin, pool, pages, root: answer.root });
+            match self.0 {
+                RootNotCleared => {
+                    let at = words.at(answer.root);
+                    words.mem[at..at + 4096].copy_from_slice(&before[at..at + 4096]);
+                }
+                OnePageLost => words.put_book(3, words.book(3) - 1),
+                MarkForgotten => words.put_book(0, 0),
+                _ => {}
+            }
+        }
+        answer
+    }
+
+    fn map(&self, mem: &mut [u8], space: Space, base: u64, frame: u64, size: u64, rights: u64) -> Mapped {
+        let before = mem.to_vec();
+        let space = self.space(space);
+        let granted = if self.0 == NoexecLost { rights & 3 } else { rights };
+        let refused = |reason| Mapped { reason, tables: 0 };
+        let mut answer = Checked.map(mem, space, base, frame, size, granted);
+        answer.reason = self.reason(answer.reason);
+        let bits = (rights & 3) << 1 | (rights & 4) << 61 | if size > 4096 { 129 } else { 1 };
+        match (self.0, answer.reason) {
+            (OverlapByBases, 7) if self.covering(mem, space, base).is_none() => {
+                let mut words = words(mem, space);
+                let level = [4096, 1 << 21, 1 << 30].iter().position(|each| *each == size).unwrap();
+                let entry = words.way(base)[3 - level];
+                words.put(entry.address, frame | bits);
+                return refused(0);
+            }
+            (FrameBelowMeets, 6) if frame < space.pool => {
+                answer = Checked.map(mem, space, base, (1 << 52) - size, size, rights);
+                if answer.reason == 0 {
+                    let mut words = words(mem, space);
+                    let entry = *words.way(base).last().unwrap();
+                    words.put(entry.address, frame | bits);
+                }
+                return answer;
+            }
+            (RoomTooLate, 8) => {
+                let mut words = words(mem, space);
+                if let Some(page) = words.free().first() {
+                    words.put(*page, 0);
+                }
+            }
+            (RangeBeforeAlignment, 2) if base >= TOP => return refused(4),
+            (SpaceBeforeSize, 1..=5) => {
+                let other = Checked.map(&mut before.clone(), space, 0, (1 << 52) - 4096, 4096, 0);
+                if (14..=19).contains(&other.reason) {
+                    return refused(other.reason);
+                }
+            }
+            (_, 0) => {
+                let mut words = words(mem, space);
+                let undone = match self.0 {
+                    LastPageRefused if base + size == TOP => 4,
+                    FrameBeforePoolRefused if frame + size == space.pool => 6,
+                    LastPagesKept if answer.tables > 0 && words.book(3) == 0 => 8,
+                    ReservedIsOverlap => {
+                        let entry = words.way(base)[words.way(base).len() - 1 - answer.tables as usize];
+                        let at = words.at(entry.address);
+                        if before[at] & 1 == 1 {
+                            7
+                        } else {
+                            0
+                        }
+                    }
+                    _ => 0,
+                };
+                if undone > 0 {
+                    mem.copy_from_slice(&before);
+                    return refused(undone);
+                }
+                // Where bytes are damaged, the way may not lead to the page.
+                if words.way(base).len() > answer.tables as usize {
+                    self.after_map(&before, &mut words, base, size, answer.tables);
+                }
+                if self.0 == TablesNotCounted {
+                    answer.tables = 0;
+                }
+            }
+            _ => {}
+        }
+        answer
+    }
+
+    fn unmap(&self, mem: &mut [u8], space: Space, base: u64) -> Unmapped {
+        let before = mem.to_vec();
+        let space = self.space(space);
+        let sound = space.refused(mem.len()) == 0;
+        let way = if sound { words(mem, space).way(base) } else { vec![] };
+        let mut answer = Checked.unmap(mem, space, base);
+        answer.reason = self.reason(answer.reason);
+        match (self.0, answer.reason) {
+            (CoveringUnmapped, 9) => {
+                if let Some(start) = self.covering(mem, space, base) {
+                    return Checked.unmap(mem, space, start);
+                }
+            }
+            (ClearedBeforeBook, 20..=22) => words(mem, space).put(way[way.len() - 1].address, 0),
+            (_, 0) => self.after_unmap(&before, &mut words(mem, space), &way, &mut answer),
+            _ => {}
+        }
+        answer
+    }
+
+    fn protect(&self, mem: &mut [u8], space: Space, base: u64, rights: u64) -> Protected {
+        let space = self.space(space);
+        let old = Checked.look_up(mem, space.origin, space.root, base).rights;
+        let rights = if self.0 == RightsOnlyGrow { rights | old } else { rights };
+        let mut answer = Checked.protect(mem, space, base, rights);
+        answer.reason = self.reason(answer.reason);
+        if answer.reason == 9 && self.0 == CoveringProtected {
+            if let Some(start) = self.covering(mem, space, base) {
+                return Checked.protect(mem, space, start, rights);
+            }
+        }
+        if answer.reason == 0 {
+            let mut words = words(mem, space);
+            let way = words.way(base);
+            let last = way[way.len() - 1];
+            match self.0 {
+                DirtyCleared => words.put(last.address, last.word & !(1 << 6)),
+                AccessedCleared => words.put(last.address, last.word & !(1 << 5)),
+                UpperProtected if rights & 1 == 0 => {
+                    let upper = way[way.len() - 2];
+                    words.put(upper.address, upper.word & !2);
+                }
+                AsideTouched => {
+                    if let Some(page) = lists(words.mem, &space).aside.first() {
+                        words.put(page * 4096, 0xa51de);
+                    }
+                }
+                _ => {}
+            }
+        }
+        answer
+    }
+
+    fn told(&self, mem: &mut [u8], space: Space, ticket: u64) -> Told {
+        let space = self.space(space);
+        let mut answer = Checked.told(&mut mem.to_vec(), space, ticket);
+        let mut asked = ticket;
+        if answer.reason == 0 || answer.reason == 23 {
+            let words = words(mem, space);
+            let (last, all) = (words.book(5), words.book(5) + words.book(4));
+            match self.0 {
+                AllReleased if answer.released > 0 => asked = all,
+                OneMoreReleased if answer.released > 0 => asked = all.min(ticket + 1),
+                UnknownReleasesAll if answer.reason == 23 => asked = all,
+                OldTicketUnknown if ticket < last => return Told { reason: 23, released: 0 },
+                _ => {}
+            }
+        }
+        let old = if answer.reason == 0 { words(mem, space).book(5) } else { 0 };
+        answer = Checked.told(mem, space, asked);
+        answer.reason = self.reason(answer.reason);
+        if answer.reason == 0 && self.0 == TicketsNotCounted {
+            words(mem, space).put_book(5, old);
+        }
+        answer
+    }
+
+    fn look_up(&self, mem: &[u8], origin: u64, root: u64, va: u64) -> LookedUp {
+        if self.0 == LastAddressLost && va == TOP - 1 {
+            return LookedUp::default();
+        }
+        Checked.look_up(mem, origin, root, va)
+    }
+}
+
+/// Found within the requests of a run, and then shown by a few steps.
+fn found(flaw: Flaw, sort: Sort) {
+    let of = Flawed(flaw);
+    let mut cover = Cover::default();
+    let (scene, failure) =
+        test(&of, None, sort, SEED, REQUESTS, &mut cover).expect("the test sees nothing that is wrong");
+    let small = shrink(&of, None, failure);
+    println!("scene {scene}, request {}:\n  {}", cover.asked, small.setup);
+    small.steps.iter().for_each(|step| println!("  {step}"));
+    println!("  {}", small.trouble);
+    assert!(small.steps.len() <= MOST_STEPS, "{} steps are left", small.steps.len());
+}
+
+macro_rules! flaws {
+    ($($test:ident: $flaw:ident, $sort:ident;)*) => { $(#[test] fn $test() { found($flaw, Sort::$sort) })* };
+}
+
+// With the sort of requests that finds it.
+flaws! {
+    root_not_cleared: RootNotCleared, Sound;
+    one_page_lost: OnePageLost, Sound;
+    three_pages_refused: ThreePagesRefused, Sound;
+    length_not_asked: LengthNotAsked, Sound;
+    mark_forgotten: MarkForgotten, Sound;
+    overlap_by_bases: OverlapByBases, Sound;
+    last_page_refused: LastPageRefused, Sound;
+    not_cleared: NotCleared, Sound;
+    link_grants_less: LinkGrantsLess, Sound;
+    bit_7_of_small: Bit7OfSmall, Sound;
+    noexec_lost: NoexecLost, Sound;
+    frame_below_meets: FrameBelowMeets, Sound;
+    frame_before_pool_refused: FrameBeforePoolRefused, Sound;
+    room_too_late: RoomTooLate, Sound;
+    last_pages_kept: LastPagesKept, Sound;
+    taken_twice: TakenTwice, Sound;
+    free_not_counted: FreeNotCounted, Sound;
+    tables_not_counted: TablesNotCounted, Sound;
+    range_before_alignment: RangeBeforeAlignment, Sound;
+    space_before_size: SpaceBeforeSize, Sound;
+    reserved_is_overlap: ReservedIsOverlap, Damaged;
+    outside_touched: OutsideTouched, Sound;
+    empty_left_linked: EmptyLeftLinked, Sound;
+    only_one_unlinked: OnlyOneUnlinked, Sound;
+    not_empty_unlinked: NotEmptyUnlinked, Sound;
+    root_set_aside: RootSetAside, Sound;
+    freed_at_once: FreedAtOnce, Sound;
+    aside_top_down: AsideTopDown, Sound;
+    ticket_off_by_one: TicketOffByOne, Sound;
+    frame_not_answered: FrameNotAnswered, Sound;
+    covering_unmapped: CoveringUnmapped, Sound;
+    only_present_cleared: OnlyPresentCleared, Sound;
+    cleared_before_book: ClearedBeforeBook, Damaged;
+    dirty_cleared: DirtyCleared, Sound;
+    accessed_cleared: AccessedCleared, Sound;
+    rights_only_grow: RightsOnlyGrow, Sound;
+    upper_protected: UpperProtected, Sound;
+    covering_protected: CoveringProtected, Sound;
+    aside_touched: AsideTouched, Sound;
+    all_released: AllReleased, Sound;
+    one_more_released: OneMoreReleased, Sound;
+    unknown_releases_all: UnknownReleasesAll, Sound;
+    old_ticket_unknown: OldTicketUnknown, Sound;
+    tickets_not_counted: TicketsNotCounted, Sound;
+    last_address_lost: LastAddressLost, Sound;
+    root_rounded: RootRounded, Sound;
+    pool_rounded: PoolRounded, Sound;
+    stray_is_nothing: StrayIsNothing, Damaged;
+    bad_book_is_no_book: BadBookIsNoBook, Damaged;
+    bad_list_is_no_room: BadListIsNoRoom, Damaged;
+    stops_at_stray: StopsAtStray, Damaged;
+}
+
+/// What is beside is compared too.
+#[test]
+fn one_beside_that_differs() {
+    let wrong = Flawed(DirtyCleared);
+    let (_, failure) = test(&Checked, Some(&wrong), Sort::Sound, SEED, REQUESTS, &mut Cover::default())
+        .expect("the test sees no difference");
+    let small = shrink(&Checked, Some(&wrong), failure);
+    assert!(small.trouble.starts_with("beside it: "), "{}", small.trouble);
+    assert!(small.steps.len() <= MOST_STEPS, "{} steps are left", small.steps.len());
+}
+
+#[test]
+fn without_a_flaw_none_is_found() {
+    for sort in [Sort::Sound, Sort::Damaged] {
+        if let Some((scene, failure)) = test(&Flawed(Sound), None, sort, SEED, 20_000, &mut Cover::default()) {
+            panic!("scene {scene}: {}", failure.trouble);
+        }
+    }
+}
