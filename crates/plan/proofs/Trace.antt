@@ -67,8 +67,7 @@ module _ {h : ℕ → Bool} {sp : Space} {m : ℕ → ℕ} {role : ℕ → Role}
   -- a table is a page of the pool behind the book, and lies in the window
   pub live-in-pool : {q l : ℕ} → left (role q) ≡ suc l → (inPool sp q ≡ true) × (h q ≡ true)
   live-in-pool {q} {l} e =
-      let home = b .home q (λ z. omega (arith, e, ap left z)) in
-      (
+      let home = b .home q (λ z. omega (arith, e, ap left z)) in (
         in-pool sp q (record { behind = behind-book q (home .from) (λ z. omega (arith, e, ap left z)); before-end = home .upto }),
         home .held,
       )
@@ -96,7 +95,7 @@ module _ {h : ℕ → Bool} {sp : Space} {m : ℕ → ℕ} {role : ℕ → Role}
     told-traced : (n t : ℕ) (w : Way) → n < 4 → Comes (settingOf h sp) m va (suc n) t → Above (settingOf h sp) m va (suc n) t w → Target n
         → (x : Entry) → says n (m (entryOf n va t)) ≡ x
         → ((s : ℕ) (r : Rights) → says n (m (entryOf n va t)) ≡ entry.Table s r → n ≢ target
-            → Traced (settingOf h sp) m va target (endOf (downOf h m sp target va n (At s (pushOf w t)))))
+        → Traced (settingOf h sp) m va target (endOf (downOf h m sp target va n (At s (pushOf w t)))))
         → Traced (settingOf h sp) m va target (endOf (downOf h m sp target va n (toldOf target n (m (entryOf n va t)) (pushOf w t) x)))
     unfolding toldOf stopOf
     told-traced n t w u c o g entry.Nothing e next =

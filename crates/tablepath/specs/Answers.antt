@@ -1,0 +1,117 @@
+-- What each operation answers and writes, as functions of the memory and the arguments: h says which pages lie in the window.
+use Prim.Native.Nat.{ℕ}
+use mathlib.Core.Bool.{Bool}
+use mathlib.Core.List.{List, []}
+use Rattle.word.specs.Writes.{Write}
+use Rattle.entry.specs.declared.Rights.{Rights}
+use Rattle.pool.specs.Book.{openedOf, dueOf, ticketOf}
+use Rattle.pool.specs.Changes.{releaseWrites}
+use Rattle.pool.specs.declared.Space.{Space}
+use Rattle.pool.specs.declared.Book.{Book}
+use Rattle.pool.specs.declared.Opened.{Opened}
+use Rattle.pool.specs.declared.Opened.the-variants as opened
+use Rattle.pool.specs.declared.Due.{Due}
+use Rattle.pool.specs.declared.Due.the-variants as due
+use Rattle.plan.specs.Map as map
+use Rattle.plan.specs.Unmap as unmap
+use Rattle.plan.specs.Protect as protect
+use Rattle.plan.specs.declared.maps.Asked.{Asked}
+use Rattle.plan.specs.declared.maps.Placed.{Placed}
+use Rattle.plan.specs.declared.maps.Placed.the-variants as placed
+use Rattle.plan.specs.declared.unmaps.Removing.{Removing}
+use Rattle.plan.specs.declared.unmaps.Removing.the-variants as removing
+use Rattle.plan.specs.declared.unmaps.Removal.{Removal}
+use Rattle.plan.specs.declared.protects.Changing.{Changing}
+use Rattle.plan.specs.declared.protects.Changing.the-variants as changing
+use Rattle.tablepath.specs.declared.Mapped.{Mapped}
+use Rattle.tablepath.specs.declared.Mapped.the-variants as mapped
+use Rattle.tablepath.specs.declared.Gone.{Gone}
+use Rattle.tablepath.specs.declared.Unmapped.{Unmapped}
+use Rattle.tablepath.specs.declared.Unmapped.the-variants as unmapped
+use Rattle.tablepath.specs.declared.Protected.{Protected}
+use Rattle.tablepath.specs.declared.Protected.the-variants as protected
+use Rattle.tablepath.specs.declared.Report.{Report}
+use Rattle.tablepath.specs.declared.Report.the-variants as told
+
+-- Map --------------------------------------------------------------------------------------------------------------------------
+
+unfoldable pub mapSaid : Placed → Mapped
+mapSaid (placed.Go p) = mapped.Done (p .fresh .need)
+mapSaid (placed.Refused r) = mapped.Refused r
+
+unfoldable pub mapDid : Space → Placed → List Write
+mapDid sp (placed.Go p) = map.writesOf sp p
+mapDid sp (placed.Refused r) = []
+
+unfoldable pub mapAnswer : (ℕ → Bool) → (ℕ → ℕ) → Space → Asked → Mapped
+mapAnswer h m sp q = mapSaid (map.decideOf h m sp q)
+
+unfoldable pub mapWrites : (ℕ → Bool) → (ℕ → ℕ) → Space → Asked → List Write
+mapWrites h m sp q = mapDid sp (map.decideOf h m sp q)
+
+-- Unmap ------------------------------------------------------------------------------------------------------------------------
+
+-- the page that is gone, and the ticket of the book after it: 0 where no table was set aside, since then no book was opened
+unfoldable pub goneOf : Space → Removal → Gone
+goneOf sp r = record {
+  frame = r .spot .frame;
+  size = r .spot .size;
+  aside = r .empties;
+  ticket = ticketOf (unmap.bookAfter sp r);
+}
+
+unfoldable pub unmapSaid : Space → Removing → Unmapped
+unmapSaid sp (removing.Go r) = unmapped.Done (goneOf sp r)
+unmapSaid sp (removing.Refused y) = unmapped.Refused y
+
+unfoldable pub unmapDid : Space → ℕ → Removing → List Write
+unmapDid sp va (removing.Go r) = unmap.writesOf sp va r
+unmapDid sp va (removing.Refused y) = []
+
+unfoldable pub unmapAnswer : (ℕ → Bool) → (ℕ → ℕ) → Space → ℕ → Unmapped
+unmapAnswer h m sp va = unmapSaid sp (unmap.decideOf h m sp va)
+
+unfoldable pub unmapWrites : (ℕ → Bool) → (ℕ → ℕ) → Space → ℕ → List Write
+unmapWrites h m sp va = unmapDid sp va (unmap.decideOf h m sp va)
+
+-- Protect ----------------------------------------------------------------------------------------------------------------------
+
+unfoldable pub protectSaid : Changing → Protected
+protectSaid (changing.Go c) = protected.Done (record { frame = c .frame; size = c .size })
+protectSaid (changing.Refused y) = protected.Refused y
+
+unfoldable pub protectDid : Changing → List Write
+protectDid (changing.Go c) = protect.writesOf c
+protectDid (changing.Refused y) = []
+
+unfoldable pub protectAnswer : (ℕ → Bool) → (ℕ → ℕ) → Space → ℕ → Rights → Protected
+protectAnswer h m sp va r = protectSaid (protect.decideOf h m sp va r)
+
+unfoldable pub protectWrites : (ℕ → Bool) → (ℕ → ℕ) → Space → ℕ → Rights → List Write
+protectWrites h m sp va r = protectDid (protect.decideOf h m sp va r)
+
+-- Told ---------------------------------------------------------------------------------------------------------------------------
+
+unfoldable pub dueSaid : Due → Report
+dueSaid (due.Pages k) = told.Released k
+dueSaid due.Unknown = told.Unknown
+dueSaid due.Spent = told.Spent
+
+unfoldable pub dueDid : Space → Book → Due → List Write
+dueDid sp b (due.Pages k) = releaseWrites sp b k
+dueDid sp b due.Unknown = []
+dueDid sp b due.Spent = []
+
+unfoldable pub toldSaid : ℕ → Opened → Report
+toldSaid t (opened.Book b) = dueSaid (dueOf b t)
+toldSaid t (opened.Refused r) = told.Refused r
+
+unfoldable pub toldDid : Space → ℕ → Opened → List Write
+toldDid sp t (opened.Book b) = dueDid sp b (dueOf b t)
+toldDid sp t (opened.Refused r) = []
+
+unfoldable pub toldAnswer : (ℕ → Bool) → (ℕ → ℕ) → Space → ℕ → Report
+toldAnswer h m sp t = toldSaid t (openedOf h m sp)
+
+unfoldable pub toldWrites : (ℕ → Bool) → (ℕ → ℕ) → Space → ℕ → List Write
+toldWrites h m sp t = toldDid sp t (openedOf h m sp)
