@@ -4,4 +4,3 @@ pub mod Shapes
 pub mod Standing
 pub mod Carrying
 pub mod Keeping
-pub mod Trace

@@ -3,4 +3,3 @@ pub mod Find
 pub mod Protect
 pub mod Map
 pub mod Unmap
-pub mod Whole

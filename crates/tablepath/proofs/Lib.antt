@@ -1,1 +1,4 @@
 pub mod Low
+pub mod Marking
+pub mod Serving
+pub mod Running

@@ -12,3 +12,4 @@ pub mod Walks
 pub mod Ties
 pub mod Tiny
 pub mod Sanity
+pub mod Frozen

@@ -1,0 +1,9 @@
+pub mod Numbers
+pub mod Trace
+pub mod MapPlan
+pub mod MapSteps
+pub mod MapBook
+pub mod MapBuilt
+pub mod MapVerdict
+pub mod MapDone
+pub mod MapRefused

@@ -1,0 +1,213 @@
+-- A plan of map, carried out in a space that is whole: the three steps, the page, and the book.
+use Prim.Native.Nat.{ℕ, zero, suc, _+_, _-_, _%_, _^_, _<_, _≤_}
+use mathlib.Core.Bool.{Bool, true, false, cond}
+use mathlib.Core.List.{List, [], _∷_, _++_, append-assoc}
+use mathlib.Core.Logic.{_≢_}
+use mathlib.Core.Path.{_≡_, refl, sym, ap, _∙_, subst}
+use native.Mathlib.Omega.{arith}
+use borrow.Author.Tests.{leb-true, leb-false}
+use lib.Dec.{leb}
+use Rattle.word.specs.Writes.{Write, write, after}
+use Rattle.word.proofs.Writes.{Every, every-one, every-append, every-map}
+use Rattle.entry.specs.Entry.{sizeOf, says}
+use Rattle.entry.specs.Words.{largeFlag, pageWord}
+use Rattle.entry.specs.declared.Rights.{Rights}
+use Rattle.entry.specs.declared.Entry.the-variants.{Nothing, Page}
+use Rattle.entry.proofs.Written.{flag-lt, page-word-says}
+use Rattle.walk.specs.Walk.{indexOf, baseOf}
+use Rattle.walk.specs.declared.Found.{Found}
+use Rattle.walk.specs.declared.Found.the-variants as found
+use Rattle.walk.proofs.Digits.{index-lt}
+use Rattle.tables.specs.Roles.{Setting, Role, foreign, book, Home, entryAt}
+use Rattle.tables.specs.Way.{Comes}
+use Rattle.tables.specs.Clearing.{book-spare}
+use Rattle.tables.specs.Down.{down-start, map-done}
+use Rattle.tables.specs.Operation.{Changed, changed-sound, changed-spare}
+use Rattle.tables.specs.Overlap.{aligned-base}
+use Rattle.pool.specs.Book.{bookPages, bookOf, pageAt}
+use Rattle.pool.specs.Booked.{settingOf, Booked, Taken}
+use Rattle.pool.specs.declared.Space.{Space}
+use Rattle.plan.specs.declared.maps.Asked.{Asked}
+use Rattle.plan.specs.declared.maps.Mapping.{Mapping}
+use Rattle.plan.specs.declared.maps.Reached.{Reached}
+use Rattle.plan.specs.Map.{nextOf, growOf, reached0, reached1, reached2, reached3, buildOf, writesOf}
+use Rattle.effect.specs.MapDone.{Misses, MapDone}
+use Rattle.effect.specs.Whole.{Whole}
+use Rattle.effect.specs.Numbers.{KeepsNumbers}
+use Rattle.effect.proofs.MapBook.{bookWrites, book-writes-proper, took-behind, took-behind-keeps}
+use Rattle.effect.proofs.MapPlan.{Planned, size-small}
+use Rattle.effect.proofs.MapSteps.{Place, Grown, grown-start, grown-step}
+
+-- a step that stays above the target went down one level
+next-above : (target p : ℕ) (s : Reached) → target < nextOf target p s .level → nextOf target p s .level + 1 ≡ s .level
+unfolding nextOf
+next-above target p s = go (leb (s .level) target) refl
+  where
+    go : (b : Bool) → leb (s .level) target ≡ b → target < cond b s (record { level = s .level - 1; table = p }) .level
+        → cond b s (record { level = s .level - 1; table = p }) .level + 1 ≡ s .level
+    go true e u = absurd (omega (arith, leb-true (s .level) target e))
+    go false e u = omega (arith, leb-false (s .level) target e)
+
+large-small : (l : ℕ) → largeFlag l ≤ 128
+unfolding largeFlag
+large-small zero = omega arith
+large-small (suc l) = omega arith
+
+page-word-small : (l frame : ℕ) (r : Rights) → frame < 2 ^ 52 → pageWord l frame r < 2 ^ 64
+unfolding pageWord
+page-word-small l frame r u = omega (arith, large-small l, flag-lt (r .writable), flag-lt (r .user), flag-lt (r .noexec))
+
+settled : {σ : Setting} {m n : ℕ → ℕ} {role role' : ℕ → Role} {va l : ℕ} {o : Found} {xs : List Write} → Changed σ m role va l o xs n role'
+    → Changed σ m role va l o xs (after m xs) role'
+settled {σ} {m} {n} {role} {role'} {va} {l} {o} {xs} k = subst (λ (x : ℕ → ℕ). Changed σ m role va l o xs x role') (k .now) k
+
+-- the same operation under equal names, and with the memory after its writes
+recast : {σ : Setting} {m n : ℕ → ℕ} {role role' : ℕ → Role} {va va' l l' : ℕ} {o o' : Found} {xs xs' : List Write} → va ≡ va' → l ≡ l' → o ≡ o' → xs ≡ xs'
+    → Changed σ m role va l o xs n role' → Changed σ m role va' l' o' xs' (after m xs') role'
+recast {σ} {m} {n} {role} {role'} {va} {va'} {l} {l'} {o} {o'} {xs} {xs'} a b c d k =
+    settled (subst (λ (x : List Write). Changed σ m role va' l' o' x n role') d
+    (subst (λ (x : Found). Changed σ m role va' l' x xs n role') c
+    (subst (λ x. Changed σ m role va' x o xs n role') b (subst (λ x. Changed σ m role x l o xs n role') a k))))
+
+module _ {h : ℕ → Bool} {sp : Space} {m : ℕ → ℕ} {role : ℕ → Role} (w : Whole h sp m role) {q : Asked} {p : Mapping} (k : Planned h sp m q p) where
+  -- the page at position j is for the step that has gone down j levels
+  supply : (j x n : ℕ) → (j < p .level - p .target → x ≡ pageAt m sp j) → n + j ≡ p .level → p .target < n
+      → (x ≡ pageAt m sp (p .level - n)) × (p .level - n < bookOf m sp .free)
+  supply j x n f e u =
+      let z : p .level - n ≡ j = omega arith in
+      rw z (f (omega arith), omega (arith, k .supplied .room))
+
+  comes : Comes (settingOf h sp) m (p .base) (suc (p .level)) (p .table)
+  comes = rw (k .base-is) (k .comes)
+
+  abbrev Grows : ℕ → List Write → Reached → Type 0
+  Grows = Grown h sp m role (p .base) (p .target) (p .level)
+
+  abbrev grow1 : List Write
+  grow1 = growOf (p .base) (p .target) (p .fresh .a) (reached0 p)
+
+  abbrev grow2 : List Write
+  grow2 = growOf (p .base) (p .target) (p .fresh .b) (reached1 p)
+
+  abbrev grow3 : List Write
+  grow3 = growOf (p .base) (p .target) (p .fresh .c) (reached2 p)
+
+  grown1 : Grows 2 grow1 (reached1 p)
+  grown1 =
+      grown-step w (p .base) (p .target) (p .level) 2 (p .fresh .a) [] (reached0 p)
+      (grown-start w (p .base) (p .target) (p .level) (p .table) (k .above) (omega (arith, k .low)) (down-start (w .sound) comes) (rw (k .base-is) (k .nothing)))
+      (supply 0 (p .fresh .a) (p .level) (k .supplied .first) (omega arith))
+
+  down1 : p .target < reached1 p .level → reached1 p .level + 1 ≡ p .level
+  down1 = next-above (p .target) (p .fresh .a) (reached0 p)
+
+  down2 : p .target < reached2 p .level → reached2 p .level + 1 ≡ reached1 p .level
+  down2 = next-above (p .target) (p .fresh .b) (reached1 p)
+
+  grown2 : Grows 1 (grow1 ++ grow2) (reached2 p)
+  grown2 =
+      grown-step w (p .base) (p .target) (p .level) 1 (p .fresh .b) grow1 (reached1 p) grown1
+      (λ u. supply 1 (p .fresh .b) (reached1 p .level) (k .supplied .second) (down1 u) u)
+
+  grown3 : Grows 0 ((grow1 ++ grow2) ++ grow3) (reached3 p)
+  grown3 =
+      grown-step w (p .base) (p .target) (p .level) 0 (p .fresh .c) (grow1 ++ grow2) (reached2 p) grown2
+      (λ u. let a = down2 u in let b = down1 (omega arith) in supply 2 (p .fresh .c) (reached2 p .level) (k .supplied .third) (omega arith) u)
+
+  abbrev page : List Write
+  page = write (reached3 p .table) (indexOf (reached3 p .level) (p .base)) (p .word) ∷ []
+
+  build-is : ((grow1 ++ grow2) ++ grow3) ++ page ≡ buildOf p
+  unfolding buildOf
+  build-is = simp append-assoc
+
+  -- the way has come to the target
+  there : reached3 p .level ≡ p .target
+  there = omega (arith, grown3 .above, grown3 .near)
+
+  need-is : p .level - reached3 p .level ≡ p .fresh .need
+  need-is = ap (λ x. p .level - x) there ∙ sym (k .supplied .need-is)
+
+  taken : Taken (pageAt m sp) (p .fresh .need) role (grown3 .roles)
+  taken = subst (λ x. Taken (pageAt m sp) x role (grown3 .roles)) need-is (grown3 .taken)
+
+  frame-small : q .frame < 2 ^ 52
+  frame-small = omega (arith, k .fitted .frame-fits, size-small (p .target) (q .size) (k .fitted .level) (k .fitted .size-is) .0)
+
+  word-says : says (p .target) (p .word) ≡ Page (q .frame) (q .rights)
+  word-says =
+      let f = k .fitted in
+      rw (k .word-is)
+      (page-word-says (p .target) (q .frame) (q .rights)
+      (record { level = f .level; aligned = ap (λ x. q .frame % x) (sym (f .size-is)) ∙ f .frame-aligned; below = frame-small }))
+
+  -- what the range has then, in the numbers that were asked
+  result : found.Page (baseOf (p .target) (p .base)) (sizeOf (p .target)) (q .frame) (q .rights) ≡ found.Page (q .base) (q .size) (q .frame) (q .rights)
+  result =
+      let f = k .fitted in
+      let a = aligned-base (p .target) (q .base) (ap (λ x. q .base % x) (sym (f .size-is)) ∙ f .base-aligned) in
+      rw (k .base-is, a, ← f .size-is)
+
+  -- the tables and the page
+  built : Changed (settingOf h sp) m role (q .base) (p .target) (found.Page (q .base) (q .size) (q .frame) (q .rights)) (buildOf p) (after m (buildOf p)) (grown3 .roles)
+  built =
+      recast (k .base-is) there (ap (λ x. found.Page (baseOf x (p .base)) (sizeOf x) (q .frame) (q .rights)) there ∙ result) build-is
+      (map-done (p .word) (q .frame) (q .rights) (grown3 .down) (grown3 .nothing) (rw there word-says) (rw there (rw (k .fitted .size-is) at (k .apart))))
+
+  places : Every (Place h sp) (buildOf p)
+  places =
+      subst (Every (Place h sp)) build-is
+      (every-append ((grow1 ++ grow2) ++ grow3) page (grown3 .places)
+      (every-one (reached3 p .table) (indexOf (reached3 p .level) (p .base)) (p .word) (grown3 .place) (index-lt (reached3 p .level) (p .base))
+      (rw (k .word-is) (page-word-small (p .target) (q .frame) (q .rights) frame-small))))
+
+  booked : Booked sp (after m (writesOf sp p)) (grown3 .roles)
+  unfolding writesOf
+  booked =
+      took-behind (w .booked) (buildOf p) (every-map (λ x u. u .behind) (buildOf p) places) (p .fresh .need) (p .fresh .book)
+      (omega (arith, k .supplied .need-is, k .supplied .room)) (λ u. k .supplied .book-is (omega (arith, k .supplied .need-is))) taken
+
+  numbers : KeepsNumbers sp m (after m (writesOf sp p))
+  unfolding writesOf
+  numbers =
+      took-behind-keeps (w .booked) (buildOf p) (every-map (λ x u. u .behind) (buildOf p) places) (p .fresh .need) (p .fresh .book)
+      (omega (arith, k .supplied .need-is, k .supplied .room)) (λ u. k .supplied .book-is (omega (arith, k .supplied .need-is)))
+
+  changed : Changed (settingOf h sp) m role (q .base) (p .target) (found.Page (q .base) (q .size) (q .frame) (q .rights)) (writesOf sp p) (after m (writesOf sp p)) (grown3 .roles)
+  unfolding writesOf
+  changed =
+      settled (changed-spare (bookWrites sp (p .fresh .book) (p .fresh .need)) built
+      (every-map (λ x u. book-spare (grown3 .roles) x (booked .in-book x (u .0) (u .1))) _ (book-writes-proper sp (p .fresh .book) (p .fresh .need))))
+
+  proper : Every (Home (settingOf h sp)) (writesOf sp p)
+  unfolding writesOf
+  proper =
+      every-append (buildOf p) _ (every-map (λ x u. u .home) (buildOf p) places)
+      (every-map (λ x u. w .sound .built .home x (book-known x (u .0) (u .1))) _ (book-writes-proper sp (p .fresh .book) (p .fresh .need)))
+    where
+      book-known : (x : ℕ) → sp .first ≤ x → x < sp .first + bookPages (sp .pages) → role x ≢ foreign
+      book-known x u v e = let b : role x ≡ book = w .booked .in-book x u v in let z : _≡_ {A = ℕ} 0 1 = cc in omega arith
+
+  missing : Misses (settingOf h sp) m (q .base) (p .target) (p .fresh .need)
+  missing =
+      let e : p .level ≡ p .target + p .fresh .need = omega (arith, k .supplied .need-is, k .above) in
+      record {
+        table = p .table;
+        comes = subst (λ x. Comes (settingOf h sp) m (q .base) (suc x) (p .table)) e (k .comes);
+        nothing = subst (λ x. entryAt m x (p .table) (indexOf x (q .base)) ≡ Nothing) e (k .nothing);
+      }
+
+  -- A PLAN THAT IS CARRIED OUT does what was asked
+  pub planned-done : MapDone h sp m role q p
+  planned-done = record {
+    role' = grown3 .roles;
+    fitted = k .fitted;
+    missing = missing;
+    few = omega (arith, k .supplied .need-is, k .low);
+    taken = taken;
+    changed = changed;
+    booked = booked;
+    whole = record { stands = w .stands; small = w .small; sound = changed-sound changed; booked = booked };
+    proper = proper;
+    numbers = numbers;
+  }

@@ -1,0 +1,95 @@
+-- The numbers of the pages that are set aside: what leaves them, and that a page set aside later has a later number.
+use Prim.Native.Nat.{ℕ, _+_, _-_, _*_, _/_, _%_, _<_, _≤_}
+use mathlib.Core.Bool.{Bool, true, false, cond, _&&_}
+use mathlib.Core.List.{List, [], _∷_}
+use mathlib.Core.Logic.{_⊎_, inl, inr, _≢_}
+use mathlib.Core.Path.{_≡_, refl, sym, ap, _∙_, subst}
+use native.Mathlib.Decide.{decLt}
+use native.Mathlib.Omega.{arith}
+use lib.Dec.{leb}
+use Rattle.word.specs.Memory.{set}
+use Rattle.word.specs.Writes.{Write, after}
+use Rattle.word.proofs.Writes.{Every, every-map, after-other}
+use Rattle.tables.specs.Roles.{Role, aside}
+use Rattle.pool.specs.Book.{bookPages, wordOf, bookOf, pageAt, spotOf, soundOf, ticketOf}
+use Rattle.pool.specs.Booked.{Booked, Numbered}
+use Rattle.pool.specs.declared.Space.{Space}
+use Rattle.pool.specs.declared.Book.{Book}
+use Rattle.pool.specs.Changes.{put, tookWrites, asideWrites, asideBook}
+use Rattle.pool.proofs.Counts.{spot-in, is-sound}
+use Rattle.pool.proofs.Booked.{after-put, word-same, word-other}
+use Rattle.pool.proofs.Taking.{took-numbered}
+use Rattle.pool.proofs.SettingAside.{aside-others, aside-book}
+use Rattle.effect.specs.Numbers.{SameBook, KeepsNumbers}
+use Rattle.pool.proofs.Far.{word-at}
+
+pub keeps-self : (sp : Space) (m : ℕ → ℕ) → KeepsNumbers sp m m
+keeps-self sp m = record { numbers = λ p k h. h; tickets = refl; more = omega arith }
+
+pub keeps-then : {sp : Space} {m m' m'' : ℕ → ℕ} → KeepsNumbers sp m m' → KeepsNumbers sp m' m'' → KeepsNumbers sp m m''
+keeps-then a b = record { numbers = λ p k h. b .numbers p k (a .numbers p k h); tickets = b .tickets ∙ a .tickets; more = omega (arith, a .more, b .more) }
+
+pub same-keeps : {sp : Space} {m m' : ℕ → ℕ} {role : ℕ → Role} → Booked sp m role → SameBook sp m m' → KeepsNumbers sp m m'
+unfolding pageAt
+same-keeps {sp} {m} {m'} b e = record { numbers = number; tickets = e 5 (omega arith); more = omega (arith, e 4 (omega arith)) }
+  where
+    page : (k : ℕ) → k < bookOf m sp .free + bookOf m sp .aside → pageAt m' sp k ≡ pageAt m sp k
+    page k u =
+        let s = b .sound in
+        rw (e 2 (omega arith))
+        (e (8 + spotOf (sp .pages) (m (wordOf sp 2)) k) (omega (arith, spot-in (sp .pages) (m (wordOf sp 2)) k (s .head-in) (omega (arith, s .room)))))
+
+    number : (p k : ℕ) → Numbered m sp p k → Numbered m' sp p k
+    number p k h =
+        rw (e 3 (omega arith), e 4 (omega arith), e 5 (omega arith))
+        (h .0, h .1, page (bookOf m sp .free + h .0) (omega (arith, h .1)) ∙ h .2, h .3)
+
+-- writes elsewhere leave the book
+pub same-elsewhere : (sp : Space) (m : ℕ → ℕ) (xs : List Write) → Every (λ q. (q < sp .first) ⊎ (sp .first + bookPages (sp .pages) ≤ q)) xs → SameBook sp m (after m xs)
+unfolding bookPages
+same-elsewhere sp m xs h k u = rw word-at at (after-other m xs (sp .first + k / 512) (k % 512) (omega arith) (every-map (λ q. apart q) xs h))
+  where
+    apart : (q : ℕ) → (q < sp .first) ⊎ (sp .first + bookPages (sp .pages) ≤ q) → q ≢ sp .first + k / 512
+    apart q (inl v) e = omega arith
+    apart q (inr v) e = omega arith
+
+-- a number has one page
+pub one-page : (sp : Space) (m : ℕ → ℕ) (p q k : ℕ) → Numbered m sp p k → Numbered m sp q k → p ≡ q
+one-page sp m p q k h g =
+    let same : h .0 ≡ g .0 = omega (arith, h .3, g .3) in
+    sym (h .2) ∙ ap (λ i. pageAt m sp (bookOf m sp .free + i)) same ∙ g .2
+
+-- A PAGE THAT IS SET ASIDE LATER has a later number: what had none has one from the ticket on.
+pub later-number : {sp : Space} {m m' : ℕ → ℕ} → KeepsNumbers sp m m' → (p k : ℕ) → Numbered m' sp p k → ((j : ℕ) → ¬ Numbered m sp p j) → ticketOf (bookOf m sp) ≤ k
+later-number {sp} {m} {m'} a p k h n = elim (decLt k (ticketOf (bookOf m sp))) [ yes u ↦ absurd (n k (old u)) | no u ↦ omega arith ]
+  where
+    old : k < ticketOf (bookOf m sp) → Numbered m sp p k
+    old u =
+        let i : ℕ = k - bookOf m sp .tickets in
+        let first : bookOf m sp .tickets ≤ k = omega (arith, h .3, a .tickets) in
+        let q : ℕ = pageAt m sp (bookOf m sp .free + i) in
+        let g : Numbered m sp q k = (i, omega arith, refl, omega arith) in
+        subst (λ x. Numbered m sp x k) (one-page sp m' q p k (a .numbers q k g) h) g
+
+-- The book's own changes --------------------------------------------------------------------------------------------------------
+
+-- pages are taken
+pub took-keeps : {sp : Space} {m : ℕ → ℕ} {role : ℕ → Role} → Booked sp m role → (k : ℕ) → k ≤ bookOf m sp .free → KeepsNumbers sp m (after m (tookWrites sp (bookOf m sp) k))
+took-keeps {sp} {m} b k u = record { numbers = took-numbered b k u; tickets = word 5 (omega arith) (omega arith); more = omega (arith, word 4 (omega arith) (omega arith)) }
+  where
+    word : (j : ℕ) → j ≢ 2 → j ≢ 3 → after m (tookWrites sp (bookOf m sp) k) (wordOf sp j) ≡ m (wordOf sp j)
+    word j x y = unfold tookWrites in go (leb k (bookOf m sp .free) && soundOf (sp .pages) (bookOf m sp))
+      where
+        go : (t : Bool) → after m (cond t (put sp 2 (spotOf (sp .pages) (bookOf m sp .head) k) ∷ put sp 3 (bookOf m sp .free - k) ∷ []) []) (wordOf sp j) ≡ m (wordOf sp j)
+        go true =
+            ap (λ f. f (wordOf sp j)) (after-put m sp 2 (spotOf (sp .pages) (bookOf m sp .head) k) (put sp 3 (bookOf m sp .free - k) ∷ [])
+            ∙ after-put (set m (wordOf sp 2) (spotOf (sp .pages) (bookOf m sp .head) k)) sp 3 (bookOf m sp .free - k) [])
+            ∙ (unfold after in word-other _ sp 3 _ j (λ e. y (sym e)) ∙ word-other m sp 2 _ j (λ e. x (sym e)))
+        go false = unfold after in refl
+
+-- a page is set aside
+pub aside-keeps : {sp : Space} {m : ℕ → ℕ} {role : ℕ → Role} → Booked sp m role → (p : ℕ) → KeepsNumbers sp m (after m (asideWrites sp (bookOf m sp) p))
+aside-keeps {sp} {m} b p = record { numbers = aside-others b p; tickets = ap (λ y. y .tickets) counts; more = omega (arith, ap (λ y. y .aside) counts) }
+  where
+    counts : bookOf (after m (asideWrites sp (bookOf m sp) p)) sp ≡ record { head = bookOf m sp .head; free = bookOf m sp .free; aside = bookOf m sp .aside + 1; tickets = bookOf m sp .tickets }
+    counts = sym (aside-book b p) ∙ (unfold asideBook in rw (is-sound (sp .pages) (bookOf m sp) (b .sound)))

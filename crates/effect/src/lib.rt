@@ -1,0 +1,1 @@
+// What the plans do to tables that we built: laws only, no code.
