@@ -7,3 +7,13 @@ pub mod MapBuilt
 pub mod MapVerdict
 pub mod MapDone
 pub mod MapRefused
+pub mod Wholes
+pub mod Located
+pub mod Searching
+pub mod Emptying
+pub mod Cuts
+pub mod Rising
+pub mod UnmapDone
+pub mod ProtectDone
+pub mod ToldDone
+pub mod Exactly

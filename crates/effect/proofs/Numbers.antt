@@ -6,6 +6,7 @@ use mathlib.Core.Logic.{_⊎_, inl, inr, _≢_}
 use mathlib.Core.Path.{_≡_, refl, sym, ap, _∙_, subst}
 use native.Mathlib.Decide.{decLt}
 use native.Mathlib.Omega.{arith}
+use borrow.Author.Tests.{le-leb}
 use lib.Dec.{leb}
 use Rattle.word.specs.Memory.{set}
 use Rattle.word.specs.Writes.{Write, after}
@@ -15,7 +16,7 @@ use Rattle.pool.specs.Book.{bookPages, wordOf, bookOf, pageAt, spotOf, soundOf,
 use Rattle.pool.specs.Booked.{Booked, Numbered}
 use Rattle.pool.specs.declared.Space.{Space}
 use Rattle.pool.specs.declared.Book.{Book}
-use Rattle.pool.specs.Changes.{put, tookWrites, asideWrites, asideBook}
+use Rattle.pool.specs.Changes.{put, tookWrites, asideWrites, asideBook, releaseWrites}
 use Rattle.pool.proofs.Counts.{spot-in, is-sound}
 use Rattle.pool.proofs.Booked.{after-put, word-same, word-other}
 use Rattle.pool.proofs.Taking.{took-numbered}
@@ -93,3 +94,36 @@ aside-keeps {sp} {m} b p = record { numbers = aside-others b p; tickets = ap (λ
   where
     counts : bookOf (after m (asideWrites sp (bookOf m sp) p)) sp ≡ record { head = bookOf m sp .head; free = bookOf m sp .free; aside = bookOf m sp .aside + 1; tickets = bookOf m sp .tickets }
     counts = sym (aside-book b p) ∙ (unfold asideBook in rw (is-sound (sp .pages) (bookOf m sp) (b .sound)))
+
+-- A report ------------------------------------------------------------------------------------------------------------------------
+
+module _ {sp : Space} {m : ℕ → ℕ} {role : ℕ → Role} (b : Booked sp m role) (k : ℕ) (u : k ≤ bookOf m sp .aside) where
+  -- the memory after each of its writes
+  first : ℕ → ℕ
+  first = set m (wordOf sp 3) (bookOf m sp .free + k)
+
+  second : ℕ → ℕ
+  second = set first (wordOf sp 4) (bookOf m sp .aside - k)
+
+  third : ℕ → ℕ
+  third = set second (wordOf sp 5) (bookOf m sp .tickets + k)
+
+  is-third : after m (releaseWrites sp (bookOf m sp) k) ≡ third
+  unfolding first second third releaseWrites after
+  is-third =
+      rw (le-leb k (bookOf m sp .aside) u, is-sound (sp .pages) (bookOf m sp) (b .sound))
+      (after-put m sp 3 (bookOf m sp .free + k) (put sp 4 (bookOf m sp .aside - k) ∷ put sp 5 (bookOf m sp .tickets + k) ∷ [])
+      ∙ after-put first sp 4 (bookOf m sp .aside - k) (put sp 5 (bookOf m sp .tickets + k) ∷ [])
+      ∙ after-put second sp 5 (bookOf m sp .tickets + k) [])
+
+  aside-third : third (wordOf sp 4) ≡ bookOf m sp .aside - k
+  unfolding third second
+  aside-third = word-other second sp 5 _ 4 (omega arith) ∙ word-same first sp 4 _
+
+  tickets-third : third (wordOf sp 5) ≡ bookOf m sp .tickets + k
+  unfolding third
+  tickets-third = word-same second sp 5 _
+
+  -- A REPORT leaves the ticket of the moment as it is
+  pub release-ticket : ticketOf (bookOf (after m (releaseWrites sp (bookOf m sp) k)) sp) ≡ ticketOf (bookOf m sp)
+  release-ticket = ap (λ f. ticketOf (bookOf f sp)) is-third ∙ omega (arith, aside-third, tickets-third)

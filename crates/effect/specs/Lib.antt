@@ -2,3 +2,9 @@ pub mod Whole
 pub mod Numbers
 pub mod MapDone
 pub mod MapRefused
+pub mod OfPool
+pub mod StartsAt
+pub mod UnmapDone
+pub mod ProtectDone
+pub mod ToldDone
+pub mod Exactly

@@ -2,3 +2,5 @@ pub mod Low
 pub mod Marking
 pub mod Serving
 pub mod Running
+pub mod Serves
+pub mod Beside

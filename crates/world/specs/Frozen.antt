@@ -2,12 +2,14 @@
 -- with no more than the list itself adds: a period may begin at any moment, and what was frozen before it does not count.
 use mathlib.Core.List.{List, [], _∷_}
 use mathlib.Core.Logic.{_⊎_, inl, inr}
-use mathlib.Core.Path.{_≡_}
+use mathlib.Core.Path.{_≡_, refl, sym, _∙_, subst}
 use Prim.Native.Nat.{ℕ, zero, suc}
 use Rattle.word.specs.Memory.{set}
+use Rattle.word.proofs.Set.{set-other}
 use Rattle.world.specs.Walker.{Walker, cell, Reads, ReadsIn, BelowIn}
-use Rattle.world.specs.Events.{Event, write, mark, happen, Among, All}
+use Rattle.world.specs.Events.{Event, write, mark, happen, after, Among, All}
 use Rattle.world.specs.Discipline.{Grow, Safe}
+use Rattle.world.specs.Marks.{writes}
 use Rattle.world.specs.Rules.{frozen, Obeys, obeys-weaken}
 
 -- what holds at no moment does not hold at one
@@ -52,6 +54,17 @@ module _ {Word View Address Place Answer : Type 0} (W : Walker Word View Address
       go (inl (inl g)) = inl g
       go (inl (inr c)) = inr (inl (c .0, below-read m (c .0) (left (start (c .0))) (start (c .0)) a x (c .1)))
       go (inr g) = inr (inr g)
+
+  -- A FROZEN CELL IS NOT WRITTEN: the code's writes leave it. (n: the memory as these make it, without the machine's marks.)
+  unwritten-beside : (es : List (Event Word)) (F : ℕ → Type 0) (m n : ℕ → Word) (x : ℕ) → Safe W F m es → F x → after n (writes es) x ≡ n x
+  unfolding Safe writes after happen
+  unwritten-beside [] F m n x s f = refl
+  unwritten-beside (mark a v ∷ es) F m n x s f = unwritten-beside es F (set m a v) n x (s .1) f
+  unwritten-beside (write a v ∷ es) F m n x s f =
+      unwritten-beside es (Grow W F m a) (set m a v) (set n a v) x (s .1) (inl f) ∙ set-other n a v x (λ e. s .0 (inl (subst F (sym e) f)))
+
+  pub frozen-unwritten : (es : List (Event Word)) (F : ℕ → Type 0) (m : ℕ → Word) (x : ℕ) → Safe W F m es → F x → after m (writes es) x ≡ m x
+  frozen-unwritten es F m x s f = unwritten-beside es F m m x s f
 
   -- FROM A SMALLER FROZEN SET: what was frozen and is not counted (not in F) must be read at no moment.
   pub obeys-from : (es : List (Event Word)) (F F' G G' : ℕ → Type 0) (m : ℕ → Word) → Obeys W G m es G' → ((x : ℕ) → F x → G x)

@@ -1,0 +1,91 @@
+-- FOUND EXACTLY: in a space that is whole a page is found at va if and only if one starts there, and nothing else is ever the matter.
+use Prim.Native.Nat.{ℕ, _%_, _^_, _<_, _≤_}
+use mathlib.Core.Bool.{Bool}
+use mathlib.Core.Path.{_≡_, sym, ap, _∙_}
+use native.Mathlib.Decide.{ℕ-discrete, decLt}
+use native.Mathlib.Nat.{div-add-mod'}
+use native.Mathlib.Omega.{arith}
+use borrow.Author.Tests.{lt-ltb, le-ltb, le-leb, eq-eqb, ne-eqb}
+use Rattle.entry.specs.Entry.{sizeOf, says}
+use Rattle.entry.specs.declared.Rights.{Rights}
+use Rattle.walk.specs.Walk.{baseOf}
+use Rattle.walk.specs.declared.Found.the-variants as found
+use Rattle.tables.specs.Roles.{Role}
+use Rattle.tables.specs.Meaning.{meaning, high-nothing, mean-nothing, mean-page}
+use Rattle.tables.specs.Overlap.{starts-once}
+use Rattle.pool.specs.Booked.{settingOf}
+use Rattle.pool.specs.declared.Space.{Space}
+use Rattle.plan.specs.declared.Reason.the-variants.{NothingStarts}
+use Rattle.plan.specs.declared.descent.Way.{Way}
+use Rattle.plan.specs.declared.finding.Spot.{Spot}
+use Rattle.plan.specs.declared.finding.Sought.the-variants.{Found, Refused}
+use Rattle.plan.specs.Descend.{wayOf}
+use Rattle.plan.specs.Find.{startsOf, spotOf, becauseOf, stoppedOf, soughtOf, foundOf}
+use Rattle.effect.specs.StartsAt.{StartsAt}
+use Rattle.effect.specs.Whole.{Whole}
+use Rattle.plan.proofs.Found.{found-at}
+use Rattle.effect.proofs.Located.{located}
+use Rattle.effect.proofs.Trace.{Traced, Because, at-nothing, at-page, at-table}
+use Rattle.effect.proofs.Wholes.{way-traced}
+
+module _ {h : ℕ → Bool} {sp : Space} {m : ℕ → ℕ} {role : ℕ → Role} (w : Whole h sp m role) (va : ℕ) where
+  -- what is found, or why not, and what that means
+  pub data Verdict : Type 0 where
+    there : (s : Spot) → foundOf h m sp va ≡ Found s → StartsAt (settingOf h sp) m va → Verdict
+    missing : foundOf h m sp va ≡ Refused NothingStarts → ¬ StartsAt (settingOf h sp) m va → Verdict
+
+  -- an address that means nothing, or a page with another base: no page starts there
+  nothing-starts : meaning (settingOf h sp) m va ≡ found.Nothing → ¬ StartsAt (settingOf h sp) m va
+  nothing-starts e a =
+      let k = starts-once (settingOf h sp) m va (a .address) (a .size) (a .frame) (a .rights) (a .means) in
+      let z : _≡_ {A = ℕ} 0 1 = cc in
+      omega arith
+
+  other-starts : (base size f : ℕ) (g : Rights) → meaning (settingOf h sp) m va ≡ found.Page base size f g → ¬ (base ≡ va) → ¬ StartsAt (settingOf h sp) m va
+  other-starts base size f g e n a =
+      let k = starts-once (settingOf h sp) m va (a .address) (a .size) (a .frame) (a .rights) (a .means) in
+      let same : base ≡ va = cc in
+      n same
+
+  -- an address that is its own base is aligned
+  base-aligned : (l : ℕ) → baseOf l va ≡ va → va % sizeOf l ≡ 0
+  unfolding baseOf
+  base-aligned l e = omega (arith, div-add-mod' va (sizeOf l))
+
+  -- below 2 ^ 48 the way decides
+  found-by : va < 2 ^ 48 → foundOf h m sp va ≡ stoppedOf va (wayOf h m sp va 4)
+  unfolding foundOf soughtOf
+  found-by u = rw (w .stands, lt-ltb va (2 ^ 48) u)
+
+  stopped-by : (y : Way) → y .level < 4 → stoppedOf va y ≡ becauseOf va y (y .why)
+  unfolding stoppedOf
+  stopped-by y u = rw (le-leb (y .level) 3 (omega arith))
+
+  found-there : (s : Spot) → foundOf h m sp va ≡ Found s → Verdict
+  found-there s f =
+      let k = located w (found-at h m sp va s f) in
+      there s f (record { address = va; size = s .size; frame = s .frame; rights = k .rights; means = k .means })
+
+  decide : (y : Way) → foundOf h m sp va ≡ becauseOf va y (y .why) → Traced (settingOf h sp) m va 4 y → Because m 4 y → Verdict
+  unfolding becauseOf spotOf startsOf
+  decide y f t (at-nothing r g e) =
+      missing (f ∙ rw r) (nothing-starts (mean-nothing (w .sound .built) (t .comes) (ap (says (y .level)) (sym (t .word)) ∙ e)))
+  decide y f t (at-table x g r l e) = absurd (omega (arith, t .low))
+  decide y f t (at-page x g r l e) = go (ℕ-discrete (va % sizeOf (y .level)) 0)
+    where
+      go : Dec (va % sizeOf (y .level) ≡ 0) → Verdict
+      go (yes a) = found-there (record { way = y; frame = x; size = sizeOf (y .level) }) (f ∙ rw (r, eq-eqb (va % sizeOf (y .level)) 0 a, e))
+      go (no a) =
+          missing (f ∙ rw (r, ne-eqb (va % sizeOf (y .level)) 0 a))
+          (other-starts (baseOf (y .level) va) (sizeOf (y .level)) x g (mean-page (w .sound .built) (t .comes) (ap (says (y .level)) (sym (t .word)) ∙ e))
+          (λ s. a (base-aligned (y .level) s)))
+
+  -- FOUND EXACTLY WHERE A PAGE STARTS
+  pub verdict : Verdict
+  unfolding foundOf soughtOf
+  verdict = elim (decLt va (2 ^ 48)) [
+    | yes u ↦ let t = way-traced w va u in decide (wayOf h m sp va 4) (found-by u ∙ stopped-by (wayOf h m sp va 4) (t .low)) t (t .because)
+    | no u ↦
+        let high : 2 ^ 48 ≤ va = omega arith in
+        missing (rw (w .stands, le-ltb va (2 ^ 48) high)) (nothing-starts (high-nothing (settingOf h sp) m va high))
+  ]

@@ -1,0 +1,37 @@
+-- REFUSED EXACTLY: unmap and protect have one reason to refuse, that no page starts at va, and refuse exactly then; and what told refuses.
+use Prim.Native.Nat.{ℕ, _^_, _<_, _≤_}
+use mathlib.Core.Bool.{Bool}
+use mathlib.Core.Logic.{_↔_}
+use mathlib.Core.Path.{_≡_}
+use Rattle.entry.specs.declared.Rights.{Rights}
+use Rattle.pool.specs.Book.{ticketOf, dueOf}
+use Rattle.pool.specs.Booked.{settingOf}
+use Rattle.pool.specs.declared.Book.{Book}
+use Rattle.pool.specs.declared.Due.the-variants as due
+use Rattle.pool.specs.declared.Space.{Space}
+use Rattle.plan.specs.declared.Reason.{Reason}
+use Rattle.plan.specs.declared.Reason.the-variants.{NothingStarts}
+use Rattle.plan.specs.declared.protects.Change.{Change}
+use Rattle.plan.specs.declared.protects.Changing.the-variants as changing
+use Rattle.plan.specs.declared.unmaps.Removal.{Removal}
+use Rattle.plan.specs.declared.unmaps.Removing.the-variants as removing
+use Rattle.plan.specs.Protect as protect
+use Rattle.effect.specs.StartsAt.{StartsAt}
+use Rattle.plan.specs.Unmap as unmap
+
+-- refused: it refuses for want of a page exactly where none starts; only: for no other reason; succeeds: it is done exactly where one starts
+pub record UnmapExactly (h : ℕ → Bool) (sp : Space) (m : ℕ → ℕ) (va : ℕ) : Type 0 where
+  pub refused : (unmap.decideOf h m sp va ≡ removing.Refused NothingStarts) ↔ (¬ StartsAt (settingOf h sp) m va)
+  pub only : (y : Reason) → unmap.decideOf h m sp va ≡ removing.Refused y → y ≡ NothingStarts
+  pub succeeds : ((r : Removal) × (unmap.decideOf h m sp va ≡ removing.Go r)) ↔ StartsAt (settingOf h sp) m va
+
+pub record ProtectExactly (h : ℕ → Bool) (sp : Space) (m : ℕ → ℕ) (va : ℕ) (rights : Rights) : Type 0 where
+  pub refused : (protect.decideOf h m sp va rights ≡ changing.Refused NothingStarts) ↔ (¬ StartsAt (settingOf h sp) m va)
+  pub only : (y : Reason) → protect.decideOf h m sp va rights ≡ changing.Refused y → y ≡ NothingStarts
+  pub succeeds : ((c : Change) × (protect.decideOf h m sp va rights ≡ changing.Go c)) ↔ StartsAt (settingOf h sp) m va
+
+-- TOLD: a ticket that was never handed out is unknown; one with which the numbers would run out is spent; any other is done.
+pub record ToldExactly (b : Book) (t : ℕ) : Type 0 where
+  pub unknown : (dueOf b t ≡ due.Unknown) ↔ (ticketOf b < t)
+  pub spent : (dueOf b t ≡ due.Spent) ↔ ((t ≤ ticketOf b) × (2 ^ 62 < t))
+  pub succeeds : ((k : ℕ) × (dueOf b t ≡ due.Pages k)) ↔ ((t ≤ ticketOf b) × (t ≤ 2 ^ 62))

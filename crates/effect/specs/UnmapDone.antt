@@ -1,0 +1,56 @@
+-- UNMAP, DONE: what it did, in a space that is whole.
+use Prim.Native.Nat.{ℕ, _+_, _%_, _<_, _≤_}
+use mathlib.Core.Bool.{Bool}
+use mathlib.Core.Logic.{_⊎_}
+use mathlib.Core.Path.{_≡_}
+use Rattle.word.specs.Writes.{after}
+use Rattle.word.proofs.Writes.{Every}
+use Rattle.entry.specs.Entry.{sizeOf}
+use Rattle.entry.specs.declared.Rights.{Rights}
+use Rattle.walk.specs.declared.Found.the-variants as found
+use Rattle.tables.specs.Roles.{Role, aside, table}
+use Rattle.tables.specs.Meaning.{meaning}
+use Rattle.tables.specs.Operation.{Changed}
+use Rattle.pool.specs.Book.{bookOf, ticketOf}
+use Rattle.pool.specs.Booked.{settingOf, Numbered, tablesOf}
+use Rattle.pool.specs.declared.Space.{Space}
+use Rattle.pool.specs.declared.Book.{Book}
+use Rattle.plan.specs.declared.unmaps.Removal.{Removal}
+use Rattle.effect.specs.OfPool.{OfPool}
+use Rattle.plan.specs.Unmap.{low, bookAfter, writesOf}
+use Rattle.effect.specs.Whole.{Whole}
+
+-- a book with n pages more set aside
+abbrev pub asideMore : ℕ → Book → Book
+asideMore n b = record { head = b .head; free = b .free; aside = b .aside + n; tickets = b .tickets }
+
+-- page p was a table, and is set aside now; its number is one of those from `from` to `upto` - 1
+pub record SetAside (sp : Space) (role role' : ℕ → Role) (m' : ℕ → ℕ) (from upto p : ℕ) : Type 0 where
+  pub levels : ℕ
+  pub parent : ℕ
+  pub index : ℕ
+  pub was : role p ≡ table levels parent index
+  pub is : role' p ≡ aside
+  pub number : ℕ
+  pub numbered : Numbered m' sp p number
+  pub since : from ≤ number
+  pub below : number < upto
+
+-- before: the page that started at va, whose frame and size it answers. changed: every address of the page means nothing now, by one write; no
+-- other address changes; empty tables are unlinked. book: what it answers is the book. fate: each page has its role still, or was a table
+-- and is set aside, with a number below the ticket; fewer: so many of them. proper: it writes to the pool.
+pub record UnmapDone (h : ℕ → Bool) (sp : Space) (m : ℕ → ℕ) (role : ℕ → Role) (va : ℕ) (r : Removal) : Type 0 where
+  pub role' : ℕ → Role
+  pub size-is : r .spot .size ≡ sizeOf (r .spot .way .level)
+  pub aligned : va % r .spot .size ≡ 0
+  pub had : Rights
+  pub before : meaning (settingOf h sp) m va ≡ found.Page va (r .spot .size) (r .spot .frame) had
+  pub changed : Changed (settingOf h sp) m role va (r .spot .way .level) found.Nothing (writesOf sp va r) (after m (writesOf sp va r)) role'
+  pub whole : Whole h sp (after m (writesOf sp va r)) role'
+  pub proper : Every (OfPool sp) (writesOf sp va r)
+  pub is-low : low r
+  pub book : 0 < r .empties → bookAfter sp r ≡ bookOf (after m (writesOf sp va r)) sp
+  pub counts : bookOf (after m (writesOf sp va r)) sp ≡ asideMore (r .empties) (bookOf m sp)
+  pub fate : (p : ℕ) → (role' p ≡ role p) ⊎ SetAside sp role role' (after m (writesOf sp va r)) (ticketOf (bookOf m sp)) (ticketOf (bookAfter sp r)) p
+  pub fewer : tablesOf sp role ≡ tablesOf sp role' + r .empties
+  pub numbers : (p n : ℕ) → Numbered m sp p n → Numbered (after m (writesOf sp va r)) sp p n
