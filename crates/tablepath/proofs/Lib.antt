@@ -4,3 +4,5 @@ pub mod Serving
 pub mod Running
 pub mod Serves
 pub mod Beside
+pub mod RoundTrips
+pub mod Wholes
