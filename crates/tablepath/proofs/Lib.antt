@@ -6,3 +6,5 @@ pub mod Serves
 pub mod Beside
 pub mod RoundTrips
 pub mod Wholes
+pub mod Reported
+pub mod MapUnmap

@@ -89,8 +89,8 @@ module _ (h : ℕ → Bool) (sp : Space) (n : ℕ) (m : ℕ → ℕ) (role : ℕ
       (λ x f. numbered-aside (w .booked) (x / 512) (f .0) (f .2))
       (λ x f. (f .0, f .1, d .stays (x / 512) (f .0) (f .2) (omega (arith, f .1)) .1))
       (λ x e r. absurd (among-none (eventsOf ws) m (SomeReads (walkerOf (settingOf h sp)) x)
-          (all-map (eventsOf ws) m (λ y. Built (settingOf h sp) y role) (λ y. ¬ SomeReads (walkerOf (settingOf h sp)) x y)
-          (λ y b q. unread b x (ap left e) (q .0) (q .1)) (spare-untouched ws (w .sound .built) (release-spare k) .moments)) r))
+      (all-map (eventsOf ws) m (λ y. Built (settingOf h sp) y role) (λ y. ¬ SomeReads (walkerOf (settingOf h sp)) x y)
+      (λ y b q. unread b x (ap left e) (q .0) (q .1)) (spare-untouched ws (w .sound .built) (release-spare k) .moments)) r))
     where
       ws : List Write
       ws = releaseWrites sp (bookOf m sp) k

@@ -77,8 +77,7 @@ module _ (s : List ℕ) (origin first pages : ℕ) where
       let may = root-may p (mayCreate (length s) (holds s origin) origin first pages) e in
       let f = may-fit (length s) (holds s origin) origin first pages may in
       let here : inPool (newSpace origin first pages) (first + bookPages pages) ≡ true =
-          in-pool (newSpace origin first pages) (first + bookPages pages) (record { behind = omega arith; before-end = omega (arith, f .enough) }) in
-      (
+      in-pool (newSpace origin first pages) (first + bookPages pages) (record { behind = omega arith; before-end = omega (arith, f .enough) }) in (
         k .0,
         record {
           stands = rw (holds-carried s origin (createWrites (length s) (holds s origin) origin first pages), may-room may, here);
