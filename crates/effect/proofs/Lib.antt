@@ -17,3 +17,7 @@ pub mod UnmapDone
 pub mod ProtectDone
 pub mod ToldDone
 pub mod Exactly
+pub mod WayInPool
+pub mod MapInPool
+pub mod UnmapInPool
+pub mod InPool

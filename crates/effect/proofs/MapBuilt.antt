@@ -53,7 +53,7 @@ unfolding largeFlag
 large-small zero = omega arith
 large-small (suc l) = omega arith
 
-page-word-small : (l frame : ℕ) (r : Rights) → frame < 2 ^ 52 → pageWord l frame r < 2 ^ 64
+pub page-word-small : (l frame : ℕ) (r : Rights) → frame < 2 ^ 52 → pageWord l frame r < 2 ^ 64
 unfolding pageWord
 page-word-small l frame r u = omega (arith, large-small l, flag-lt (r .writable), flag-lt (r .user), flag-lt (r .noexec))
 

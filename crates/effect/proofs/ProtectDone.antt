@@ -37,7 +37,7 @@ use Rattle.effect.proofs.Located.{Located, located}
 use Rattle.effect.proofs.Wholes.{Beside, live-in, in-beside, in-of-pool, book-beside, numbered-beside}
 
 -- a word with other rights is a word
-with-rights-lt : (w : ℕ) (r : Rights) → withRights w r < 2 ^ 64
+pub with-rights-lt : (w : ℕ) (r : Rights) → withRights w r < 2 ^ 64
 unfolding withRights
 with-rights-lt w r = numbers w _ _ _ (flag-lt (r .writable)) (flag-lt (r .user)) (flag-lt (r .noexec))
   where

@@ -8,3 +8,4 @@ pub mod RoundTrips
 pub mod Wholes
 pub mod Reported
 pub mod MapUnmap
+pub mod InPool
