@@ -1,8 +1,9 @@
 # make test   every test, from nothing; the last line counts them
 # make demo   the demonstration
+# make lib    target/tablepath: the archive for x86-64, the header, the licences
 # make walks  the compiled library against the manual's walk alone, with what is proved already
 # make clean  removes all that was made
-.PHONY: test demo walks clean
+.PHONY: test demo lib walks clean
 
 test:
 	@tools/test
@@ -11,6 +12,9 @@ demo:
 	@mkdir -p target
 	@rt check demo >target/demo.log 2>&1 || { cat target/demo.log; exit 1; }
 	@tools/run demo
+
+lib:
+	@tools/lib
 
 walks:
 	@tools/test archive rust walks

@@ -1,78 +1,198 @@
-// What C and Rust call: plain numbers in, and a struct of plain numbers out.
+// What C and Rust call: plain numbers in, and a struct of plain numbers out. A space is four numbers in bytes: the physical address
+// of the window's first byte, that of the pool's first page, how many pages the pool has, and the physical address of the root table.
+// Rights are bits: bit 0 writable, bit 1 user, bit 2 not executable.
 ghost use mathlib.Core.Path.{_≡_};
-ghost use Prim.Native.Nat.{_<_};
 ghost use Rattle.word.specs.Memory.{memory, holds};
-ghost use Rattle.entry.specs.Words.{flag};
 ghost use Rattle.walk.specs.Walk.{walk};
-ghost use Rattle.abi.specs.Answer.{rightsWord, lookedUp};
-use entry::Rights;
-use walk::Found;
+ghost use Rattle.abi.specs.Answers as the;
+ghost use Rattle.abi.specs.Calls as call;
+use plan::Asked;
+use plan::Shape;
+use pool::Space;
 
-// What an address means. Fields that say nothing are 0.
-#[repr(C)]
-pub struct LookedUp {
-    // 0: nothing; 1: a page; 2: outside, the way leads to a table that does not lie in the window
-    pub kind: u64,
-    // the page's first address, its size, and where it lies in physical memory
-    pub base: u64,
-    pub size: u64,
-    pub frame: u64,
-    // of the whole way: bit 0 writable, bit 1 user, bit 2 not executable
-    pub rights: u64,
+mod answers;
+
+pub use answers::Created;
+pub use answers::LookedUp;
+pub use answers::Mapped;
+pub use answers::Protected;
+pub use answers::Told;
+pub use answers::Unmapped;
+
+// A space by page numbers, or the number of the reason why there is none.
+pub enum Sited {
+    At(Space),
+    Refused(u64),
 }
 
-fn bit(b: bool) -> u64
-    ensures { λ r. ⌜ (r ≡ flag b) × (r < 2) ⌝ }
+// The space that the four numbers name.
+fn site(origin: u64, pool: u64, pages: u64, root: u64) -> Sited
+    ensures { λ r. ⌜ r ≡ call.siteOf origin pool pages root ⌝ }
 {
-    if b {
-        return 1;
+    if pool % 4096 != 0 {
+        return Sited::Refused(14);
     }
-    0
+    if root % 4096 != 0 {
+        return Sited::Refused(15);
+    }
+    Sited::At(Space {
+        origin: origin,
+        first: pool / 4096,
+        pages: pages,
+        root: root / 4096,
+    })
 }
 
-fn rights_word(r: Rights) -> u64
-    ensures { λ w. ⌜ w ≡ rightsWord r ⌝ }
+// The same for what map is asked: its size, alignment and range come first.
+fn asked_site(origin: u64, pool: u64, pages: u64, root: u64, q: Asked) -> Sited
+    ensures { λ r. ⌜ r ≡ call.askedSite origin pool pages root q ⌝ }
 {
-    bit(r.writable) + 2 * bit(r.user) + 4 * bit(r.noexec)
+    let s = plan::shaped(q.size, q.base, q.frame);
+    match s {
+        Shape::Bad(y) => Sited::Refused(answers::reason(y)),
+        Shape::Level(n) => site(origin, pool, pages, root),
+    }
 }
 
-fn looked_up(f: Found) -> LookedUp
-    ensures { λ r. ⌜ r ≡ lookedUp f ⌝ }
+// Makes a pool of these pages, with its book and an empty root.
+#[no_mangle]
+pub extern "C" fn tp_create(mem: &mut [u8], origin: u64, pool: u64, pages: u64) -> Created
+    ensures answer { λ r. ⌜ r ≡ call.createAnswer (now (mem .entry)) origin pool pages ⌝ }
+    ensures bytes { λ _. ⌜ now (mem .exit) ≡ call.createBytes (now (mem .entry)) origin pool pages ⌝ }
 {
-    match f {
-        Found::Page {
-            base,
-            size,
-            frame,
-            rights,
-        } => LookedUp {
-            kind: 1,
-            base: base,
-            size: size,
-            frame: frame,
-            rights: rights_word(rights),
+    if origin % 4096 != 0 {
+        return Created {
+            reason: 12,
+            root: 0,
+        };
+    }
+    if mem.len() % 4096 != 0 {
+        return Created {
+            reason: 13,
+            root: 0,
+        };
+    }
+    if pool % 4096 != 0 {
+        return Created {
+            reason: 14,
+            root: 0,
+        };
+    }
+    answers::of_create(tablepath::create(mem, origin, pool / 4096, pages))
+}
+
+// Maps the frame at the base, with these rights.
+#[no_mangle]
+pub extern "C" fn tp_map(
+    mem: &mut [u8],
+    origin: u64,
+    pool: u64,
+    pages: u64,
+    root: u64,
+    base: u64,
+    frame: u64,
+    size: u64,
+    rights: u64,
+) -> Mapped
+    ensures answer { λ r. ⌜ r ≡ call.mapAnswer (now (mem .entry)) (call.ask base frame size rights) (call.askedSite origin pool pages root (call.ask base frame size rights)) ⌝ }
+    ensures bytes { λ _. ⌜ now (mem .exit) ≡ call.mapBytes (now (mem .entry)) (call.ask base frame size rights) (call.askedSite origin pool pages root (call.ask base frame size rights)) ⌝ }
+{
+    let q = Asked {
+        base: base,
+        frame: frame,
+        size: size,
+        rights: answers::rights(rights),
+    };
+    let s = asked_site(origin, pool, pages, root, q);
+    match s {
+        Sited::Refused(y) => Mapped {
+            reason: y,
+            tables: 0,
         },
-        Found::Nothing => LookedUp {
-            kind: 0,
-            base: 0,
-            size: 0,
+        Sited::At(space) => answers::of_map(tablepath::map(mem, space, q)),
+    }
+}
+
+// Unmaps the page that starts exactly at the base, and sets aside the tables that become empty.
+#[no_mangle]
+pub extern "C" fn tp_unmap(
+    mem: &mut [u8],
+    origin: u64,
+    pool: u64,
+    pages: u64,
+    root: u64,
+    base: u64,
+) -> Unmapped
+    ensures answer { λ r. ⌜ r ≡ call.unmapAnswer (now (mem .entry)) base (call.siteOf origin pool pages root) ⌝ }
+    ensures bytes { λ _. ⌜ now (mem .exit) ≡ call.unmapBytes (now (mem .entry)) base (call.siteOf origin pool pages root) ⌝ }
+{
+    let s = site(origin, pool, pages, root);
+    match s {
+        Sited::Refused(y) => Unmapped {
+            reason: y,
             frame: 0,
-            rights: 0,
-        },
-        Found::Outside => LookedUp {
-            kind: 2,
-            base: 0,
             size: 0,
-            frame: 0,
-            rights: 0,
+            aside: 0,
+            ticket: 0,
         },
+        Sited::At(space) => answers::of_unmap(tablepath::unmap(mem, space, base)),
+    }
+}
+
+// Gives the page that starts exactly at the base other rights; the machine's marks stay.
+#[no_mangle]
+pub extern "C" fn tp_protect(
+    mem: &mut [u8],
+    origin: u64,
+    pool: u64,
+    pages: u64,
+    root: u64,
+    base: u64,
+    rights: u64,
+) -> Protected
+    ensures answer { λ r. ⌜ r ≡ call.protectAnswer (now (mem .entry)) base (the.rightsIn rights) (call.siteOf origin pool pages root) ⌝ }
+    ensures bytes { λ _. ⌜ now (mem .exit) ≡ call.protectBytes (now (mem .entry)) base (the.rightsIn rights) (call.siteOf origin pool pages root) ⌝ }
+{
+    let s = site(origin, pool, pages, root);
+    match s {
+        Sited::Refused(y) => Protected {
+            reason: y,
+            frame: 0,
+            size: 0,
+        },
+        Sited::At(space) => {
+            answers::of_protect(tablepath::protect(mem, space, base, answers::rights(rights)))
+        }
+    }
+}
+
+// The caller reports that every cache was told of what had happened when this ticket was handed out.
+#[no_mangle]
+pub extern "C" fn tp_told(
+    mem: &mut [u8],
+    origin: u64,
+    pool: u64,
+    pages: u64,
+    root: u64,
+    ticket: u64,
+) -> Told
+    ensures answer { λ r. ⌜ r ≡ call.toldAnswer (now (mem .entry)) ticket (call.siteOf origin pool pages root) ⌝ }
+    ensures bytes { λ _. ⌜ now (mem .exit) ≡ call.toldBytes (now (mem .entry)) ticket (call.siteOf origin pool pages root) ⌝ }
+{
+    let s = site(origin, pool, pages, root);
+    match s {
+        Sited::Refused(y) => Told {
+            reason: y,
+            released: 0,
+        },
+        Sited::At(space) => answers::of_told(tablepath::told(mem, space, ticket)),
     }
 }
 
 // What the address means in the tables below this root, for any bytes and any numbers; the root is given as in CR3.
 #[no_mangle]
 pub extern "C" fn tp_look_up(mem: &[u8], origin: u64, root: u64, va: u64) -> LookedUp
-    ensures { λ r. ⌜ r ≡ lookedUp (walk (holds (now (mem .entry)) origin) (memory (now (mem .entry)) origin) root va) ⌝ }
+    ensures answer { λ r. ⌜ r ≡ the.lookedUp (walk (holds (now (mem .entry)) origin) (memory (now (mem .entry)) origin) root va) ⌝ }
 {
-    looked_up(walk::look_up(mem, origin, root, va))
+    answers::of_look_up(tablepath::look_up(mem, origin, root, va))
 }

@@ -78,7 +78,7 @@ fn fits(n: u64, size: u64, base: u64, frame: u64) -> Shape
     Shape::Level(n)
 }
 
-fn shaped(size: u64, base: u64, frame: u64) -> Shape
+pub fn shaped(size: u64, base: u64, frame: u64) -> Shape
     ensures { λ r. ⌜ r ≡ the.shapeOf size base frame ⌝ }
 {
     if size == 4096 {

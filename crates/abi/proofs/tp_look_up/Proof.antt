@@ -3,20 +3,20 @@ use Rattle.abi.proofs.tp_look_up.Statement.{statement}
 use Rattle.abi.proofs.tp_look_up.Tie as tie
 use Rattle.abi.proofs.tp_look_up.Reads as reads
 use Rattle.abi.proofs.tp_look_up.Lts as lts
-use Rattle.abi.proofs.looked_up.Reads as looked-up-reads
-use Rattle.walk.proofs.look_up.Reads as look-up-reads
+use Rattle.abi.proofs.answers.of_look_up.Reads as of-look-up-reads
+use Rattle.tablepath.proofs.look_up.Reads as look-up-reads
 
--- src/lib.rt:77:15
+-- src/lib.rt:197:25
 look-up-requires : tie.Need-look-up-requires
 look-up-requires c κs = search needs
 
--- src/lib.rt:77:5
-looked-up-requires : tie.Need-looked-up-requires
-looked-up-requires c κs = search needs
+-- src/lib.rt:197:5
+of-look-up-requires : tie.Need-of-look-up-requires
+of-look-up-requires c κs = search needs
 
--- src/lib.rt:73:1
+-- src/lib.rt:193:1
 returns : tie.Need-returns
-returns c = rw (c .looked-up .ensures, c .before .look-up .ensures)
+returns c = rw (c .of-look-up .ensures, c .before .look-up .ensures)
 
 pub tp-look-up-spec : {M : Type 1} → statement M
-tp-look-up-spec = tie.close (tie.spec look-up-requires looked-up-requires returns)
+tp-look-up-spec = tie.close (tie.spec look-up-requires of-look-up-requires returns)

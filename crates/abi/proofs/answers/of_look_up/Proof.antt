@@ -1,43 +1,43 @@
-use Rattle.abi.specs.Answer.{lookedUp}
+use Rattle.abi.specs.Answers.{lookedUp}
 use borrow.Author.Needs.{needs}
-use Rattle.abi.proofs.looked_up.Statement.{statement}
-use Rattle.abi.proofs.looked_up.Tie as tie
-use Rattle.abi.proofs.looked_up.Reads as reads
-use Rattle.abi.proofs.looked_up.Lts as lts
-use Rattle.abi.proofs.rights_word.Reads as rights-word-reads
+use Rattle.abi.proofs.answers.of_look_up.Statement.{statement}
+use Rattle.abi.proofs.answers.of_look_up.Tie as tie
+use Rattle.abi.proofs.answers.of_look_up.Reads as reads
+use Rattle.abi.proofs.answers.of_look_up.Lts as lts
+use Rattle.abi.proofs.answers.rights_word.Reads as rights-word-reads
 
--- src/lib.rt:44:13
+-- src/answers.rt:44:13
 enum-known-f : tie.Need-enum-known-f
 enum-known-f c = search needs
 
--- src/lib.rt:53:21
+-- src/answers.rt:53:21
 rights-word-requires : tie.Need-rights-word-requires
 rights-word-requires c κs = search needs
 
--- src/lib.rt:55:27
+-- src/answers.rt:55:27
 enum-told : tie.Need-enum-told
 enum-told c = search needs
 
--- src/lib.rt:62:27
+-- src/answers.rt:62:27
 enum-told-2 : tie.Need-enum-told-2
 enum-told-2 c = search needs
 
--- src/lib.rt:39:1
+-- src/answers.rt:39:1
 returns : tie.Need-returns
 unfolding lookedUp
 returns c = rw (c .before .before .f .given .1, c .rights-word .ensures)
 
--- src/lib.rt:39:1
+-- src/answers.rt:39:1
 returns-2 : tie.Need-returns-2
 unfolding lookedUp
 returns-2 c = rw (c .enum-told .given .1)
 
--- src/lib.rt:39:1
+-- src/answers.rt:39:1
 returns-3 : tie.Need-returns-3
 unfolding lookedUp
 returns-3 c = rw (c .enum-told2 .given .1)
 
-pub looked-up-spec : {M : Type 1} → statement M
-looked-up-spec =
+pub of-look-up-spec : {M : Type 1} → statement M
+of-look-up-spec =
     tie.close
     (tie.spec enum-known-f rights-word-requires enum-told enum-told-2 returns returns-2 returns-3)

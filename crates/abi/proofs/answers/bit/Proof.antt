@@ -1,16 +1,16 @@
 use Rattle.entry.specs.Words.{flag}
 use native.Mathlib.Omega.{arith}
-use Rattle.abi.proofs.bit.Statement.{statement}
-use Rattle.abi.proofs.bit.Tie as tie
-use Rattle.abi.proofs.bit.Reads as reads
-use Rattle.abi.proofs.bit.Lts as lts
+use Rattle.abi.proofs.answers.bit.Statement.{statement}
+use Rattle.abi.proofs.answers.bit.Tie as tie
+use Rattle.abi.proofs.answers.bit.Reads as reads
+use Rattle.abi.proofs.answers.bit.Lts as lts
 
--- src/lib.rt:28:9
+-- src/answers.rt:28:9
 returns : tie.Need-returns
 unfolding flag
 returns c = (rw (c .if1 .taken), omega arith)
 
--- src/lib.rt:24:1
+-- src/answers.rt:24:1
 returns-2 : tie.Need-returns-2
 unfolding flag
 returns-2 c = (rw (c .if1 .left), omega arith)

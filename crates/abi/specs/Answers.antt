@@ -1,0 +1,98 @@
+-- The answers as the numbers that C gets: each field is a function of what tablepath answers, and 0 where that is refused.
+use Prim.Native.Nat.{ℕ, _+_, _*_, _/_, _%_, _^_, _<_}
+use mathlib.Core.Path.{_≡_}
+use lib.Dec.{eqb}
+use Rattle.entry.specs.Words.{flag}
+use Rattle.entry.specs.declared.Rights.{Rights}
+use Rattle.walk.specs.declared.Found.{Found}
+use Rattle.walk.specs.declared.Found.the-variants.{Page, Nothing, Outside}
+use Rattle.pool.specs.declared.Reason as inPool
+use Rattle.pool.specs.declared.Reason.the-variants as pool
+use Rattle.pool.specs.declared.Created as ofPool
+use Rattle.pool.specs.declared.Created.the-variants as create
+use Rattle.plan.specs.declared.Reason.{Reason}
+use Rattle.plan.specs.declared.Reason.the-variants as plan
+use Rattle.tablepath.specs.declared.Mapped as ofMap
+use Rattle.tablepath.specs.declared.Mapped.the-variants as map
+use Rattle.tablepath.specs.declared.Unmapped as ofUnmap
+use Rattle.tablepath.specs.declared.Unmapped.the-variants as unmap
+use Rattle.tablepath.specs.declared.Protected as ofProtect
+use Rattle.tablepath.specs.declared.Protected.the-variants as protect
+use Rattle.tablepath.specs.declared.Report.{Report}
+use Rattle.tablepath.specs.declared.Report.the-variants as report
+use Rattle.abi.specs.declared.answers.Created.{Created}
+use Rattle.abi.specs.declared.answers.Mapped.{Mapped}
+use Rattle.abi.specs.declared.answers.Unmapped.{Unmapped}
+use Rattle.abi.specs.declared.answers.Protected.{Protected}
+use Rattle.abi.specs.declared.answers.Told.{Told}
+use Rattle.abi.specs.declared.answers.LookedUp.{LookedUp}
+
+-- Rights: bit 0 writable, bit 1 user, bit 2 not executable -----------------------------------------------------------------------
+
+unfoldable pub rightsWord : Rights → ℕ
+rightsWord r = flag (r .writable) + 2 * flag (r .user) + 4 * flag (r .noexec)
+
+-- bits above the third count for nothing
+unfoldable pub rightsIn : ℕ → Rights
+rightsIn w = record { writable = eqb (w % 2) 1; user = eqb (w / 2 % 2) 1; noexec = eqb (w / 4 % 2) 1 }
+
+-- Reasons: 0 is done; 14 and 15 are in Calls, 23 and 24 in `told` below ---------------------------------------------------------
+
+unfoldable pub poolReason : inPool.Reason → ℕ
+poolReason pool.OriginUnaligned = 12
+poolReason pool.LengthUnaligned = 13
+poolReason pool.PoolLarge = 16
+poolReason pool.PoolSmall = 17
+poolReason pool.PoolOutside = 18
+poolReason pool.BadRoot = 19
+poolReason pool.NoBook = 20
+poolReason pool.OtherBook = 21
+poolReason pool.BadBook = 22
+
+unfoldable pub reasonOf : Reason → ℕ
+reasonOf plan.Size = 1
+reasonOf plan.BaseUnaligned = 2
+reasonOf plan.FrameUnaligned = 3
+reasonOf plan.BaseRange = 4
+reasonOf plan.FrameRange = 5
+reasonOf (plan.Pool y) = poolReason y
+reasonOf plan.FrameInPool = 6
+reasonOf plan.Overlap = 7
+reasonOf plan.NoRoom = 8
+reasonOf plan.NothingStarts = 9
+reasonOf plan.Stray = 10
+reasonOf plan.BadList = 11
+
+-- Answers -----------------------------------------------------------------------------------------------------------------------
+
+-- a root in a page whose number has 40 bits
+abbrev pub Low : ofPool.Created → Type 0
+Low c = (p : ℕ) → c ≡ create.Root p → p < 2 ^ 40
+
+-- the root's physical address
+unfoldable pub created : ofPool.Created → Created
+created (create.Root p) = record { reason = 0; root = 4096 * p }
+created (create.Refused y) = record { reason = poolReason y; root = 0 }
+
+unfoldable pub mapped : ofMap.Mapped → Mapped
+mapped (map.Done n) = record { reason = 0; tables = n }
+mapped (map.Refused y) = record { reason = reasonOf y; tables = 0 }
+
+unfoldable pub unmapped : ofUnmap.Unmapped → Unmapped
+unmapped (unmap.Done g) = record { reason = 0; frame = g .frame; size = g .size; aside = g .aside; ticket = g .ticket }
+unmapped (unmap.Refused y) = record { reason = reasonOf y; frame = 0; size = 0; aside = 0; ticket = 0 }
+
+unfoldable pub protected : ofProtect.Protected → Protected
+protected (protect.Done s) = record { reason = 0; frame = s .frame; size = s .size }
+protected (protect.Refused y) = record { reason = reasonOf y; frame = 0; size = 0 }
+
+unfoldable pub told : Report → Told
+told (report.Released k) = record { reason = 0; released = k }
+told report.Unknown = record { reason = 23; released = 0 }
+told report.Spent = record { reason = 24; released = 0 }
+told (report.Refused y) = record { reason = poolReason y; released = 0 }
+
+unfoldable pub lookedUp : Found → LookedUp
+lookedUp (Page b s f r) = record { kind = 1; base = b; size = s; frame = f; rights = rightsWord r }
+lookedUp Nothing = record { kind = 0; base = 0; size = 0; frame = 0; rights = 0 }
+lookedUp Outside = record { kind = 2; base = 0; size = 0; frame = 0; rights = 0 }

@@ -1,0 +1,106 @@
+-- What each call answers and leaves, as functions of the bytes at entry and the numbers that were given. A space is refused by the number
+-- of its reason; what is then left are the bytes at entry.
+use Prim.Native.Nat.{ℕ, _/_, _%_}
+use mathlib.Core.Bool.{cond}
+use mathlib.Core.List.{List}
+use lib.Dec.{eqb}
+use lib.ListN.{length}
+use Rattle.word.specs.Memory.{memory, holds}
+use Rattle.word.specs.Writes.{carried}
+use Rattle.entry.specs.declared.Rights.{Rights}
+use Rattle.pool.specs.Create.{createdOf, createWrites}
+use Rattle.pool.specs.declared.Space.{Space}
+use Rattle.plan.specs.Map.{shapeOf}
+use Rattle.plan.specs.declared.maps.Asked.{Asked}
+use Rattle.plan.specs.declared.maps.Shape.{Shape}
+use Rattle.plan.specs.declared.maps.Shape.the-variants.{Level, Bad}
+use Rattle.tablepath.specs.Answers as the
+use Rattle.abi.specs.Answers.{reasonOf, rightsIn, created, mapped, unmapped, protected, told}
+use Rattle.abi.specs.declared.answers.Created.{Created}
+use Rattle.abi.specs.declared.answers.Mapped.{Mapped}
+use Rattle.abi.specs.declared.answers.Unmapped.{Unmapped}
+use Rattle.abi.specs.declared.answers.Protected.{Protected}
+use Rattle.abi.specs.declared.answers.Told.{Told}
+use Rattle.abi.specs.declared.Sited.{Sited}
+use Rattle.abi.specs.declared.Sited.the-variants.{At, Refused}
+
+-- Spaces, in bytes --------------------------------------------------------------------------------------------------------------
+
+unfoldable pub siteOf : ℕ → ℕ → ℕ → ℕ → Sited
+siteOf origin pool pages root =
+    cond (eqb (pool % 4096) 0)
+    (cond (eqb (root % 4096) 0)
+    (At (record { origin = origin; first = pool / 4096; pages = pages; root = root / 4096 }))
+    (Refused 15))
+    (Refused 14)
+
+unfoldable pub shapedSite : Shape → Sited → Sited
+shapedSite (Level n) s = s
+shapedSite (Bad y) s = Refused (reasonOf y)
+
+-- for map, what is asked is looked at first
+unfoldable pub askedSite : ℕ → ℕ → ℕ → ℕ → Asked → Sited
+askedSite origin pool pages root q = shapedSite (shapeOf (q .size) (q .base) (q .frame)) (siteOf origin pool pages root)
+
+abbrev pub ask : ℕ → ℕ → ℕ → ℕ → Asked
+ask base frame size rights = record { base = base; frame = frame; size = size; rights = rightsIn rights }
+
+-- Create ------------------------------------------------------------------------------------------------------------------------
+
+unfoldable pub createAnswer : List ℕ → ℕ → ℕ → ℕ → Created
+createAnswer s origin pool pages =
+    cond (eqb (origin % 4096) 0)
+    (cond (eqb (length s % 4096) 0)
+    (cond (eqb (pool % 4096) 0)
+    (created (createdOf (length s) (holds s origin) origin (pool / 4096) pages))
+    (record { reason = 14; root = 0 }))
+    (record { reason = 13; root = 0 }))
+    (record { reason = 12; root = 0 })
+
+unfoldable pub createBytes : List ℕ → ℕ → ℕ → ℕ → List ℕ
+createBytes s origin pool pages =
+    cond (eqb (origin % 4096) 0)
+    (cond (eqb (length s % 4096) 0)
+    (cond (eqb (pool % 4096) 0) (carried s origin (createWrites (length s) (holds s origin) origin (pool / 4096) pages)) s)
+    s)
+    s
+
+-- Map ---------------------------------------------------------------------------------------------------------------------------
+
+unfoldable pub mapAnswer : List ℕ → Asked → Sited → Mapped
+mapAnswer s q (At sp) = mapped (the.mapAnswer (holds s (sp .origin)) (memory s (sp .origin)) sp q)
+mapAnswer s q (Refused y) = record { reason = y; tables = 0 }
+
+unfoldable pub mapBytes : List ℕ → Asked → Sited → List ℕ
+mapBytes s q (At sp) = carried s (sp .origin) (the.mapWrites (holds s (sp .origin)) (memory s (sp .origin)) sp q)
+mapBytes s q (Refused y) = s
+
+-- Unmap -------------------------------------------------------------------------------------------------------------------------
+
+unfoldable pub unmapAnswer : List ℕ → ℕ → Sited → Unmapped
+unmapAnswer s base (At sp) = unmapped (the.unmapAnswer (holds s (sp .origin)) (memory s (sp .origin)) sp base)
+unmapAnswer s base (Refused y) = record { reason = y; frame = 0; size = 0; aside = 0; ticket = 0 }
+
+unfoldable pub unmapBytes : List ℕ → ℕ → Sited → List ℕ
+unmapBytes s base (At sp) = carried s (sp .origin) (the.unmapWrites (holds s (sp .origin)) (memory s (sp .origin)) sp base)
+unmapBytes s base (Refused y) = s
+
+-- Protect -----------------------------------------------------------------------------------------------------------------------
+
+unfoldable pub protectAnswer : List ℕ → ℕ → Rights → Sited → Protected
+protectAnswer s base r (At sp) = protected (the.protectAnswer (holds s (sp .origin)) (memory s (sp .origin)) sp base r)
+protectAnswer s base r (Refused y) = record { reason = y; frame = 0; size = 0 }
+
+unfoldable pub protectBytes : List ℕ → ℕ → Rights → Sited → List ℕ
+protectBytes s base r (At sp) = carried s (sp .origin) (the.protectWrites (holds s (sp .origin)) (memory s (sp .origin)) sp base r)
+protectBytes s base r (Refused y) = s
+
+-- Told --------------------------------------------------------------------------------------------------------------------------
+
+unfoldable pub toldAnswer : List ℕ → ℕ → Sited → Told
+toldAnswer s ticket (At sp) = told (the.toldAnswer (holds s (sp .origin)) (memory s (sp .origin)) sp ticket)
+toldAnswer s ticket (Refused y) = record { reason = y; released = 0 }
+
+unfoldable pub toldBytes : List ℕ → ℕ → Sited → List ℕ
+toldBytes s ticket (At sp) = carried s (sp .origin) (the.toldWrites (holds s (sp .origin)) (memory s (sp .origin)) sp ticket)
+toldBytes s ticket (Refused y) = s

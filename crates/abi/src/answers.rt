@@ -1,0 +1,251 @@
+// Answers as the numbers that C gets: a reason, and 0 in every other field where something is refused.
+ghost use mathlib.Core.Path.{_≡_};
+ghost use Prim.Native.Nat.{_*_, _^_, _<_};
+ghost use Rattle.entry.specs.Words.{flag};
+ghost use Rattle.abi.specs.Answers as the;
+use entry::Rights;
+use walk::Found;
+
+// What making a pool answers: the root's physical address.
+#[repr(C)]
+pub struct Created {
+    pub reason: u64,
+    pub root: u64,
+}
+
+// What map answers: how many tables were made for the page.
+#[repr(C)]
+pub struct Mapped {
+    pub reason: u64,
+    pub tables: u64,
+}
+
+// The page that was unmapped, how many tables were set aside, and the ticket to report; 0 where none was set aside.
+#[repr(C)]
+pub struct Unmapped {
+    pub reason: u64,
+    pub frame: u64,
+    pub size: u64,
+    pub aside: u64,
+    pub ticket: u64,
+}
+
+// The page whose rights changed.
+#[repr(C)]
+pub struct Protected {
+    pub reason: u64,
+    pub frame: u64,
+    pub size: u64,
+}
+
+// What a report answers: how many pages are free again.
+#[repr(C)]
+pub struct Told {
+    pub reason: u64,
+    pub released: u64,
+}
+
+// What an address means. Fields that say nothing are 0.
+#[repr(C)]
+pub struct LookedUp {
+    // 0: nothing; 1: a page; 2: outside, the way leads to a table that does not lie in the window
+    pub kind: u64,
+    // the page's first address, its size, and where it lies in physical memory
+    pub base: u64,
+    pub size: u64,
+    pub frame: u64,
+    // of the whole way: bit 0 writable, bit 1 user, bit 2 not executable
+    pub rights: u64,
+}
+
+fn bit(b: bool) -> u64
+    ensures { λ r. ⌜ (r ≡ flag b) × (r < 2) ⌝ }
+{
+    if b {
+        return 1;
+    }
+    0
+}
+
+fn rights_word(r: Rights) -> u64
+    ensures { λ w. ⌜ w ≡ the.rightsWord r ⌝ }
+{
+    bit(r.writable) + 2 * bit(r.user) + 4 * bit(r.noexec)
+}
+
+// Bits above the third count for nothing.
+pub fn rights(w: u64) -> Rights
+    ensures { λ r. ⌜ r ≡ the.rightsIn w ⌝ }
+{
+    Rights {
+        writable: w % 2 == 1,
+        user: w / 2 % 2 == 1,
+        noexec: w / 4 % 2 == 1,
+    }
+}
+
+// The number of a reason that the pool has.
+fn pool_reason(r: pool::Reason) -> u64
+    ensures { λ n. ⌜ n ≡ the.poolReason r ⌝ }
+{
+    match r {
+        pool::Reason::OriginUnaligned => 12,
+        pool::Reason::LengthUnaligned => 13,
+        pool::Reason::PoolLarge => 16,
+        pool::Reason::PoolSmall => 17,
+        pool::Reason::PoolOutside => 18,
+        pool::Reason::BadRoot => 19,
+        pool::Reason::NoBook => 20,
+        pool::Reason::OtherBook => 21,
+        pool::Reason::BadBook => 22,
+    }
+}
+
+// The number of a reason.
+pub fn reason(r: plan::Reason) -> u64
+    ensures { λ n. ⌜ n ≡ the.reasonOf r ⌝ }
+{
+    match r {
+        plan::Reason::Size => 1,
+        plan::Reason::BaseUnaligned => 2,
+        plan::Reason::FrameUnaligned => 3,
+        plan::Reason::BaseRange => 4,
+        plan::Reason::FrameRange => 5,
+        plan::Reason::Pool(y) => pool_reason(y),
+        plan::Reason::FrameInPool => 6,
+        plan::Reason::Overlap => 7,
+        plan::Reason::NoRoom => 8,
+        plan::Reason::NothingStarts => 9,
+        plan::Reason::Stray => 10,
+        plan::Reason::BadList => 11,
+    }
+}
+
+pub fn of_create(c: pool::Created) -> Created
+    ensures { λ r. ⌜ (the.Low c → r ≡ the.created c) ⌝ }
+{
+    match c {
+        pool::Created::Refused(y) => Created {
+            reason: pool_reason(y),
+            root: 0,
+        },
+        pool::Created::Root(p) => {
+            if 1099511627776 <= p {
+                return Created { reason: 0, root: 0 };
+            }
+            Created {
+                reason: 0,
+                root: 4096 * p,
+            }
+        }
+    }
+}
+
+pub fn of_map(a: tablepath::Mapped) -> Mapped
+    ensures { λ r. ⌜ r ≡ the.mapped a ⌝ }
+{
+    match a {
+        tablepath::Mapped::Refused(y) => Mapped {
+            reason: reason(y),
+            tables: 0,
+        },
+        tablepath::Mapped::Done(n) => Mapped {
+            reason: 0,
+            tables: n,
+        },
+    }
+}
+
+pub fn of_unmap(a: tablepath::Unmapped) -> Unmapped
+    ensures { λ r. ⌜ r ≡ the.unmapped a ⌝ }
+{
+    match a {
+        tablepath::Unmapped::Refused(y) => Unmapped {
+            reason: reason(y),
+            frame: 0,
+            size: 0,
+            aside: 0,
+            ticket: 0,
+        },
+        tablepath::Unmapped::Done(g) => Unmapped {
+            reason: 0,
+            frame: g.frame,
+            size: g.size,
+            aside: g.aside,
+            ticket: g.ticket,
+        },
+    }
+}
+
+pub fn of_protect(a: tablepath::Protected) -> Protected
+    ensures { λ r. ⌜ r ≡ the.protected a ⌝ }
+{
+    match a {
+        tablepath::Protected::Refused(y) => Protected {
+            reason: reason(y),
+            frame: 0,
+            size: 0,
+        },
+        tablepath::Protected::Done(s) => Protected {
+            reason: 0,
+            frame: s.frame,
+            size: s.size,
+        },
+    }
+}
+
+pub fn of_told(a: tablepath::Report) -> Told
+    ensures { λ r. ⌜ r ≡ the.told a ⌝ }
+{
+    match a {
+        tablepath::Report::Refused(y) => Told {
+            reason: pool_reason(y),
+            released: 0,
+        },
+        tablepath::Report::Unknown => Told {
+            reason: 23,
+            released: 0,
+        },
+        tablepath::Report::Spent => Told {
+            reason: 24,
+            released: 0,
+        },
+        tablepath::Report::Released(k) => Told {
+            reason: 0,
+            released: k,
+        },
+    }
+}
+
+pub fn of_look_up(f: Found) -> LookedUp
+    ensures { λ r. ⌜ r ≡ the.lookedUp f ⌝ }
+{
+    match f {
+        Found::Page {
+            base,
+            size,
+            frame,
+            rights,
+        } => LookedUp {
+            kind: 1,
+            base: base,
+            size: size,
+            frame: frame,
+            rights: rights_word(rights),
+        },
+        Found::Nothing => LookedUp {
+            kind: 0,
+            base: 0,
+            size: 0,
+            frame: 0,
+            rights: 0,
+        },
+        Found::Outside => LookedUp {
+            kind: 2,
+            base: 0,
+            size: 0,
+            frame: 0,
+            rights: 0,
+        },
+    }
+}

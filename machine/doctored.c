@@ -1,0 +1,39 @@
+/* The library, doctored: the real operation works on a copy, and what it changed is stored into the window in a way that it may not be.
+ * SPLIT: each word by two stores. BACKWARDS: the last word first. The test of the stores must find either. */
+#include "tablepath.h"
+
+static uint8_t copy[64 * 4096];
+
+static void store(uint8_t *mem, size_t at) {
+#ifdef SPLIT
+    *(volatile uint32_t *)(mem + at) = *(uint32_t *)(copy + at);
+    *(volatile uint32_t *)(mem + at + 4) = *(uint32_t *)(copy + at + 4);
+#else
+    *(volatile uint64_t *)(mem + at) = *(uint64_t *)(copy + at);
+#endif
+}
+
+static void take(const uint8_t *mem, size_t len) {
+    for (size_t at = 0; at < len; at += 8) *(volatile uint64_t *)(copy + at) = *(volatile const uint64_t *)(mem + at);
+}
+
+static void give(uint8_t *mem, size_t len) {
+    for (size_t n = len; n; n -= 8) {
+#ifdef SPLIT
+        size_t at = len - n;
+#else
+        size_t at = n - 8;
+#endif
+        if (*(volatile uint64_t *)(mem + at) != *(uint64_t *)(copy + at)) store(mem, at);
+    }
+}
+
+struct tp_mapped odd_tp_map(uint8_t *mem, size_t len, uint64_t origin, uint64_t pool, uint64_t pages, uint64_t root, uint64_t base,
+                            uint64_t frame, uint64_t size, uint64_t rights);
+struct tp_mapped odd_tp_map(uint8_t *mem, size_t len, uint64_t origin, uint64_t pool, uint64_t pages, uint64_t root, uint64_t base,
+                            uint64_t frame, uint64_t size, uint64_t rights) {
+    take(mem, len);
+    struct tp_mapped answer = tp_map(copy, len, origin, pool, pages, root, base, frame, size, rights);
+    give(mem, len);
+    return answer;
+}

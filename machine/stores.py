@@ -1,0 +1,153 @@
+#!/usr/bin/python3
+"""stores PROGRAM [PREFIX]: random operations of the library's x86-64 code, and every store of each held to what it should be:
+one aligned store of 8 bytes for each planned write, in the planned order; after every single store the tables mean to each sampled
+address what they meant before the operation or what they mean after it, and it turns at one store only; no store into a page that
+is set aside; none outside the pool. Entries of tables are loaded whole. The last line counts the operations."""
+import os
+import random
+import sys
+
+from emulated import WINDOW, Code, Wrong
+from model import SIZES, Tables
+
+ORIGIN = 0x40_0000
+SLACK = 2  # pages of the window that are not of the pool
+
+
+def plain(tables, operation, arguments):
+    return {'tp_map': tables.map, 'tp_unmap': tables.unmap, 'tp_protect': tables.protect, 'tp_told': tables.told}[operation](*arguments)
+
+
+class Night:
+    """One pool, and a list of operations on it."""
+
+    def __init__(self, code, dice):
+        self.code, self.dice = code, dice
+        self.pages = dice.choice((5, 8, 12, 20, 40))
+        window = bytearray((self.pages + SLACK) * 4096)
+        window[self.pages * 4096:] = bytes([0xa5]) * (SLACK * 4096)
+        code.lend(window)
+        answer = code.call('tp_create', ORIGIN, ORIGIN, self.pages)
+        self.tables = Tables(code.window(), ORIGIN, self.pages)
+        if answer != (0, self.tables.root << 12):
+            raise Wrong(f'create answered {answer}')
+        self.pool = (ORIGIN, ORIGIN, self.pages, self.tables.root << 12)
+        self.aside, self.tickets, self.mapped = [], 0, []
+
+    def base(self, size):
+        dice = self.dice
+        top = dice.choice((0, 0, 1, 511))
+        return (top << 39 | dice.choice((0, 1, 511)) << 30 | dice.choice((0, 7, 511)) << 21 | dice.choice((0, 3, 511)) << 12) & -size
+
+    def choose(self):
+        dice = self.dice
+        kind = dice.choice(('tp_map', 'tp_map', 'tp_map', 'tp_unmap', 'tp_unmap', 'tp_protect', 'tp_told'))
+        if kind == 'tp_map':
+            size = dice.choice(SIZES)
+            frame = dice.choice((0x8000_0000, 0xc000_0000, (1 << 52) - (1 << 30), ORIGIN))
+            return kind, (self.base(size), frame, size, dice.randrange(8))
+        if kind == 'tp_told':
+            return kind, (dice.randrange(self.tickets + len(self.aside) + 2),)
+        base = dice.choice(self.mapped) if self.mapped and dice.random() < 0.9 else self.base(4096)
+        return (kind, (base,)) if kind == 'tp_unmap' else (kind, (base, dice.randrange(8)))
+
+    def mark(self):
+        """The machine sets accessed and dirty by itself, now and then."""
+        for base in self.mapped:
+            if self.dice.random() < 0.2:
+                level, way = self.tables.starts(base)
+                at = self.tables.at(way[-1], base >> 12 + 9 * level & 511)
+                self.tables.words[at] |= 0x60
+                self.code.uc.mem_write(WINDOW + 8 * at, self.tables.words[at].to_bytes(8, 'little'))
+
+    def sampled(self, operation, arguments):
+        samples = {self.base(4096) + self.dice.randrange(4096) for _ in range(3)}
+        if operation != 'tp_told':
+            base = arguments[0]
+            size = arguments[2] if operation == 'tp_map' else 4096
+            samples |= {base, base - 1, base + size - 1, base + size}
+        return sorted(va for va in samples if 0 <= va < 1 << 48)
+
+    def step(self):
+        self.mark()
+        operation, arguments = self.choose()
+        tables, what = self.tables, f'{operation}({", ".join(map(hex, arguments))})'
+        planned = plain(tables, operation, arguments)
+        before = tables.linked()
+        then = tables.copy()
+        for at, word in planned or []:
+            then.words[at] = word
+        samples = self.sampled(operation, arguments)
+        old, new = [tables.walk(va) for va in samples], [then.walk(va) for va in samples]
+        reason = self.code.call(operation, *self.pool, *arguments)[0]
+        if (reason == 0) != (planned is not None):
+            raise Wrong(f'{what} answered {reason}')
+        self.held(what, before, planned or [], samples, old, new)
+        if bytes(self.code.window()) != bytes(tables.words.cast('B')):
+            raise Wrong(f'{what} left bytes that no recorded store put there')
+        self.keep(operation, arguments, planned, before)
+
+    def held(self, what, before, planned, samples, old, new):
+        """Every load and store of one operation."""
+        tables, code = self.tables, self.code
+        frozen = set(self.aside)
+        for at, size in code.loads:
+            page = tables.start + (at >> 12)
+            if page in before and at // 8 != (at + size - 1) // 8:
+                raise Wrong(f'{what} loads {size} bytes at {at:#x}, of two entries')
+        turned = 0
+        means = old
+        for n, (at, size, word) in enumerate(code.stores):
+            page = tables.start + (at >> 12)
+            if page in frozen:
+                raise Wrong(f'{what} stores into a page that is set aside')
+            if size != 8 or at % 8:
+                raise Wrong(f'{what} stores {size} bytes at {at:#x}')
+            if n >= len(planned) or planned[n] != (at // 8, word):
+                raise Wrong(f'{what}: store {n} is not the planned one')
+            tables.words[at // 8] = word
+            now = [tables.walk(va) for va in samples]
+            if now not in (old, new):
+                raise Wrong(f'{what}: after store {n} the tables mean what they never should')
+            turned += now != means
+            means = now
+        if len(code.stores) != len(planned):
+            raise Wrong(f'{what} made {len(code.stores)} stores, not {len(planned)}')
+        if turned != (old != new):
+            raise Wrong(f'{what}: the meaning turned {turned} times')
+
+    def keep(self, operation, arguments, planned, before):
+        if planned is None:
+            return
+        if operation == 'tp_map':
+            self.mapped.append(arguments[0])
+        if operation == 'tp_unmap':
+            self.mapped.remove(arguments[0])
+            after = self.tables.linked()
+            self.aside += sorted(before.keys() - after.keys(), key=before.get)
+        if operation == 'tp_told':
+            due = max(0, arguments[0] - self.tickets)
+            self.aside, self.tickets = self.aside[due:], self.tickets + due
+
+
+def main():
+    code = Code(sys.argv[1], sys.argv[2] if len(sys.argv) > 2 else '')
+    seed = int(os.environ.get('TABLEPATH_SEED') or random.SystemRandom().randrange(1 << 32))
+    operations = int(os.environ.get('TABLEPATH_OPERATIONS') or 4000)
+    print(f'seed {seed}: {operations} operations, every store watched')
+    dice, done = random.Random(seed), 0
+    try:
+        while done < operations:
+            night = Night(code, dice)
+            for _ in range(100):
+                night.step()
+                done += 1
+    except Wrong as wrong:
+        print(f'operation {done}: {wrong}')
+        print(f'{done} passed, 1 failed')
+        return 1
+    print(f'{done} passed, 0 failed')
+    return 0
+
+
+sys.exit(main())

@@ -1,0 +1,208 @@
+//! The walks beside the compiled library itself, while it runs. The writer asks, and keeps the log; who walks is either
+//! - a second thread (`threads`): on x86-64, where another processor sees plain stores in their order; or
+//! - a timer's interrupt of the writer (`interrupted`): on any processor, since a thread that is interrupted anywhere sees
+//!   its own stores in the order of its code.
+
+use crate::log::{Log, Tally};
+use crate::onlooker::{Onlooker, Shared};
+use crate::scene::Scene;
+use crate::stepped::{singles, Flaw};
+use model::Window;
+use operations::due::due;
+use operations::{Answer, Operations};
+use std::sync::atomic::{fence, AtomicBool, AtomicPtr, AtomicU64, Ordering::SeqCst};
+use std::thread;
+
+/// What the writer and the walks tell one another.
+#[derive(Default)]
+struct Between {
+    /// Odd while an operation runs.
+    clock: AtomicU64,
+    /// How often the writer asked for a flush, and how often there was one.
+    asked: AtomicU64,
+    done: AtomicU64,
+    /// Turns that fell into an operation.
+    amid: AtomicU64,
+    stop: AtomicBool,
+}
+
+impl Between {
+    fn turn(&self, onlooker: &mut Onlooker, reads: u64) {
+        let asked = self.asked.load(SeqCst);
+        if asked != self.done.load(SeqCst) {
+            onlooker.flush();
+            self.done.store(asked, SeqCst);
+        }
+        if self.clock.load(SeqCst) % 2 == 1 {
+            self.amid.fetch_add(1, SeqCst);
+        }
+        onlooker.turn(reads);
+        if onlooker.is_full() {
+            self.stop.store(true, SeqCst);
+        }
+    }
+}
+
+struct Writer<'a> {
+    scene: Scene,
+    memory: Shared,
+    between: &'a Between,
+    log: Log,
+    tally: Tally,
+    /// The ticket at the moment when the flush was asked for that is not done yet.
+    promised: Option<u64>,
+}
+
+impl Writer<'_> {
+    fn reports(&mut self, flaw: Flaw) {
+        if flaw == Flaw::ToldBeforeCachesDrop {
+            self.scene.reported = self.scene.ticket();
+            return;
+        }
+        match self.promised {
+            Some(ticket) if self.between.asked.load(SeqCst) == self.between.done.load(SeqCst) => {
+                self.scene.reported = ticket;
+                self.promised = None;
+            }
+            None if self.scene.random.chance(1, 4) => {
+                self.promised = Some(self.scene.ticket());
+                self.between.asked.fetch_add(1, SeqCst);
+            }
+            _ => {}
+        }
+    }
+
+    fn operation(&mut self, of: &dyn Operations, flaw: Flaw) -> Result<(), String> {
+        self.reports(flaw);
+        let request = self.scene.next();
+        let judged = self.scene.ledger.judge(&request, self.memory.len).expect("our own pool");
+        let clock = &self.between.clock;
+        // SAFETY: that others read it meanwhile is what is tested.
+        let bytes = unsafe { self.memory.lent() };
+        // No store of the operation is to be seen before the clock is.
+        let begin = || {
+            clock.fetch_add(1, SeqCst);
+            fence(SeqCst);
+        };
+        let answer = if flaw == Flaw::LinkThenClear {
+            let due = due(Window { bytes, origin: self.memory.origin }, &request);
+            let writes = singles(self.memory, &request, &due.writes, flaw);
+            begin();
+            writes.iter().for_each(|(at, word)| self.memory.write(*at, *word));
+            due.answer
+        } else {
+            begin();
+            request.ask(of, bytes)
+        };
+        let state = clock.fetch_add(1, SeqCst).div_ceil(2);
+        if answer != judged {
+            return Err(format!("{request}: answered\n  {answer}, should be\n  {judged}"));
+        }
+        for (which, means) in self.scene.means().into_iter().enumerate() {
+            self.log.note(state, which, means);
+        }
+        if let Answer::Told(told) = answer {
+            self.tally.reports += u64::from(told.released > 0);
+            self.scene.spoil(self.memory, told.released);
+        }
+        self.tally.operations += 1;
+        Ok(())
+    }
+}
+
+/// Until the walks have no room for more; `beside` runs the writer, and lets the onlooker walk meanwhile.
+fn run(
+    of: &dyn Operations,
+    seed: u64,
+    room: usize,
+    flaw: Flaw,
+    beside: impl FnOnce(&mut Onlooker, &Between, &mut dyn FnMut() -> Result<(), String>) -> Result<(), String>,
+) -> Result<Tally, String> {
+    let (scene, mut words) = Scene::new(of, seed);
+    let memory = Shared::of(&mut words, scene.space().origin);
+    let between = Between::default();
+    let (watched, space, log) = (scene.watched.clone(), scene.space(), Log::new(&scene.means()));
+    let mut writer = Writer { scene, memory, between: &between, log, tally: Tally::default(), promised: None };
+    let mut onlooker = Onlooker::new(&watched, space, memory, &between.clock, seed, true, room);
+    beside(&mut onlooker, &between, &mut || writer.operation(of, flaw))?;
+    onlooker.finish();
+    writer.log.judge(&watched, &onlooker.seen, &mut writer.tally)?;
+    writer.tally.amid = between.amid.load(SeqCst);
+    Ok(writer.tally)
+}
+
+pub fn threads(of: &dyn Operations, seed: u64, room: usize, flaw: Flaw) -> Result<Tally, String> {
+    run(of, seed, room, flaw, |onlooker, between, operation| {
+        thread::scope(|scope| {
+            scope.spawn(|| {
+                while !between.stop.load(SeqCst) {
+                    let clock = between.clock.load(SeqCst);
+                    (0..64).for_each(|_| between.turn(onlooker, 64));
+                    if between.clock.load(SeqCst) == clock {
+                        // The writer has no processor: nothing is to be seen.
+                        thread::yield_now();
+                    }
+                }
+            });
+            let mut outcome = Ok(());
+            while outcome.is_ok() && !between.stop.load(SeqCst) {
+                outcome = operation();
+            }
+            between.stop.store(true, SeqCst);
+            outcome
+        })
+    })
+}
+
+/// What the interrupt looks for.
+static WALKS: AtomicPtr<Interrupted> = AtomicPtr::new(std::ptr::null_mut());
+
+struct Interrupted {
+    /// As pointers, since the interrupt cannot borrow: they are there as long as `WALKS` says so.
+    onlooker: *mut Onlooker<'static>,
+    between: *const Between,
+}
+
+#[repr(C)]
+struct Interval {
+    seconds: i64,
+    micros: i64,
+}
+
+extern "C" {
+    fn signal(number: i32, handler: usize) -> usize;
+    fn setitimer(which: i32, to: *const [Interval; 2], was: *mut [Interval; 2]) -> i32;
+}
+
+const SIGALRM: i32 = 14;
+const ITIMER_REAL: i32 = 0;
+
+extern "C" fn interrupt(_: i32) {
+    // SAFETY: what it points to is there while it is not null, and nobody else walks with this onlooker meanwhile.
+    if let Some(walks) = unsafe { WALKS.load(SeqCst).as_ref() } {
+        unsafe { (*walks.between).turn(&mut *walks.onlooker, 24) };
+    }
+}
+
+fn every(micros: i64) {
+    let times = [(); 2].map(|()| Interval { seconds: 0, micros });
+    // SAFETY: two times, and none asked for.
+    assert_eq!(unsafe { setitimer(ITIMER_REAL, &times, std::ptr::null_mut()) }, 0, "there is a timer");
+}
+
+pub fn interrupted(of: &dyn Operations, seed: u64, room: usize, flaw: Flaw) -> Result<Tally, String> {
+    run(of, seed, room, flaw, |onlooker, between, operation| {
+        let mut walks = Interrupted { onlooker: std::ptr::from_mut(onlooker).cast(), between };
+        WALKS.store(&mut walks, SeqCst);
+        // SAFETY: the handler allocates nothing and takes no lock.
+        assert_ne!(unsafe { signal(SIGALRM, interrupt as *const () as usize) }, usize::MAX, "there is a signal");
+        every(10);
+        let mut outcome = Ok(());
+        while outcome.is_ok() && !between.stop.load(SeqCst) {
+            outcome = operation();
+        }
+        every(0);
+        WALKS.store(std::ptr::null_mut(), SeqCst);
+        outcome
+    })
+}
