@@ -10,8 +10,10 @@ use crate::stepped::{singles, Flaw};
 use model::Window;
 use operations::due::due;
 use operations::{Answer, Operations};
+use std::hint::spin_loop;
 use std::sync::atomic::{fence, AtomicBool, AtomicPtr, AtomicU64, Ordering::SeqCst};
 use std::thread;
+use std::time::{Duration, Instant};
 
 /// What the writer and the walks tell one another.
 #[derive(Default)]
@@ -40,6 +42,15 @@ impl Between {
         if onlooker.is_full() {
             self.stop.store(true, SeqCst);
         }
+    }
+
+    /// Until the walks have no room for more, or it took too long: a timer may be slow, and a processor busy.
+    fn write(&self, operation: &mut dyn FnMut() -> Result<(), String>) -> Result<(), String> {
+        let end = Instant::now() + Duration::from_millis(500);
+        while !self.stop.load(SeqCst) && Instant::now() < end {
+            operation()?;
+        }
+        Ok(())
     }
 }
 
@@ -74,6 +85,10 @@ impl Writer<'_> {
 
     fn operation(&mut self, of: &dyn Operations, flaw: Flaw) -> Result<(), String> {
         self.reports(flaw);
+        if self.promised.is_some() && self.scene.ledger.free == 0 {
+            // Without a report there is little to do: who walks may lack a processor.
+            thread::yield_now();
+        }
         let request = self.scene.next();
         let judged = self.scene.ledger.judge(&request, self.memory.len).expect("our own pool");
         let clock = &self.between.clock;
@@ -88,7 +103,16 @@ impl Writer<'_> {
             let due = due(Window { bytes, origin: self.memory.origin }, &request);
             let writes = singles(self.memory, &request, &due.writes, flaw);
             begin();
-            writes.iter().for_each(|(at, word)| self.memory.write(*at, *word));
+            for (at, word) in writes {
+                self.memory.write(at, word);
+                if word % 2 == 1 {
+                    // Long enough to be seen on a busy machine, too; a sleep would be woken by the interrupts, and begin again.
+                    let seen = Instant::now() + Duration::from_micros(20);
+                    while Instant::now() < seen {
+                        spin_loop();
+                    }
+                }
+            }
             due.answer
         } else {
             begin();
@@ -110,7 +134,7 @@ impl Writer<'_> {
     }
 }
 
-/// Until the walks have no room for more; `beside` runs the writer, and lets the onlooker walk meanwhile.
+/// One pool; `beside` runs the writer, and lets the onlooker walk meanwhile.
 fn run(
     of: &dyn Operations,
     seed: u64,
@@ -133,6 +157,7 @@ fn run(
 
 pub fn threads(of: &dyn Operations, seed: u64, room: usize, flaw: Flaw) -> Result<Tally, String> {
     run(of, seed, room, flaw, |onlooker, between, operation| {
+        onlooker.quiet = 16;
         thread::scope(|scope| {
             scope.spawn(|| {
                 while !between.stop.load(SeqCst) {
@@ -144,10 +169,7 @@ pub fn threads(of: &dyn Operations, seed: u64, room: usize, flaw: Flaw) -> Resul
                     }
                 }
             });
-            let mut outcome = Ok(());
-            while outcome.is_ok() && !between.stop.load(SeqCst) {
-                outcome = operation();
-            }
+            let outcome = between.write(operation);
             between.stop.store(true, SeqCst);
             outcome
         })
@@ -197,10 +219,7 @@ pub fn interrupted(of: &dyn Operations, seed: u64, room: usize, flaw: Flaw) -> R
         // SAFETY: the handler allocates nothing and takes no lock.
         assert_ne!(unsafe { signal(SIGALRM, interrupt as *const () as usize) }, usize::MAX, "there is a signal");
         every(10);
-        let mut outcome = Ok(());
-        while outcome.is_ok() && !between.stop.load(SeqCst) {
-            outcome = operation();
-        }
+        let outcome = between.write(operation);
         every(0);
         WALKS.store(std::ptr::null_mut(), SeqCst);
         outcome

@@ -71,6 +71,8 @@ pub struct Onlooker<'a> {
     caches: bool,
     /// The clock when the cache was dropped.
     dropped: u64,
+    /// Of walks beside which nothing was under way, one in so many is judged.
+    pub quiet: u64,
     pub seen: Vec<Seen>,
 }
 
@@ -94,6 +96,7 @@ impl<'a> Onlooker<'a> {
             cache: [None; KEPT],
             caches,
             dropped: 0,
+            quiet: 1,
             seen: Vec::with_capacity(room),
         }
     }
@@ -142,7 +145,11 @@ impl<'a> Onlooker<'a> {
             Next::Ends(answer) => {
                 // The clock is read after the last entry, whatever the processor would rather do.
                 fence(Acquire);
-                self.seen.push(Seen { until: self.clock.load(SeqCst), answer, ..running.seen });
+                let seen = Seen { until: self.clock.load(SeqCst), answer, ..running.seen };
+                let quiet = !seen.cached && seen.began == seen.until && seen.until % 2 == 0;
+                if !quiet || self.random.chance(1, self.quiet) {
+                    self.seen.push(seen);
+                }
                 None
             }
         };
