@@ -10,8 +10,9 @@ test:
 
 demo:
 	@mkdir -p target
-	@rt check demo >target/demo.log 2>&1 || { cat target/demo.log; exit 1; }
+	@rt check demo tour >target/demo.log 2>&1 || { cat target/demo.log; exit 1; }
 	@tools/run demo
+	@tools/run tour
 
 lib:
 	@tools/lib

@@ -1,4 +1,4 @@
-// The demonstration: what the library does for the correlator's node, what it refuses and why, and walks told entry by entry.
+// The demonstration: what the library does for the correlator's node, and what it refuses and why.
 mod ask;
 mod damage;
 mod dry;
@@ -7,7 +7,6 @@ mod pools;
 mod reasons;
 mod refusals;
 mod usual;
-mod walks;
 mod window;
 
 fn main() {
@@ -16,5 +15,4 @@ fn main() {
     refusals::act();
     pools::act();
     damage::act();
-    walks::act();
 }

@@ -161,7 +161,7 @@ fn others(mem: &[u8]) {
     show(mem, b"no address at all", 0x1000000000000);
 }
 
-pub fn act() {
+fn main() {
     say::text(b"WALKS, ENTRY BY ENTRY\n");
     let mut mem = [0u8; 16384];
     tables(&mut mem);
