@@ -31,7 +31,8 @@ struct Between {
 impl Between {
     fn turn(&self, onlooker: &mut Onlooker, reads: u64) {
         let asked = self.asked.load(SeqCst);
-        if asked != self.done.load(SeqCst) {
+        // Not at once: a processor goes on with what it holds until it is told.
+        if asked != self.done.load(SeqCst) && onlooker.random.chance(1, 8) {
             onlooker.flush();
             self.done.store(asked, SeqCst);
         }
@@ -85,10 +86,6 @@ impl Writer<'_> {
 
     fn operation(&mut self, of: &dyn Operations, flaw: Flaw) -> Result<(), String> {
         self.reports(flaw);
-        if self.promised.is_some() && self.scene.ledger.free == 0 {
-            // Without a report there is little to do: who walks may lack a processor.
-            thread::yield_now();
-        }
         let request = self.scene.next();
         let judged = self.scene.ledger.judge(&request, self.memory.len).expect("our own pool");
         let clock = &self.between.clock;

@@ -42,7 +42,11 @@ fn sound(name: &str, run: impl FnOnce() -> Result<Tally, String>) -> bool {
                 "beside: {name}: {raced} beside a change of their address, {cached} from a cache, {stale} of those stale, {amid} turns in the midst of an operation ({:.1} s)",
                 began.elapsed().as_secs_f64()
             );
-            walks > 0 && raced > 0 && reports > 0 && (cached > 0) == (stale > 0)
+            let enough = raced > 0 && amid > 0 && reports > 0 && (cached > 0) == (stale > 0);
+            if !enough {
+                println!("beside: FAILED: {name}: too little happened beside the walks");
+            }
+            enough
         }
         Err(trouble) => {
             println!("beside: FAILED: {name}: {trouble}");

@@ -64,7 +64,7 @@ pub struct Onlooker<'a> {
     root: u64,
     memory: Shared,
     clock: &'a AtomicU64,
-    random: Random,
+    pub random: Random,
     walks: [Option<Running>; WALKS],
     cache: [Option<Walk>; KEPT],
     /// Does it keep anything?

@@ -90,7 +90,8 @@ impl Scene {
                 let frame = (GIB1 * 16 + random.below(PHYSICAL - 32 * GIB1)) / size * size;
                 Request::Map { space, base, frame, size, rights: random.below(8) }
             }
-            7..=12 => Request::Unmap { space, base: page(random) },
+            // While the pool is dry some pages stay, or nothing would be left to be seen.
+            7..=12 if !dry || pages.len() > 3 => Request::Unmap { space, base: page(random) },
             _ => Request::Protect { space, base: page(random), rights: random.below(8) },
         }
     }
