@@ -1,9 +1,9 @@
 // Damaged tables and books: a word is overwritten, what needs it is refused, and when the word is back all goes on.
 use crate::usual;
-use crate::window::BYTES;
-use crate::window::FIRST;
-use crate::window::ORIGIN;
-use crate::window::ROOT;
+use ask::BYTES;
+use ask::FIRST;
+use ask::ORIGIN;
+use ask::ROOT;
 
 const HERE: u64 = 0x1000;
 

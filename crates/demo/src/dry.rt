@@ -1,6 +1,6 @@
 // A pool that runs dry: what is set aside is no room until every cache was told, and then it is.
 use crate::usual;
-use crate::window::BYTES;
+use ask::BYTES;
 
 // The last page of the address space: it ends at 2^48.
 const LAST: u64 = 0xffff_ffff_f000;

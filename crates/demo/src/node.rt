@@ -1,7 +1,7 @@
 // A night at the correlator's node: a buffer of samples of 2 MiB and one of visibilities of 1 GiB are mapped, filled, handed on to
 // the next stage read-only, and unmapped; their tables come back when every cache was told.
 use crate::usual;
-use crate::window::BYTES;
+use ask::BYTES;
 
 const SAMPLES: u64 = 0x7f00_0020_0000;
 

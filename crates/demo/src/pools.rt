@@ -1,12 +1,11 @@
 // Windows, pools, roots and books that make no sense: refused like any other argument.
-use crate::ask;
 use crate::usual::page;
-use crate::window::BYTES;
-use crate::window::FIRST;
-use crate::window::ORIGIN;
-use crate::window::PAGES;
-use crate::window::ROOT;
-use crate::window::space;
+use ask::BYTES;
+use ask::FIRST;
+use ask::ORIGIN;
+use ask::PAGES;
+use ask::ROOT;
+use ask::space;
 use pool::Space;
 
 fn with(origin: u64, first: u64, pages: u64, root: u64) -> Space {

@@ -1,6 +1,6 @@
 // A refusal of each kind that a caller can cause in sound tables.
 use crate::usual;
-use crate::window::BYTES;
+use ask::BYTES;
 
 // A page of 4 KiB stands in the middle of 2 MiB from 1 GiB on.
 const HERE: u64 = 0x4010_0000;

@@ -1,6 +1,5 @@
 // The operations in the demonstration's own pool, on pages that the correlator reads and writes, and runs nothing in.
-use crate::ask;
-use crate::window::space;
+use ask::space;
 use entry::Rights;
 use plan::Asked;
 

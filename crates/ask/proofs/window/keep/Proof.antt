@@ -4,11 +4,11 @@ use mathlib.Core.Path.{_≡_}
 use native.Mathlib.Omega.{arith}
 use lib.ListN.{length}
 use borrow.Author.Needs.{needs}
-use Rattle.demo.proofs.window.keep.Statement.{statement}
-use Rattle.demo.proofs.window.keep.Tie as tie
-use Rattle.demo.proofs.window.keep.Reads as reads
-use Rattle.demo.proofs.window.keep.Lts as lts
-use Rattle.demo.proofs.window.put.Reads as put-reads
+use Rattle.ask.proofs.window.keep.Statement.{statement}
+use Rattle.ask.proofs.window.keep.Tie as tie
+use Rattle.ask.proofs.window.keep.Reads as reads
+use Rattle.ask.proofs.window.keep.Lts as lts
+use Rattle.ask.proofs.window.put.Reads as put-reads
 
 abbrev Inv-loop : tie.InvT-loop
 Inv-loop mem old₀ i₀ old i = (i ≤ length mem) × (length old ≡ length old₀)

@@ -3,10 +3,10 @@ use Prim.Native.Nat.{_≤_, _-_}
 use native.Mathlib.Omega.{arith}
 use lib.ListN.{length}
 use borrow.Author.Needs.{needs}
-use Rattle.demo.proofs.window.differs.Statement.{statement}
-use Rattle.demo.proofs.window.differs.Tie as tie
-use Rattle.demo.proofs.window.differs.Reads as reads
-use Rattle.demo.proofs.window.differs.Lts as lts
+use Rattle.ask.proofs.window.differs.Statement.{statement}
+use Rattle.ask.proofs.window.differs.Tie as tie
+use Rattle.ask.proofs.window.differs.Reads as reads
+use Rattle.ask.proofs.window.differs.Lts as lts
 
 abbrev Inv-loop : tie.InvT-loop
 Inv-loop mem old i₀ i = (i ≤ length mem) × (length mem ≤ length old)

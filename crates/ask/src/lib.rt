@@ -1,13 +1,10 @@
 // Each operation, with what is asked and what came of it in words. After a refusal the window is compared with what it was.
-use crate::reasons::pool_refused;
-use crate::reasons::refused;
-use crate::window::book;
-use crate::window::copy;
-use crate::window::unchanged;
 use entry::Rights;
 use plan::Asked;
 use pool::Created;
 use pool::Space;
+use reasons::pool_refused;
+use reasons::refused;
 use tablepath::Gone;
 use tablepath::Mapped;
 use tablepath::Protected;
@@ -15,6 +12,19 @@ use tablepath::Report;
 use tablepath::Same;
 use tablepath::Unmapped;
 use walk::Found;
+use window::book;
+use window::copy;
+use window::unchanged;
+
+mod reasons;
+mod window;
+
+pub use window::BYTES;
+pub use window::FIRST;
+pub use window::ORIGIN;
+pub use window::PAGES;
+pub use window::ROOT;
+pub use window::space;
 
 fn asked_pool(space: Space) {
     say::with_number(b"  create a pool of ", space.pages);
