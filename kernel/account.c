@@ -1,0 +1,87 @@
+#include "account.h"
+#include "machine.h"
+#include <stdarg.h>
+
+enum { COM1 = 0x3f8, EXIT = 0xf4, ALL_PASSED = 0x10, SOME_FAILED = 0x11, SHOWN_FAILURES = 12 };
+
+static uint64_t passed, failed;
+
+void open_serial(void) {
+    out8(COM1 + 1, 0);    /* no interrupts */
+    out8(COM1 + 3, 0x80); /* 115200 baud */
+    out8(COM1 + 0, 1);
+    out8(COM1 + 1, 0);
+    out8(COM1 + 3, 3); /* 8 bits, no parity */
+    out8(COM1 + 2, 7); /* queues on */
+}
+
+static void say_char(char c) {
+    while (!(in8(COM1 + 5) & 0x20)) pause();
+    out8(COM1, (uint8_t)c);
+}
+
+static void say_number(uint64_t n, unsigned base) {
+    char digits[21];
+    char *at = digits + 20;
+    *at = 0;
+    do *--at = "0123456789abcdef"[n % base];
+    while (n /= base);
+    while (*at) say_char(*at++);
+}
+
+static void say_text(const char *text) {
+    while (*text) say_char(*text++);
+}
+
+static void say_list(const char *format, va_list list) {
+    for (; *format; format++) {
+        if (*format != '%') {
+            say_char(*format);
+            continue;
+        }
+        format++;
+        if (*format == 'x') say_text("0x");
+        if (*format == 's') say_text(va_arg(list, const char *));
+        else say_number(va_arg(list, uint64_t), *format == 'x' ? 16 : 10);
+    }
+}
+
+void say(const char *format, ...) {
+    va_list list;
+    va_start(list, format);
+    say_list(format, list);
+    va_end(list);
+}
+
+void check(int holds, const char *format, ...) {
+    if (holds) {
+        passed++;
+        return;
+    }
+    if (++failed > SHOWN_FAILURES) return;
+    va_list list;
+    va_start(list, format);
+    say_text("wrong: ");
+    say_list(format, list);
+    say_char('\n');
+    va_end(list);
+}
+
+uint64_t passes(void) { return passed; }
+
+void finish(void) {
+    say("%u passed, %u failed\n", passed, failed);
+    out8(EXIT, failed ? SOME_FAILED : ALL_PASSED);
+    for (;;) __asm__ volatile("cli; hlt");
+}
+
+void give_up(const char *format, ...) {
+    va_list list;
+    va_start(list, format);
+    say_text("given up: ");
+    say_list(format, list);
+    say_char('\n');
+    va_end(list);
+    failed++;
+    finish();
+}
