@@ -1,9 +1,10 @@
 # make test   every test, from nothing; the last line counts them
 # make demo   the demonstration
+# make kernel a kernel that lives in tables of the library, in an emulated machine; its last line counts its checks
 # make lib    target/tablepath: the archive for x86-64, the header, the licences
 # make walks  the compiled library against the manual's walk alone, with what is proved already
 # make clean  removes all that was made
-.PHONY: test demo lib walks clean
+.PHONY: test demo lib kernel walks clean
 
 test:
 	@tools/test
@@ -13,9 +14,14 @@ demo:
 	@rt check demo tour >target/demo.log 2>&1 || { cat target/demo.log; exit 1; }
 	@tools/run demo
 	@tools/run tour
+	@tools/lib
+	@tools/kernel
 
 lib:
 	@tools/lib
+
+kernel: lib
+	@tools/kernel
 
 walks:
 	@tools/test archive rust walks

@@ -2,7 +2,7 @@
 #include "machine.h"
 #include <stdarg.h>
 
-enum { COM1 = 0x3f8, EXIT = 0xf4, ALL_PASSED = 0x10, SOME_FAILED = 0x11, SHOWN_FAILURES = 12 };
+enum { COM1 = 0x3f8, EXIT = 0xf4, ALL_PASSED = 0x10, SOME_FAILED = 0x11, KINDS = 32, SHOWN = 2 };
 
 static uint64_t passed, failed;
 
@@ -53,12 +53,26 @@ void say(const char *format, ...) {
     va_end(list);
 }
 
+/* Of each kind of failure the first ones are shown; what has the same words is of one kind. */
+static int is_shown(const char *format) {
+    static struct {
+        const char *format;
+        unsigned shown;
+    } kinds[KINDS];
+    for (unsigned n = 0; n < KINDS; n++) {
+        if (!kinds[n].format) kinds[n].format = format;
+        if (kinds[n].format == format) return kinds[n].shown++ < SHOWN;
+    }
+    return 0;
+}
+
 void check(int holds, const char *format, ...) {
     if (holds) {
         passed++;
         return;
     }
-    if (++failed > SHOWN_FAILURES) return;
+    failed++;
+    if (!is_shown(format)) return;
     va_list list;
     va_start(list, format);
     say_text("wrong: ");
