@@ -1,3 +1,4 @@
+/* The serial port COM1, and the device by which QEMU is left (isa-debug-exit). */
 #include "account.h"
 #include "machine.h"
 #include <stdarg.h>
@@ -81,7 +82,18 @@ void check(int holds, const char *format, ...) {
     va_end(list);
 }
 
-uint64_t passes(void) { return passed; }
+void end_part(const char *format, ...) {
+    static uint64_t passed_before, failed_before;
+    va_list list;
+    va_start(list, format);
+    say_list(format, list);
+    va_end(list);
+    say(": %u checks passed", passed - passed_before);
+    if (failed > failed_before) say(", %u FAILED", failed - failed_before);
+    say_char('\n');
+    passed_before = passed;
+    failed_before = failed;
+}
 
 void finish(void) {
     say("%u passed, %u failed\n", passed, failed);

@@ -12,8 +12,8 @@ void say(const char *format, ...);
 /* One check, counted. Where it does not hold, these words say what was wrong. */
 void check(int holds, const char *format, ...);
 
-/* How many checks passed so far. */
-uint64_t passes(void);
+/* These words, and how many checks of the part that ends here passed, and failed. */
+void end_part(const char *format, ...);
 
 /* The last line, and out of QEMU: the exit status says whether all passed. */
 _Noreturn void finish(void);

@@ -1,6 +1,8 @@
+/* Each access is made with a word planted in the frame, and what is in the frame afterwards is read through the kernel's view. */
 #include "agree.h"
 #include "account.h"
 #include "frames.h"
+#include "image.h"
 #include "machine.h"
 #include "own.h"
 #include "plant.h"
@@ -30,6 +32,12 @@ static int in_frame(struct outcome o, enum cause cause, enum access kind, uint64
     return o.value == number_of(before) && now == before;
 }
 
+/* Where the kernel sees this physical address as well: in the buffers, or in the image; 0 where it does not. */
+static uint64_t view_of(uint64_t at) {
+    if (is_buffer(at)) return DIRECT + at;
+    return at >= (uint64_t)process_load && at < (uint64_t)data_ends - KERNEL ? KERNEL + at : 0;
+}
+
 static struct outcome access_by_process(enum access kind, uint64_t va, unsigned ring, uint64_t word) {
     if (kind == EXECUTE) forget_code(va);
     return ring ? access_in_ring_3(kind, va, word) : access_in_ring_0(kind, va, word);
@@ -48,6 +56,7 @@ void agree_on(const char *when, uint64_t va, unsigned ring, enum access kind) {
     int holds = came(o, foreseen, canonical(va));
     if (seen) holds = holds && in_frame(o, foreseen.cause, kind, read_word(DIRECT + at), before, written);
     if (seen) write_word(DIRECT + at, original);
+    if (!seen && foreseen.cause == GOES && view_of(at)) holds = holds && o.value == read_word(view_of(at));
     check(holds, "%s: %s in ring %u at %x: faulted %u, error code %x, CR2 %x, value %x; look-up says kind %u, frame %x, rights %u", when,
           access_name(kind), (uint64_t)ring, va, o.faulted, o.error, o.address, o.value, found.kind, found.frame, found.rights);
 }

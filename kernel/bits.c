@@ -2,8 +2,8 @@
  * Only the bits that name a table are left alone: the machine would set its marks in memory that is no table. */
 #include "account.h"
 #include "agree.h"
-#include "helped.h"
 #include "machine.h"
+#include "must.h"
 #include "own.h"
 #include "second.h"
 #include "tests.h"
@@ -46,7 +46,7 @@ void test_bits(void) {
         for (unsigned level = 0; level < 4 - n; level++) test_word(n, level);
         must_unmap_and_report(place_of(n), frame_for(n, 0), size_of(n));
     }
-    say("bits turned over by hand in words on the way: %u left a page, %u were present and reserved, %u not present; the machine agrees\n",
-        pages, reserved, nothing);
     check(pages > 0 && reserved > 0 && nothing > 0, "bits: some kind never came");
+    end_part("bits turned over by hand in each word on the way (%u leave a page, %u are reserved, %u take it away)", pages, reserved,
+             nothing);
 }

@@ -1,8 +1,8 @@
 /* The pool runs dry: what does not fit is refused, no byte changes, and what was mapped stays. Reports make room again. */
 #include "account.h"
 #include "agree.h"
-#include "helped.h"
 #include "machine.h"
+#include "must.h"
 #include "own.h"
 #include "second.h"
 #include "tests.h"
@@ -78,6 +78,6 @@ void test_dry(void) {
     for (uint64_t i = 0; i < n; i++) agree("the pool is dry again", base_of(i) + 8 * i);
     for (uint64_t i = 0; i < n; i++) must_unmap_and_report(base_of(i), frame_of(i), PAGE);
     for (uint64_t i = 0; i <= n; i++) agree("all unmapped", base_of(i));
-    say("the pool of %u pages ran dry after %u pages of 4 KiB, each with three tables: refused, no byte changed; reports made room\n",
-        process_space.pages, n);
+    end_part("the pool of %u pages is dry after %u buffers of 4 KiB far apart: refused, and no byte changed; reports make room",
+             process_space.pages, n);
 }

@@ -1,3 +1,4 @@
+/* The manual's section on access rights, and its table of error codes. */
 #include "foresee.h"
 #include "machine.h"
 

@@ -1,3 +1,4 @@
+/* QEMU's account of the machine (the start information of the PVH entry), read once. */
 #include "frames.h"
 #include "account.h"
 #include "machine.h"

@@ -3,13 +3,13 @@
 #include "agree.h"
 #include "foresee.h"
 #include "frames.h"
+#include "image.h"
 #include "own.h"
 #include "second.h"
-#include "shared.h"
 #include "tests.h"
 #include "traps.h"
 
-enum { ROUNDS = 4000 };
+enum { ROUNDS = 10000 };
 
 void first_processor(uint64_t start_info);
 
@@ -32,12 +32,12 @@ static void say_faults(void) {
     static const char *const names[CAUSES] = { [NOT_PRESENT] = "not present", [RESERVED] = "reserved bit", [READ_ONLY] = "read-only",
                                                [NO_EXECUTE] = "no-execute",   [RING_0_ONLY] = "the kernel's, in ring 3",
                                                [GUARDED] = "the process's, in ring 0 (SMEP, SMAP)" };
-    say("page faults that had to come, and came, each with its CR2 and error code:\n");
+    say("page faults that had to come, with CR2 and error code:\n");
     for (enum cause cause = NOT_PRESENT; cause < CAUSES; cause++) {
         say("  %u %s\n", compared(cause), names[cause]);
         check(compared(cause) > 0 || (cause == GUARDED && !guards()), "no access was to fault so: %s", names[cause]);
     }
-    say("accesses that had to go through, and went, to the right bytes: %u\n", compared(GOES));
+    end_part("accesses that had to go through, to the right bytes: %u", compared(GOES));
 }
 
 void first_processor(uint64_t start_info) {
@@ -49,7 +49,7 @@ void first_processor(uint64_t start_info) {
     live_in_own_tables();
     make_process_space();
     start_second(process_space.root);
-    say("the process lives in its tables: CR3 %x, ring 3, on the second processor\n", process_space.root);
+    say("the process lives in its tables: CR3 %x, on the second processor, in ring 3\n", process_space.root);
     test_kernel_pages();
     test_rights();
     test_marks();

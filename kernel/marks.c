@@ -1,7 +1,7 @@
 /* Accessed and dirty: the machine sets them as the manual says, and protect keeps them. The words are read directly. */
 #include "account.h"
-#include "helped.h"
 #include "machine.h"
+#include "must.h"
 #include "own.h"
 #include "plant.h"
 #include "second.h"
@@ -83,10 +83,9 @@ static void test_cleared(unsigned n) {
 }
 
 void test_marks(void) {
-    uint64_t before = passes();
     for (unsigned n = 0; n < SIZES; n++) {
         test_marks_of(n);
         test_cleared(n);
     }
-    say("marks: accessed after a read, dirty after a write only, both kept by protect: %u checks\n", passes() - before);
+    end_part("marks: accessed after a read, dirty after a write, both kept by protect");
 }

@@ -4,8 +4,8 @@
 #include "account.h"
 #include "agree.h"
 #include "frames.h"
-#include "helped.h"
 #include "machine.h"
+#include "must.h"
 #include "own.h"
 #include "plant.h"
 #include "second.h"
@@ -130,6 +130,6 @@ void test_night(uint64_t rounds) {
     check(made == released, "the night made %u tables, and %u were released", made, released);
     say("the night: %u rounds; %u buffers of 4 KiB, %u of 2 MiB, %u of 1 GiB, filled, handed on and unmapped\n", rounds, mapped[0],
         mapped[1], mapped[2]);
-    say("  %u words were in the right frame, of the right beam; a pool of %u pages gave %u tables and got them back\n", words,
-        process_space.pages, made);
+    end_part("  %u words, each in its frame and of its beam; %u tables made and released, in a pool of %u pages", words, made,
+             process_space.pages);
 }

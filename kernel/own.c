@@ -1,18 +1,18 @@
+/* The kernel's own tables and the process's: what is mapped in them, and the step from the boot tables into the first. */
 #include "own.h"
 #include "account.h"
 #include "foresee.h"
 #include "frames.h"
-#include "shared.h"
+#include "image.h"
+#include "must.h"
 
-enum { CONSTANTS = TP_NO_EXECUTE, VARIABLES = TP_WRITABLE | TP_NO_EXECUTE, MOST_TRIED = 48 };
+enum { CODE = 0, CONSTANTS = TP_NO_EXECUTE, VARIABLES = TP_WRITABLE | TP_NO_EXECUTE, MOST_TRIED = 48 };
 
 struct space process_space;
-extern char text_word[], rodata_word[], data_word[];
 
 /* An access, and what look-up said of its address while the tables could still be read. */
 struct tried {
-    const char *name;
-    uint64_t va;
+    struct place place;
     enum access kind;
     struct tp_found found;
 };
@@ -34,7 +34,7 @@ static void map_image(const struct space *s, const char *from, const char *to, u
 
 /* what both processors need in ring 0 */
 static void map_kernel(const struct space *s) {
-    map_image(s, text, rodata, 0);
+    map_image(s, text, rodata, CODE);
     map_image(s, rodata, data, CONSTANTS);
     map_image(s, data, data_ends, VARIABLES);
     map_pages(s, APIC, APIC + PAGE, APIC_FRAME, VARIABLES);
@@ -54,36 +54,44 @@ static struct space make_own_space(void) {
     return own;
 }
 
-static void foretell(const struct space *own, const char *name, uint64_t va) {
+/* look-up must say what was asked for, and the processor will have to do as it says */
+static void foretell(const struct space *own, struct place place) {
+    must_be(own, &place);
     for (enum access kind = READ; kind < ACCESSES; kind++) {
         if (tried == MOST_TRIED) give_up("too many accesses to try");
-        tries[tried++] = (struct tried){ name, va, kind, look_up(own, plain(va)) };
+        tries[tried++] = (struct tried){ place, kind, look_up(own, plain(place.va)) };
     }
 }
 
+static void foretell_image(const struct space *own, const char *name, const char *at, uint64_t rights) {
+    foretell(own, (struct place){ name, (uint64_t)at, (uint64_t)at - KERNEL, rights });
+}
+
 static void foretell_all(const struct space *own) {
-    foretell(own, "code", (uint64_t)text_word);
-    foretell(own, "read-only data", (uint64_t)rodata_word);
-    foretell(own, "data", (uint64_t)data_word);
-    foretell(own, "stack", (uint64_t)first_stack);
-    foretell(own, "the page below the stack", (uint64_t)first_guard);
-    foretell(own, "the process's pool", (uint64_t)process_pool_ends - 8);
-    foretell(own, "its own pool", (uint64_t)own_pool);
-    foretell(own, "device page", APIC + 0x20);
-    foretell(own, "the boot tables' low half", 0x100000);
-    for (unsigned n = 0; n < GIBS; n++) foretell(own, "a GiB for buffers", DIRECT + gib(n) + GIB1 - 8);
-    foretell(own, "beyond them", DIRECT);
+    foretell_image(own, "code", text_word, CODE);
+    foretell_image(own, "read-only data", rodata_word, CONSTANTS);
+    foretell_image(own, "data", data_word, VARIABLES);
+    foretell_image(own, "the stack", first_stack, VARIABLES);
+    foretell_image(own, "the process's pool", process_pool_ends - 8, VARIABLES);
+    foretell(own, (struct place){ "the device page", APIC + 0x20, APIC_FRAME + 0x20, VARIABLES });
+    for (unsigned n = 0; n < GIBS; n++)
+        foretell(own, (struct place){ "memory for buffers", DIRECT + gib(n) + GIB1 - 8, gib(n) + GIB1 - 8, VARIABLES });
+    foretell(own, (struct place){ "the page below the stack", (uint64_t)first_guard, ABSENT, 0 });
+    foretell(own, (struct place){ "its own pool", (uint64_t)own_pool, ABSENT, 0 });
+    foretell(own, (struct place){ "what the boot tables had", 0x100000, ABSENT, 0 });
+    foretell(own, (struct place){ "before the memory for buffers", DIRECT, ABSENT, 0 });
 }
 
 /* A write puts back what was read, and so does no harm. */
 static void try_all(void) {
     for (unsigned n = 0; n < tried; n++) {
         const struct tried *t = &tries[n];
+        uint64_t va = t->place.va;
         struct foreseen foreseen = foresee(t->found, 0, 0, t->kind);
-        uint64_t word = t->kind == WRITE && foreseen.cause == GOES ? read_word(t->va) : 0;
-        struct outcome o = access_here(t->kind, t->va, word);
-        check(came(o, foreseen, t->va), "own tables: %s, %s at %x: faulted %u, error code %x, CR2 %x", t->name, access_name(t->kind),
-              t->va, o.faulted, o.error, o.address);
+        uint64_t word = t->kind == WRITE && foreseen.cause == GOES ? read_word(va) : 0;
+        struct outcome o = access_here(t->kind, va, word);
+        check(came(o, foreseen, va), "own tables: %s, %s at %x: faulted %u, error code %x, CR2 %x", t->place.name, access_name(t->kind), va,
+              o.faulted, o.error, o.address);
     }
 }
 
@@ -93,11 +101,10 @@ void live_in_own_tables(void) {
     load_cr4(cr4() | guards());
     load_cr3(own.root);
     check(cr3() == own.root, "own tables: CR3 is %x, not %x", cr3(), own.root);
-    say("the kernel lives in its own tables: CR3 %x, code at %x, %u KiB of data, device page at %x, %u GiB for buffers at %x\n", own.root,
-        (uint64_t)text, (uint64_t)(data_ends - data) / 1024, APIC, (uint64_t)GIBS, DIRECT);
-    uint64_t before = passes();
+    say("the kernel lives in its own tables: CR3 %x, code at %x, device page at %x, %u GiB for buffers at %x\n", own.root, (uint64_t)text,
+        APIC, (uint64_t)GIBS, DIRECT);
     try_all();
-    say("  %u of %u accesses came out as look-up foretold\n", passes() - before, (uint64_t)tried);
+    end_part("  %u accesses, as look-up had said in the boot tables", (uint64_t)tried);
 }
 
 void make_process_space(void) {
@@ -106,7 +113,7 @@ void make_process_space(void) {
     map_kernel(s);
     map_image(s, second_stack, second_stack_top, VARIABLES);
     uint64_t code = (uint64_t)process_text, constants = (uint64_t)process_rodata, variables = (uint64_t)process_data;
-    map_pages(s, code, constants, frame_of_process(code), TP_USER);
+    map_pages(s, code, constants, frame_of_process(code), TP_USER | CODE);
     map_pages(s, constants, variables, frame_of_process(constants), TP_USER | CONSTANTS);
     map_pages(s, variables, (uint64_t)process_ends, frame_of_process(variables), TP_USER | VARIABLES);
 }

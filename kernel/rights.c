@@ -1,22 +1,40 @@
 /* Every page size with every rights, and from every rights to every other: the machine does what look-up says. */
 #include "account.h"
 #include "agree.h"
-#include "helped.h"
+#include "frames.h"
+#include "image.h"
 #include "machine.h"
+#include "must.h"
+#include "own.h"
 #include "second.h"
-#include "shared.h"
 #include "tests.h"
 
 enum { RIGHTS = 8 };
 
-/* Code, constants, data, device page: none of it is for ring 3; and ring 0 may not touch or execute what is the process's. */
+/* None of the kernel's pages is for ring 3; and ring 0 may not touch or execute what is the process's. */
 void test_kernel_pages(void) {
-    uint64_t before = passes();
-    const uint64_t at[] = { (uint64_t)text,     (uint64_t)rodata,       (uint64_t)data,           (uint64_t)second_stack_top - 8,
-                            APIC + 0x20,        (uint64_t)process_text, (uint64_t)process_rodata, (uint64_t)process_ends - 8,
-                            (uint64_t)own_pool, (uint64_t)process_pool, (uint64_t)first_stack,    DIRECT + GIB1 };
-    for (unsigned n = 0; n < sizeof at / sizeof at[0]; n++) agree("a page of the kernel or the process", plain(at[n]));
-    say("pages of the kernel and of the process, in the process's tables: %u accesses came out as look-up says\n", passes() - before);
+    const uint64_t code = (uint64_t)text_word, constants = (uint64_t)rodata_word, variables = (uint64_t)data_word,
+                   stack = (uint64_t)second_stack_top - 8, first = (uint64_t)process_text, second = (uint64_t)process_rodata,
+                   last = (uint64_t)process_ends - 8;
+    const struct place places[] = {
+        { "the kernel's code", code, code - KERNEL, 0 },
+        { "the kernel's constants", constants, constants - KERNEL, TP_NO_EXECUTE },
+        { "the kernel's data", variables, variables - KERNEL, TP_WRITABLE | TP_NO_EXECUTE },
+        { "the second stack", stack, stack - KERNEL, TP_WRITABLE | TP_NO_EXECUTE },
+        { "the device page", APIC + 0x20, APIC_FRAME + 0x20, TP_WRITABLE | TP_NO_EXECUTE },
+        { "the process's code", first, frame_of_process(first), TP_USER },
+        { "the process's constants", second, frame_of_process(second), TP_USER | TP_NO_EXECUTE },
+        { "the process's data", last, frame_of_process(last), TP_USER | TP_WRITABLE | TP_NO_EXECUTE },
+        { "the kernel's pool", (uint64_t)own_pool, ABSENT, 0 },
+        { "its own pool", (uint64_t)process_pool, ABSENT, 0 },
+        { "the first stack", (uint64_t)first_stack, ABSENT, 0 },
+        { "the kernel's view of buffers", DIRECT + gib(0), ABSENT, 0 },
+    };
+    for (unsigned n = 0; n < sizeof places / sizeof places[0]; n++) {
+        must_be(&process_space, &places[n]);
+        agree(places[n].name, plain(places[n].va));
+    }
+    end_part("  its pages and the kernel's there, from ring 3 and ring 0");
 }
 
 /* the first word, one in the middle, the last; and the words on both sides, where nothing is mapped */
@@ -47,7 +65,6 @@ static void test_rights_of(unsigned n) {
 }
 
 void test_rights(void) {
-    uint64_t before = passes();
     for (unsigned n = 0; n < SIZES; n++) test_rights_of(n);
-    say("rights: 3 sizes, from each of 8 rights to each, read, write and execute in ring 3 and ring 0: %u checks\n", passes() - before);
+    end_part("rights: 3 sizes, from each of 8 rights to each by protect; read, write, execute; ring 3 and ring 0");
 }

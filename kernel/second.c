@@ -1,7 +1,8 @@
+/* The second processor is told by an interrupt (its local APIC), and its process by a mailbox. */
 #include "second.h"
 #include "foresee.h"
+#include "image.h"
 #include "machine.h"
-#include "shared.h"
 
 enum { APIC_END = 0xb0, APIC_ENABLE = 0xf0, APIC_COMMAND = 0x300, TO_THE_OTHER = 0xc4000, INIT = 0x500, START_AT_8000 = 0x608 };
 

@@ -1,3 +1,4 @@
+/* The way of an address, read without the library. */
 #include "space.h"
 #include "account.h"
 #include "machine.h"

@@ -1,8 +1,8 @@
 /* What the second processor still holds before it is told, and that it holds nothing of it afterwards. */
 #include "account.h"
 #include "agree.h"
-#include "helped.h"
 #include "machine.h"
+#include "must.h"
 #include "own.h"
 #include "plant.h"
 #include "second.h"
@@ -52,6 +52,6 @@ void test_stale(void) {
             test_moved(n, offset);
             test_narrowed(n, offset);
         }
-    say("unmap, and protect to fewer rights: before invlpg the old translation still answered %u of %u times, after it never\n", stale,
-        asked);
+    end_part("invlpg: before it, what was unmapped or made read-only still went through %u of %u times; after it, it must not", stale,
+             asked);
 }

@@ -1,4 +1,5 @@
-#include "helped.h"
+/* Expected numbers of tables come from the words themselves, not from the library. */
+#include "must.h"
 #include "account.h"
 #include "frames.h"
 #include "machine.h"
@@ -30,6 +31,13 @@ static uint64_t alone(uint64_t base) {
     uint64_t n = 0;
     while (n + 1 < way.words && filled(way.word[way.words - 1 - n]) == 1) n++;
     return n;
+}
+
+void must_be(const struct space *s, const struct place *place) {
+    struct tp_found f = look_up(s, plain(place->va));
+    uint64_t at = f.kind == TP_PAGE ? f.frame + (plain(place->va) - f.base) : ABSENT;
+    check(at == place->at && f.rights == place->rights, "%s at %x: look-up says %x with rights %u, not %x with %u", place->name, place->va,
+          at, f.rights, place->at, place->rights);
 }
 
 void must_map(uint64_t base, uint64_t frame, uint64_t size, uint64_t rights) {
