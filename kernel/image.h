@@ -6,7 +6,7 @@
 
 extern char text[], rodata[], data[], data_ends[];
 extern char process_load[], process_text[], process_rodata[], process_data[], process_ends[];
-extern char low_start[], low_start_ends[];
+extern char low_start[], low_start_ends[], boot_root[];
 extern char first_guard[], first_stack[], first_stack_top[], second_stack[], second_stack_top[];
 extern char own_pool[], own_pool_ends[], process_pool[], process_pool_ends[];
 extern char text_word[], rodata_word[], data_word[]; /* words that can be executed, of pages of each kind */

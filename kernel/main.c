@@ -57,6 +57,7 @@ void first_processor(uint64_t start_info) {
     test_stale();
     test_dry();
     test_night(rounds_asked(ROUNDS));
+    test_own_marks();
     say_faults();
     finish();
 }

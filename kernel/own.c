@@ -9,6 +9,7 @@
 enum { CODE = 0, CONSTANTS = TP_NO_EXECUTE, VARIABLES = TP_WRITABLE | TP_NO_EXECUTE, MOST_TRIED = 48 };
 
 struct space process_space;
+static struct space own; /* its pool can be read in the boot tables only */
 
 /* An access, and what look-up said of its address while the tables could still be read. */
 struct tried {
@@ -40,8 +41,8 @@ static void map_kernel(const struct space *s) {
     map_pages(s, APIC, APIC + PAGE, APIC_FRAME, VARIABLES);
 }
 
-static struct space make_own_space(void) {
-    struct space own = create((uint8_t *)own_pool, (uint64_t)own_pool - KERNEL, (uint64_t)(own_pool_ends - own_pool) / PAGE);
+static void make_own_space(void) {
+    own = create((uint8_t *)own_pool, (uint64_t)own_pool - KERNEL, (uint64_t)(own_pool_ends - own_pool) / PAGE);
     map_kernel(&own);
     map_image(&own, first_stack, first_stack_top, VARIABLES);
     map_image(&own, process_pool, process_pool_ends, VARIABLES);
@@ -51,35 +52,34 @@ static struct space make_own_space(void) {
         uint64_t reason = map(&own, plain(DIRECT + gib(n)), gib(n), GIB1, VARIABLES).reason;
         if (reason != TP_DONE) give_up("mapping the GiB at %x is refused for reason %u", gib(n), reason);
     }
-    return own;
 }
 
 /* look-up must say what was asked for, and the processor will have to do as it says */
-static void foretell(const struct space *own, struct place place) {
-    must_be(own, &place);
+static void foretell(struct place place) {
+    must_be(&own, &place);
     for (enum access kind = READ; kind < ACCESSES; kind++) {
         if (tried == MOST_TRIED) give_up("too many accesses to try");
-        tries[tried++] = (struct tried){ place, kind, look_up(own, plain(place.va)) };
+        tries[tried++] = (struct tried){ place, kind, look_up(&own, plain(place.va)) };
     }
 }
 
-static void foretell_image(const struct space *own, const char *name, const char *at, uint64_t rights) {
-    foretell(own, (struct place){ name, (uint64_t)at, (uint64_t)at - KERNEL, rights });
+static void foretell_image(const char *name, const char *at, uint64_t rights) {
+    foretell((struct place){ name, (uint64_t)at, (uint64_t)at - KERNEL, rights });
 }
 
-static void foretell_all(const struct space *own) {
-    foretell_image(own, "code", text_word, CODE);
-    foretell_image(own, "read-only data", rodata_word, CONSTANTS);
-    foretell_image(own, "data", data_word, VARIABLES);
-    foretell_image(own, "the stack", first_stack, VARIABLES);
-    foretell_image(own, "the process's pool", process_pool_ends - 8, VARIABLES);
-    foretell(own, (struct place){ "the device page", APIC + 0x20, APIC_FRAME + 0x20, VARIABLES });
+static void foretell_all(void) {
+    foretell_image("code", text_word, CODE);
+    foretell_image("read-only data", rodata_word, CONSTANTS);
+    foretell_image("data", data_word, VARIABLES);
+    foretell_image("the stack", first_stack, VARIABLES);
+    foretell_image("the process's pool", process_pool_ends - 8, VARIABLES);
+    foretell((struct place){ "the device page", APIC + 0x20, APIC_FRAME + 0x20, VARIABLES });
     for (unsigned n = 0; n < GIBS; n++)
-        foretell(own, (struct place){ "memory for buffers", DIRECT + gib(n) + GIB1 - 8, gib(n) + GIB1 - 8, VARIABLES });
-    foretell(own, (struct place){ "the page below the stack", (uint64_t)first_guard, ABSENT, 0 });
-    foretell(own, (struct place){ "its own pool", (uint64_t)own_pool, ABSENT, 0 });
-    foretell(own, (struct place){ "what the boot tables had", 0x100000, ABSENT, 0 });
-    foretell(own, (struct place){ "before the memory for buffers", DIRECT, ABSENT, 0 });
+        foretell((struct place){ "memory for buffers", DIRECT + gib(n) + GIB1 - 8, gib(n) + GIB1 - 8, VARIABLES });
+    foretell((struct place){ "the page below the stack", (uint64_t)first_guard, ABSENT, 0 });
+    foretell((struct place){ "its own pool", (uint64_t)own_pool, ABSENT, 0 });
+    foretell((struct place){ "what the boot tables had", 0x100000, ABSENT, 0 });
+    foretell((struct place){ "before the memory for buffers", DIRECT, ABSENT, 0 });
 }
 
 /* A write puts back what was read, and so does no harm. */
@@ -96,8 +96,8 @@ static void try_all(void) {
 }
 
 void live_in_own_tables(void) {
-    struct space own = make_own_space();
-    foretell_all(&own);
+    make_own_space();
+    foretell_all();
     load_cr4(cr4() | guards());
     load_cr3(own.root);
     check(cr3() == own.root, "own tables: CR3 is %x, not %x", cr3(), own.root);
@@ -105,6 +105,24 @@ void live_in_own_tables(void) {
         APIC, (uint64_t)GIBS, DIRECT);
     try_all();
     end_part("  %u accesses, as look-up had said in the boot tables", (uint64_t)tried);
+}
+
+static void check_marks(const char *name, uint64_t va, uint64_t marks) {
+    uint64_t word = leaf_word(&own, plain(va));
+    check((word & (ACCESSED | DIRTY)) == marks, "own tables: %s at %x: the word is %x", name, va, word);
+}
+
+void test_own_marks(void) {
+    load_cr3((uint64_t)boot_root);
+    check_marks("code", (uint64_t)text_word, ACCESSED);
+    check_marks("read-only data", (uint64_t)rodata_word, ACCESSED);
+    check_marks("data", (uint64_t)data_word, ACCESSED | DIRTY);
+    check_marks("the stack", (uint64_t)first_stack, ACCESSED | DIRTY);
+    check_marks("the process's pool", (uint64_t)process_pool, ACCESSED | DIRTY);
+    check_marks("the device page", APIC, ACCESSED | DIRTY);
+    for (unsigned n = 0; n < GIBS; n++) check_marks("memory for buffers", DIRECT + gib(n), ACCESSED | DIRTY);
+    load_cr3(own.root);
+    end_part("marks in the kernel's own tables: what it ran and read is accessed, what it wrote is dirty");
 }
 
 void make_process_space(void) {

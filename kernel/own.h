@@ -13,4 +13,7 @@ void live_in_own_tables(void);
 
 void make_process_space(void);
 
+/* Goes back to the boot tables to read the marks in the kernel's own, and returns. */
+void test_own_marks(void);
+
 #endif
