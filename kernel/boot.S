@@ -30,7 +30,7 @@ second_processor_32:
 
 to_long_mode:
         mov %cr4, %eax
-        or $0x220, %eax                 /* PAE; and OSFXSR: the library's code uses the registers of SSE */
+        or $0x20, %eax                  /* PAE; without OSFXSR any use of the registers of SSE faults */
         mov %eax, %cr4
         mov $boot_root, %eax
         mov %eax, %cr3
@@ -39,8 +39,7 @@ to_long_mode:
         or $0x900, %eax
         wrmsr
         mov %cr0, %eax
-        and $~4, %eax                   /* SSE is not emulated */
-        or $0x80010003, %eax            /* paging, write protection also in ring 0, protected mode */
+        or $0x80010001, %eax            /* paging, write protection also in ring 0, protected mode */
         mov %eax, %cr0
         ljmp $0x08, $in_long_mode
 

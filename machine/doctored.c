@@ -1,9 +1,20 @@
 /* The library, doctored: the real operation works on a copy, and what it changed is stored into the window in a way that it may not be.
- * SPLIT: each word by two stores. BACKWARDS: the last word first. HALVES: each word is loaded by two loads. TWICE: and loaded again. The test
- * must find each. */
+ * SPLIT: each word by two stores. BACKWARDS: the last word first. HALVES: each word is loaded by two loads. TWICE: and loaded again. VECTOR,
+ * RED_ZONE: what a kernel's code must not use. The test must find each. */
 #include "tablepath.h"
 
 static uint8_t copy[64 * 4096], was[64 * 4096];
+
+#ifdef VECTOR
+typedef uint64_t pair __attribute__((vector_size(16), aligned(8)));
+#endif
+
+#ifdef RED_ZONE
+__attribute__((noinline)) static size_t put_below(size_t len) {
+    volatile size_t below = len;
+    return below;
+}
+#endif
 
 static void store(uint8_t *mem, size_t at) {
 #ifdef SPLIT
@@ -28,6 +39,12 @@ static void take(const uint8_t *mem, size_t len) {
 }
 
 static void give(uint8_t *mem, size_t len) {
+#ifdef VECTOR
+    *(volatile pair *)copy = *(volatile pair *)was;
+#endif
+#ifdef RED_ZONE
+    len = put_below(len);
+#endif
     for (size_t n = len; n; n -= 8) {
 #ifdef SPLIT
         size_t at = len - n;

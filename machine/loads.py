@@ -1,6 +1,6 @@
 """The loads of a program, told from its instructions: the emulator's own report of loads is not whole on every kind of machine."""
 from capstone import CS_AC_READ, CS_ARCH_X86, CS_MODE_64, Cs
-from capstone.x86 import X86_INS_LEA, X86_INS_NOP, X86_OP_MEM, X86_REG_INVALID, X86_REG_RIP
+from capstone.x86 import X86_INS_LEA, X86_INS_NOP, X86_OP_MEM, X86_OP_REG, X86_REG_INVALID, X86_REG_RIP, X86_REG_RSP
 from unicorn import UC_HOOK_CODE
 from unicorn import x86_const
 
@@ -27,6 +27,16 @@ def loads_of(instruction, decoder):
     return found
 
 
+def unfit(instruction):
+    """Why a kernel could not have the instruction: it uses a vector register, or what lies below the stack pointer."""
+    for operand in instruction.operands:
+        if operand.type == X86_OP_REG and operand.size > 8:
+            return 'uses a vector register'
+        if operand.type == X86_OP_MEM and operand.mem.base == X86_REG_RSP and operand.mem.disp < 0 and instruction.id != X86_INS_LEA:
+            return 'goes below the stack pointer'
+    return None
+
+
 def watch(uc, code, start, seen):
     """Calls seen(address, size) before each load of the code at start; where an instruction can't be told, it is an error."""
     decoder = Cs(CS_ARCH_X86, CS_MODE_64)
@@ -40,6 +50,8 @@ def watch(uc, code, start, seen):
 
     for instruction in decoder.disasm(code, start):
         told = instruction.address + instruction.size - start
+        if unfit(instruction):
+            raise ValueError(f'the instruction at {instruction.address:#x} {unfit(instruction)}')
         places = loads_of(instruction, decoder)
         if places:
             uc.hook_add(UC_HOOK_CODE, at_load, places, instruction.address, instruction.address)

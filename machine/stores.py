@@ -141,7 +141,12 @@ class Night:
 
 def main():
     code = Code(sys.argv[1], sys.argv[2] if len(sys.argv) > 2 else '')
-    code.record_loads()
+    try:
+        code.record_loads()
+    except ValueError as wrong:
+        print(wrong)
+        print('0 passed, 1 failed')
+        return 1
     seed = int(os.environ.get('TABLEPATH_SEED') or random.SystemRandom().randrange(1 << 32))
     operations = int(os.environ.get('TABLEPATH_OPERATIONS') or 4000)
     print(f'seed {seed}: {operations} operations, every load and store watched')
