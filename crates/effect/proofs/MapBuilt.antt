@@ -10,10 +10,12 @@ use lib.Dec.{leb}
 use Rattle.word.specs.Writes.{Write, write, after}
 use Rattle.word.proofs.Writes.{Every, every-one, every-append, every-map}
 use Rattle.entry.specs.Entry.{sizeOf, says}
+use Rattle.entry.specs.Clean.{Clean}
 use Rattle.entry.specs.Words.{largeFlag, pageWord}
 use Rattle.entry.specs.declared.Rights.{Rights}
 use Rattle.entry.specs.declared.Entry.the-variants.{Nothing, Page}
-use Rattle.entry.proofs.Written.{flag-lt, page-word-says}
+use Rattle.entry.proofs.Clean.{page-clean}
+use Rattle.entry.proofs.Written.{Fits, flag-lt, page-word-says}
 use Rattle.walk.specs.Walk.{indexOf, baseOf}
 use Rattle.walk.specs.declared.Found.{Found}
 use Rattle.walk.specs.declared.Found.the-variants as found
@@ -134,12 +136,14 @@ module _ {h : ℕ → Bool} {sp : Space} {m : ℕ → ℕ} {role : ℕ → Role}
   frame-small : q .frame < 2 ^ 52
   frame-small = omega (arith, k .fitted .frame-fits, size-small (p .target) (q .size) (k .fitted .level) (k .fitted .size-is) .0)
 
+  frame-fits : Fits (p .target) (q .frame)
+  frame-fits = let f = k .fitted in record { level = f .level; aligned = ap (λ x. q .frame % x) (sym (f .size-is)) ∙ f .frame-aligned; below = frame-small }
+
   word-says : says (p .target) (p .word) ≡ Page (q .frame) (q .rights)
-  word-says =
-      let f = k .fitted in
-      rw (k .word-is)
-      (page-word-says (p .target) (q .frame) (q .rights)
-      (record { level = f .level; aligned = ap (λ x. q .frame % x) (sym (f .size-is)) ∙ f .frame-aligned; below = frame-small }))
+  word-says = rw (k .word-is) (page-word-says (p .target) (q .frame) (q .rights) frame-fits)
+
+  word-clean : Clean (p .target) (p .word)
+  word-clean = subst (Clean (p .target)) (sym (k .word-is)) (page-clean (p .target) (q .frame) (q .rights) frame-fits)
 
   -- what the range has then, in the numbers that were asked
   result : found.Page (baseOf (p .target) (p .base)) (sizeOf (p .target)) (q .frame) (q .rights) ≡ found.Page (q .base) (q .size) (q .frame) (q .rights)
@@ -152,7 +156,7 @@ module _ {h : ℕ → Bool} {sp : Space} {m : ℕ → ℕ} {role : ℕ → Role}
   built : Changed (settingOf h sp) m role (q .base) (p .target) (found.Page (q .base) (q .size) (q .frame) (q .rights)) (buildOf p) (after m (buildOf p)) (grown3 .roles)
   built =
       recast (k .base-is) there (ap (λ x. found.Page (baseOf x (p .base)) (sizeOf x) (q .frame) (q .rights)) there ∙ result) build-is
-      (map-done (p .word) (q .frame) (q .rights) (grown3 .down) (grown3 .nothing) (rw there word-says) (rw there (rw (k .fitted .size-is) at (k .apart))))
+      (map-done (p .word) (q .frame) (q .rights) (grown3 .down) (grown3 .nothing) (rw there word-says) (rw there (rw (k .fitted .size-is) at (k .apart))) (subst (λ x. Clean x (p .word)) (sym there) word-clean))
 
   places : Every (Place h sp) (buildOf p)
   places =

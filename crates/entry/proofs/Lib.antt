@@ -4,3 +4,4 @@ pub mod Written
 pub mod Marks
 pub mod OtherRights
 pub mod Parts
+pub mod Clean

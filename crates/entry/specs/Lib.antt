@@ -2,3 +2,4 @@ pub mod Entry
 pub mod Words
 pub mod Marks
 pub mod Kept
+pub mod Clean

@@ -2,13 +2,15 @@
 use Prim.Native.Nat.{ℕ, zero, suc, _+_, _*_, _/_, _%_, _<_, _≤_}
 use mathlib.Core.List.{List, [], _∷_}
 use mathlib.Core.Logic.{_⊎_, inl, inr, _≢_}
-use mathlib.Core.Path.{_≡_, refl, sym, ap, _∙_, fun-ext}
+use mathlib.Core.Path.{_≡_, refl, sym, ap, _∙_, subst, fun-ext}
 use native.Mathlib.Decide.{ℕ-discrete}
 use native.Mathlib.Omega.{arith}
 use Rattle.word.specs.Memory.{set}
 use Rattle.word.proofs.Set.{set-at, set-other}
 use Rattle.entry.specs.Entry.{says}
+use Rattle.entry.specs.Clean.{Clean}
 use Rattle.entry.specs.Marks.{Marked}
+use Rattle.entry.proofs.Clean.{marked-clean}
 use Rattle.entry.proofs.Marks.{marks-say-nothing}
 use Rattle.world.specs.Events.{Event, write, mark, happen, after}
 use Rattle.world.specs.Marks.{writes, Fair}
@@ -18,20 +20,22 @@ use Rattle.pool.specs.Book.{bookPages}
 use Rattle.pool.specs.declared.Space.{Space}
 use Rattle.tablepath.specs.Calls.{Marks}
 
--- n' is n with marks: it says the same everywhere, a 0 is a 0, and the book's words are the same
+-- n' is n with marks: it says the same everywhere, a 0 is a 0, what is as we write it is so, and the book's words are the same
 pub record MarkedFrom (sp : Space) (n n' : ℕ → ℕ) : Type 0 where
   pub same : (x l : ℕ) → says l (n' x) ≡ says l (n x)
   pub zeros : (x : ℕ) → n x ≡ 0 → n' x ≡ 0
+  pub clean : (x l : ℕ) → Clean l (n x) → Clean l (n' x)
   pub books : (x : ℕ) → sp .first ≤ x / 512 → x / 512 < sp .first + bookPages (sp .pages) → n' x ≡ n x
 
 marked-self : (sp : Space) (m : ℕ → ℕ) → MarkedFrom sp m m
-marked-self sp m = record { same = λ x l. refl; zeros = λ x e. e; books = λ x u v. refl }
+marked-self sp m = record { same = λ x l. refl; zeros = λ x e. e; clean = λ x l c. c; books = λ x u v. refl }
 
 -- the same write to both
 marked-write : (sp : Space) (n n' : ℕ → ℕ) (a v : ℕ) → MarkedFrom sp n n' → MarkedFrom sp (set n a v) (set n' a v)
 marked-write sp n n' a v k = record {
   same = λ x l. same x l (ℕ-discrete a x);
   zeros = λ x e. zeros x e (ℕ-discrete a x);
+  clean = λ x l c. clean x l c (ℕ-discrete a x);
   books = λ x u w. books x u w (ℕ-discrete a x);
 }
   where
@@ -43,6 +47,10 @@ marked-write sp n n' a v k = record {
     zeros x e (yes p) = set-at n' a v x p ∙ sym (set-at n a v x p) ∙ e
     zeros x e (no d) = set-other n' a v x d ∙ k .zeros x (sym (set-other n a v x d) ∙ e)
 
+    clean : (x l : ℕ) → Clean l (set n a v x) → Dec (a ≡ x) → Clean l (set n' a v x)
+    clean x l c (yes e) = subst (Clean l) (set-at n a v x e ∙ sym (set-at n' a v x e)) c
+    clean x l c (no d) = subst (Clean l) (sym (set-other n' a v x d)) (k .clean x l (subst (Clean l) (set-other n a v x d) c))
+
     books : (x : ℕ) → sp .first ≤ x / 512 → x / 512 < sp .first + bookPages (sp .pages) → Dec (a ≡ x) → set n' a v x ≡ set n a v x
     books x u w (yes p) = set-at n' a v x p ∙ sym (set-at n a v x p)
     books x u w (no d) = set-other n' a v x d ∙ k .books x u w ∙ sym (set-other n a v x d)
@@ -53,6 +61,7 @@ marked-mark : (sp : Space) (n n' : ℕ → ℕ) (a v : ℕ) → Marked v (n' a) 
 marked-mark sp n n' a v o p f k = record {
   same = λ x l. same x l (ℕ-discrete a x);
   zeros = λ x e. zeros x e (ℕ-discrete a x);
+  clean = λ x l c. clean x l c (ℕ-discrete a x);
   books = λ x u w. books x u w f (ℕ-discrete a x);
 }
   where
@@ -63,6 +72,10 @@ marked-mark sp n n' a v o p f k = record {
     zeros : (x : ℕ) → n x ≡ 0 → Dec (a ≡ x) → set n' a v x ≡ 0
     zeros x e (yes q) = let z : n' a ≡ 0 = ap n' q ∙ k .zeros x e in absurd (omega (arith, p))
     zeros x e (no d) = set-other n' a v x d ∙ k .zeros x e
+
+    clean : (x l : ℕ) → Clean l (n x) → Dec (a ≡ x) → Clean l (set n' a v x)
+    clean x l c (yes e) = subst (Clean l) (sym (set-at n' a v x e)) (marked-clean l v (n' a) o (subst (λ y. Clean l (n' y)) (sym e) (k .clean x l c)))
+    clean x l c (no d) = subst (Clean l) (sym (set-other n' a v x d)) (k .clean x l c)
 
     books : (x : ℕ) → sp .first ≤ x / 512 → x / 512 < sp .first + bookPages (sp .pages) → (a / 512 < sp .first) ⊎ (sp .first + bookPages (sp .pages) ≤ a / 512)
         → Dec (a ≡ x) → set n' a v x ≡ n x

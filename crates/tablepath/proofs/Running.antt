@@ -39,7 +39,7 @@ marked-whole h sp m m' role k w = record {
 }
   where
     alike : Alike role m m'
-    alike q l i live u = (λ j. k .same (at q i) j, k .zeros (at q i))
+    alike q l i live u = (λ j. k .same (at q i) j, k .zeros (at q i), k .clean (at q i))
 
 -- what a run shows
 pub record Ran (h : ℕ → Bool) (sp : Space) (n : ℕ) (m : ℕ → ℕ) (es : List (Event ℕ)) : Type 0 where

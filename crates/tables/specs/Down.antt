@@ -11,6 +11,7 @@ use Rattle.word.specs.Writes.{Write, write, after, zeros}
 use Rattle.word.proofs.Writes.{Every}
 use Rattle.word.proofs.Set.{set-at, set-same, set-other}
 use Rattle.entry.specs.Entry.{sizeOf, says, everything}
+use Rattle.entry.specs.Clean.{Clean}
 use Rattle.entry.specs.declared.Rights.{Rights}
 use Rattle.entry.specs.declared.Entry.the-variants.{Nothing, Page, Table}
 use Rattle.walk.specs.Walk.{indexOf, baseOf}
@@ -132,12 +133,12 @@ module _ {σ : Setting} {m₀ : ℕ → ℕ} {role₀ : ℕ → Role} {va : ℕ}
 
   -- MAP, DONE: the page's entry is written where nothing is, last.
   pub map-done : {l q : ℕ} (v f : ℕ) (g : Rights) → Down σ m₀ role₀ va xs m role (suc l) q → entryAt m l q (indexOf l va) ≡ Nothing → says l v ≡ Page f g
-      → Apart σ f (sizeOf l)
+      → Apart σ f (sizeOf l) → Clean l v
       → Changed σ m₀ role₀ va l (found.Page (baseOf l va) (sizeOf l) f g) (xs ++ (write q (indexOf l va) v ∷ [])) (set m (at q (indexOf l va)) v) role
-  map-done {l} {q} v f g d was is a =
+  map-done {l} {q} v f g d was is a k =
       let i = indexOf l va in
       let s = comes-spot (d .built) (d .comes) in
-      let t = write-page (d .built) (d .comes) v f g was is a in
+      let t = write-page (d .built) (d .comes) v f g was is a k in
       record {
         now = after-write σ m₀ m xs (d .now) q i v;
         turns = record { built = t .built; in-range = t .in-range; elsewhere = λ vb far. t .elsewhere vb far ∙ d .same vb };
@@ -165,12 +166,12 @@ made-zero m t i v p u d j w = set-other (after m (zeros p 512)) (at t i) v (at p
 
 -- PROTECT, DONE: the same page with other rights, in one write.
 pub protect-done : {σ : Setting} {m : ℕ → ℕ} {role : ℕ → Role} {va l q : ℕ} (v f : ℕ) (g g' : Rights) → Sound σ m role → Comes σ m va (suc l) q
-    → entryAt m l q (indexOf l va) ≡ Page f g → says l v ≡ Page f g'
+    → entryAt m l q (indexOf l va) ≡ Page f g → says l v ≡ Page f g' → Clean l v
     → Changed σ m role va l (found.Page (baseOf l va) (sizeOf l) f g') (write q (indexOf l va) v ∷ []) (set m (at q (indexOf l va)) v) role
 unfolding after
-protect-done {σ} {m} {role} {va} {l} {q} v f g g' k c was is =
+protect-done {σ} {m} {role} {va} {l} {q} v f g g' k c was is w =
     let s = comes-spot (k .built) c in
-    let t = change-rights (k .built) c v f g g' was is in
+    let t = change-rights (k .built) c v f g g' was is w in
     record {
       now = refl;
       turns = t;

@@ -9,7 +9,9 @@ use Rattle.word.specs.Memory.{set, at}
 use Rattle.word.proofs.Writes.{page-of}
 use Rattle.word.proofs.Set.{set-at, set-other}
 use Rattle.entry.specs.Entry.{says}
+use Rattle.entry.specs.Clean.{Clean}
 use Rattle.entry.specs.Marks.{Marked}
+use Rattle.entry.proofs.Clean.{marked-clean}
 use Rattle.entry.proofs.Marks.{marks-say-nothing}
 use Rattle.walk.specs.Walk.{indexOf, start, foundOf, walk}
 use Rattle.walk.proofs.Digits.{index-lt}
@@ -19,9 +21,9 @@ use Rattle.tables.specs.Way.{Comes, begin, onto, comes-left}
 use Rattle.tables.specs.Meaning.{meaning}
 use Rattle.tables.specs.Reach.{walk-reads-tables}
 
--- what the words of all tables say is the same, at every level, and a 0 stays 0
+-- what the words of all tables say is the same, at every level; a 0 stays 0, and what is as we write it stays so
 abbrev pub Alike : (ℕ → Role) → (m m' : ℕ → ℕ) → Type 0
-Alike role m m' = (q l i : ℕ) → Live role q l → i < 512 → Same m m' (at q i) × (m (at q i) ≡ 0 → m' (at q i) ≡ 0)
+Alike role m m' = (q l i : ℕ) → Live role q l → i < 512 → Same m m' (at q i) × (m (at q i) ≡ 0 → m' (at q i) ≡ 0) × ((k : ℕ) → Clean k (m (at q i)) → Clean k (m' (at q i)))
 
 module _ {σ : Setting} {m : ℕ → ℕ} {role : ℕ → Role} (b : Built σ m role) (m' : ℕ → ℕ) (h : Alike role m m') where
   pub alike-built : Built σ m' role
@@ -35,6 +37,7 @@ module _ {σ : Setting} {m : ℕ → ℕ} {role : ℕ → Role} (b : Built σ m 
     low = b .low;
     zeros = λ q l i n u e. h q l i n u .1 (b .zeros q l i n u (sym (h q l i n u .0 l) ∙ e));
     apart = λ q l i f g n u e. b .apart q l i f g n u (sym (h q l i n u .0 l) ∙ e);
+    clean = λ q l i n u. h q l i n u .2 l (b .clean q l i n u);
   }
 
   pub alike-means : (va : ℕ) → meaning σ m' va ≡ meaning σ m va
@@ -59,15 +62,19 @@ module _ (m : ℕ → ℕ) (role : ℕ → Role) (a v : ℕ) where
   unseen-word n q l i h u = set-other m a v (at q i) (λ e. omega (arith, n, h, ap (λ x. left (role x)) (ap (λ x. x / 512) e ∙ page-of q i u)))
 
   pub unseen-alike : left (role (a / 512)) ≡ 0 → Alike role m (set m a v)
-  unseen-alike n q l i h u = let w = unseen-word n q l i h u in (λ k. ap (says k) w, λ z. w ∙ z)
+  unseen-alike n q l i h u = let w = unseen-word n q l i h u in (λ k. ap (says k) w, λ z. w ∙ z, λ k c. subst (Clean k) (sym w) c)
 
   -- THE MACHINE'S MARKS, accessed and dirty, which it sets in words that are not 0.
   pub marked-alike : Marked v (m a) → m a ≢ 0 → Alike role m (set m a v)
   marked-alike k n q l i h u = go (ℕ-discrete a (at q i))
     where
-      go : Dec (a ≡ at q i) → Same m (set m a v) (at q i) × (m (at q i) ≡ 0 → set m a v (at q i) ≡ 0)
-      go (yes e) = (λ j. ap (says j) (set-at m a v (at q i) e) ∙ marks-say-nothing j v (m a) k ∙ ap (λ x. says j (m x)) e, λ z. absurd (n (ap m e ∙ z)))
-      go (no d) = let w = set-other m a v (at q i) d in (λ j. ap (says j) w, λ z. w ∙ z)
+      go : Dec (a ≡ at q i) → Same m (set m a v) (at q i) × (m (at q i) ≡ 0 → set m a v (at q i) ≡ 0) × ((j : ℕ) → Clean j (m (at q i)) → Clean j (set m a v (at q i)))
+      go (yes e) = (
+        λ j. ap (says j) (set-at m a v (at q i) e) ∙ marks-say-nothing j v (m a) k ∙ ap (λ x. says j (m x)) e,
+        λ z. absurd (n (ap m e ∙ z)),
+        λ j c. subst (Clean j) (sym (set-at m a v (at q i) e)) (marked-clean j v (m a) k (subst (λ x. Clean j (m x)) (sym e) c)),
+      )
+      go (no d) = let w = set-other m a v (at q i) d in (λ j. ap (says j) w, λ z. w ∙ z, λ j c. subst (Clean j) (sym w) c)
 
 -- Other roles ------------------------------------------------------------------------------------------------------------------
 
@@ -121,6 +128,7 @@ module _ (role role' : ℕ → Role) (h : Shifted role role') where
     low = λ p l q i e. b .low p l q i (shift-from p (table l q i) (λ x. x) e);
     zeros = λ q l i n u e. b .zeros q l i (sym (shift-left q) ∙ n) u e;
     apart = λ q l i f g n u e. b .apart q l i f g (sym (shift-left q) ∙ n) u e;
+    clean = λ q l i n u. b .clean q l i (sym (shift-left q) ∙ n) u;
   }
 
   pub shift-sound : {σ : Setting} {m : ℕ → ℕ} → Sound σ m role → Sound σ m role'

@@ -1,11 +1,14 @@
 -- OUR INVARIANT GIVES THEIRS: every clause of inv_at and no_empty_directories that is over the words.
-use Prim.Native.Nat.{ℕ, zero, suc, _*_, _%_, _/_, _<_}
-use mathlib.Core.Bool.{Bool}
+use Prim.Native.Nat.{ℕ, zero, suc, _*_, _%_, _/_, _^_, _<_}
+use mathlib.Core.Bool.{Bool, false}
 use mathlib.Core.Logic.{_≢_}
 use mathlib.Core.Path.{_≡_, refl, sym, ap, _∙_, subst}
+use native.Mathlib.Nat.{mul-mod-left}
 use native.Mathlib.Omega.{arith}
 use Rattle.word.specs.Memory.{at}
-use Rattle.entry.specs.Entry.{sizeOf, everything}
+use Rattle.entry.specs.Entry.{sizeOf, bit, frameOf, says, everything}
+use Rattle.entry.specs.Marks.{Marked}
+use Rattle.entry.specs.Words.{pageWord}
 use Rattle.entry.specs.declared.Rights.{Rights}
 use Rattle.entry.specs.declared.Entry.the-variants.{Page, Table}
 use Rattle.entry.proofs.Fields.{last-no-table}
@@ -15,7 +18,33 @@ use Rattle.pool.specs.Booked.{settingOf}
 use Rattle.pool.specs.declared.Space.{Space}
 use Rattle.effect.specs.Whole.{Whole}
 use Rattle.verus.specs.Trees.{InvAt, Inv}
-use Rattle.entry.proofs.Parts.{page-large, table-seven}
+use Rattle.verus.proofs.Entries.{new-page-entry}
+use Rattle.entry.proofs.Levels.{bit-off, frame-lt}
+use Rattle.entry.proofs.Parts.{bit-zero, page-large, table-seven, page-parts}
+use Rattle.entry.proofs.Written.{Fits}
+
+-- the frame that a word says fits its level
+said-fits : (l w f : ℕ) (g : Rights) → l ≢ 0 → says l w ≡ Page f g → Fits l f
+said-fits l w f g z e =
+    let k = page-large l w f g z e in
+    let is : f ≡ frameOf l w = page-parts l w f g e .0 in
+    record {
+      level = k .level;
+      aligned = ap (λ x. x % sizeOf l) is ∙ (unfold frameOf in mul-mod-left _ (sizeOf l));
+      below = rw is (frame-lt w l (omega (arith, k .level)));
+    }
+
+-- bit 12 of a large page's entry is 0, since it is in the word that we write
+pat-zero : (l w f : ℕ) (g : Rights) → l ≢ 0 → says l w ≡ Page f g → Marked w (pageWord l f g) → bit 12 w ≡ false
+pat-zero l w f g z e k =
+    let zero-there : pageWord l f g / 4096 % 2 ≡ 0 = bit-zero 12 (pageWord l f g) (new-page-entry l f g (said-fits l w f g z e) .hp-pat z) in
+    bit-off 12 w (by-high w (pageWord l f g) (k .high) zero-there)
+  where
+    by-high : (v x : ℕ) → v / 128 ≡ x / 128 → x / 4096 % 2 ≡ 0 → v / 2 ^ 12 % 2 ≡ 0
+    by-high v x h o =
+        let a : v / 4096 ≡ v / 128 / 32 = omega arith in
+        let c : x / 4096 ≡ x / 128 / 32 = omega arith in
+        ap (λ y. y % 2) (a ∙ ap (λ y. y / 32) h ∙ sym c) ∙ o
 
 module _ {σ : Setting} {m : ℕ → ℕ} {role : ℕ → Role} (s : Sound σ m role) where
   b : Built σ m role
@@ -49,6 +78,8 @@ module _ {σ : Setting} {m : ℕ → ℕ} {role : ℕ → Role} (s : Sound σ m 
     not-itself = λ i t g u e k. let n = named l q i t g v u e in omega (arith, v, ap left (n .2), ap (λ x. left (role x)) k);
     reserved = λ i f g u e z. page-large l _ f g z e .padding;
     large = λ i f g u e z. page-large l _ f g z e .seven;
+    hp-pat = λ i f g u e z. pat-zero l _ f g z e (b .clean q l i v u f g e);
+    exact = λ i f g u e. b .clean q l i v u f g e;
     directories = λ i t g u e. table-seven l _ t g e;
     nonempty = λ i t g u e k z. s .filled t k q i (named l q i t g v u e .2 ∙ ap (λ x. table x q i) z);
   }

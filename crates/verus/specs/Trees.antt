@@ -1,10 +1,13 @@
 -- The source's meaning by the tree (interp_at, interp_to_l0 of impl_u/l2_impl.rs, over impl_u/l1.rs), and its invariant (inv_at and what it
 -- calls, no_empty_directories). Its ghost tree PTDir is our roles.
 use Prim.Native.Nat.{ℕ, suc, _+_, _*_, _/_, _%_, _≤_, _<_}
+use mathlib.Core.Bool.{false}
 use mathlib.Core.Logic.{_≢_}
 use mathlib.Core.Path.{_≡_}
 use Rattle.word.specs.Memory.{at}
-use Rattle.entry.specs.Entry.{sizeOf, tableOf, everything}
+use Rattle.entry.specs.Entry.{sizeOf, bit, tableOf, everything}
+use Rattle.entry.specs.Marks.{Marked}
+use Rattle.entry.specs.Words.{pageWord}
 use Rattle.entry.specs.declared.Rights.{Rights}
 use Rattle.entry.specs.declared.Entry.the-variants.{Nothing, Page, Table}
 use Rattle.tables.specs.Roles.{Setting, Role, Live, entryAt, Home, Holds}
@@ -21,7 +24,8 @@ pub data InTree (m : ℕ → ℕ) : ℕ → ℕ → ℕ → ℕ → PTE → Type
 -- zeroed: invalid_entries_are_zeroed. flags: directories_have_flags. obeys: directories_obey_invariant_at, ghost_pt_matches_structure. once,
 -- not-itself: the used regions of two entries are disjoint, and the table is in none of them. regions: they are allocated pages.
 -- reserved, directories: entry_mb0_bits_are_zero, of large pages and of directories (bit 7 at layer 0). large: pages_have_bit7, above the last
--- level. nonempty: no_empty_directories.
+-- level. hp-pat: hp_pat_is_zero; exact: and no other bit is set that we did not write, which the source leaves open. nonempty:
+-- no_empty_directories.
 pub record InvAt (σ : Setting) (m : ℕ → ℕ) (role : ℕ → Role) (l q : ℕ) : Type 0 where
   pub aligned : 4096 * q % 4096 ≡ 0
   pub layer-in-range : l < 4
@@ -34,6 +38,8 @@ pub record InvAt (σ : Setting) (m : ℕ → ℕ) (role : ℕ → Role) (l q : �
   pub not-itself : (i t : ℕ) (g : Rights) → i < 512 → entryAt m l q i ≡ Table t g → t ≢ q
   pub reserved : (i f : ℕ) (g : Rights) → i < 512 → entryAt m l q i ≡ Page f g → l ≢ 0 → m (at q i) / 8192 % (sizeOf l / 8192) ≡ 0
   pub large : (i f : ℕ) (g : Rights) → i < 512 → entryAt m l q i ≡ Page f g → l ≢ 0 → m (at q i) / 128 % 2 ≡ 1
+  pub hp-pat : (i f : ℕ) (g : Rights) → i < 512 → entryAt m l q i ≡ Page f g → l ≢ 0 → bit 12 (m (at q i)) ≡ false
+  pub exact : (i f : ℕ) (g : Rights) → i < 512 → entryAt m l q i ≡ Page f g → Marked (m (at q i)) (pageWord l f g)
   pub directories : (i t : ℕ) (g : Rights) → i < 512 → entryAt m l q i ≡ Table t g → m (at q i) / 128 % 2 ≡ 0
   pub nonempty : (i t : ℕ) (g : Rights) → i < 512 → entryAt m l q i ≡ Table t g → (k : ℕ) → l ≡ suc k → Holds m k t
 
