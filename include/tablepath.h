@@ -39,10 +39,10 @@ enum tp_reason {
     TP_STRAY = 10,          /* the way leads to a table that is not of the pool */
     TP_BAD_LIST = 11,       /* the book lists as free what it can't */
     /* a window, pool or root that makes no sense */
-    TP_ORIGIN_UNALIGNED = 12,
-    TP_LENGTH_UNALIGNED = 13,
-    TP_POOL_UNALIGNED = 14,
-    TP_ROOT_UNALIGNED = 15,
+    TP_ORIGIN_UNALIGNED = 12, /* the origin is no multiple of 4096 */
+    TP_LENGTH_UNALIGNED = 13, /* the window's length is no multiple of 4096 */
+    TP_POOL_UNALIGNED = 14, /* the pool's address is no multiple of 4096 */
+    TP_ROOT_UNALIGNED = 15, /* the root's address is no multiple of 4096 */
     TP_POOL_LARGE = 16,     /* more pages than a book can list */
     TP_POOL_SMALL = 17,     /* no room for the book and a root */
     TP_POOL_OUTSIDE = 18,   /* the pool does not lie in the window */
