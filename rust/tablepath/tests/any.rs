@@ -22,9 +22,26 @@ fn no_bytes_at_all() {
 }
 
 #[test]
+fn pools_that_are_not_made() {
+    let mut bytes = vec![0xa5; 8 * 4096];
+    let before = bytes.clone();
+    let mut create = |len: usize, origin, pool, pages| Space::create(&mut bytes[..len], origin, pool, pages);
+    assert_eq!(create(4096, 1, 0, 1), Err(Reason::OriginUnaligned));
+    assert_eq!(create(4097, 0, 0, 1), Err(Reason::LengthUnaligned));
+    assert_eq!(create(4096, 0, 1, 1), Err(Reason::PoolUnaligned));
+    assert_eq!(create(4096, 0, 0, u64::MAX), Err(Reason::PoolLarge));
+    assert_eq!(create(4096, 0, 0, 1), Err(Reason::PoolSmall));
+    assert_eq!(create(4096, 0, 0, 8), Err(Reason::PoolOutside));
+    assert_eq!(bytes, before);
+}
+
+#[test]
 fn each_reason_that_sound_bytes_can_give() {
     let mut pool = made();
-    assert_eq!(SPACE.map(&mut pool, 0x4000_0000, 0, Size::Mib2, Rights::USER).map(|mapped| mapped.tables), Ok(2));
+    assert_eq!(
+        SPACE.map(&mut pool, 0x4000_0000, 0x800_0000, Size::Mib2, Rights::USER).map(|mapped| mapped.tables),
+        Ok(2)
+    );
     let before = pool.clone();
     let mut map = |space: Space, base, frame, size| space.map(&mut pool, base, frame, size, Rights::NONE).unwrap_err();
     let refused = [
@@ -36,7 +53,6 @@ fn each_reason_that_sound_bytes_can_give() {
         (map(SPACE, 0x4000_1000, 0, Size::Kib4), Reason::Overlap),
         (map(Space { pool: 0x10_0001, ..SPACE }, 0, 0, Size::Kib4), Reason::PoolUnaligned),
         (map(Space { root: 0x10_1001, ..SPACE }, 0, 0, Size::Kib4), Reason::RootUnaligned),
-        (map(Space { origin: 0x10_0001, ..SPACE }, 0, 0, Size::Kib4), Reason::OriginUnaligned),
         (map(Space { pages: 9, ..SPACE }, 0, 0, Size::Kib4), Reason::PoolOutside),
         (map(Space { pages: 7, ..SPACE }, 0, 0, Size::Kib4), Reason::OtherBook),
         (map(Space { root: SPACE.pool, ..SPACE }, 0, 0, Size::Kib4), Reason::BadRoot),
