@@ -7,6 +7,7 @@
 compile_error!("Tablepath is for processors of 64 bits");
 
 mod answers;
+mod entry;
 pub mod numbers;
 mod reason;
 mod rights;
@@ -14,6 +15,7 @@ mod size;
 mod space;
 
 pub use answers::{Found, Mapped, Page, Protected, Ticket, Unmapped};
+pub use entry::{entry, Entry};
 pub use reason::Reason;
 pub use rights::Rights;
 pub use size::Size;

@@ -87,6 +87,17 @@ answers! {
         /// The rights of the whole way: bit 0 writable, bit 1 user, bit 2 not executable.
         rights,
     }
+    /// What [`entry`] answers.
+    Said {
+        /// 0 nothing, not present; 1 a page; 2 outside; 3 a table; 4 nothing, reserved bits are set.
+        kind,
+        /// Where the page, or the table that it names, lies in physical memory.
+        address,
+        /// Its own rights: bit 0 writable, bit 1 user, bit 2 not executable.
+        rights,
+        /// The machine's marks: bit 0 accessed, bit 1 dirty.
+        marks,
+    }
 }
 
 // Two words come back in registers, by C's convention on each processor and by that of the module alike.
@@ -126,6 +137,7 @@ macro_rules! long {
 long!(tp_unmap(mem: *mut u8, len: usize, origin: u64, pool: u64, pages: u64, root: u64, base: u64) -> Unmapped);
 long!(tp_protect(mem: *mut u8, len: usize, origin: u64, pool: u64, pages: u64, root: u64, base: u64, rights: u64) -> Protected);
 long!(tp_look_up(mem: *const u8, len: usize, origin: u64, root: u64, va: u64) -> LookedUp);
+long!(tp_entry(mem: *const u8, len: usize, origin: u64, table: u64, level: u64, index: u64) -> Said);
 
 // SAFETY, of every call below: pointer and length are those of one slice, which is lent for the call, and the library is proved to
 // end and to read and write inside it alone, for any bytes and any numbers (crates/abi: no function has a `requires`).
@@ -162,4 +174,9 @@ pub fn told(mem: &mut [u8], space: Space, ticket: u64) -> Told {
 /// `tp_look_up`.
 pub fn look_up(mem: &[u8], origin: u64, root: u64, va: u64) -> LookedUp {
     unsafe { tp_look_up(mem.as_ptr(), mem.len(), origin, root, va) }
+}
+
+/// `tp_entry`.
+pub fn entry(mem: &[u8], origin: u64, table: u64, level: u64, index: u64) -> Said {
+    unsafe { tp_entry(mem.as_ptr(), mem.len(), origin, table, level, index) }
 }

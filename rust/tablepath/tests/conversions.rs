@@ -1,7 +1,7 @@
 //! Numbers and what stands for them.
 
-use tablepath::numbers::LookedUp;
-use tablepath::{Found, Page, Reason, Rights, Size, Ticket};
+use tablepath::numbers::{LookedUp, Said};
+use tablepath::{Entry, Found, Page, Reason, Rights, Size, Ticket};
 
 #[test]
 fn sizes() {
@@ -54,4 +54,17 @@ fn what_a_walk_found() {
         assert_eq!((found, found.page()), (Found::Page(page), Some(page)));
     }
     assert_eq!((Found::Nothing.page(), Found::Outside.page()), (None, None));
+}
+
+#[test]
+fn what_an_entry_says() {
+    let bare = |kind| Entry::from(Said { kind, ..Said::default() });
+    assert_eq!([bare(0), bare(2), bare(4)], [Entry::Absent, Entry::Outside, Entry::Damaged]);
+    for marks in 0..4 {
+        let (accessed, dirty) = (marks & 1 == 1, marks & 2 == 2);
+        let said = |kind| Entry::from(Said { kind, address: 0x5000, rights: 5, marks });
+        let rights = Rights::WRITABLE | Rights::NO_EXECUTE;
+        assert_eq!(said(1), Entry::Page { frame: 0x5000, rights, accessed, dirty });
+        assert_eq!(said(3), Entry::Table { address: 0x5000, rights, accessed });
+    }
 }
