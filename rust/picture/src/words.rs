@@ -9,7 +9,7 @@ pub const NAMES: [&str; 4] = ["PT", "PD", "PDPT", "PML4"];
 /// A number of bytes in the largest unit that it is a multiple of.
 pub fn bytes(n: u64) -> String {
     let units = [(40, "TiB"), (30, "GiB"), (20, "MiB"), (10, "KiB")];
-    match units.into_iter().find(|(bits, _)| n > 0 && n % (1 << bits) == 0) {
+    match units.into_iter().find(|(bits, _)| n > 0 && n.trailing_zeros() >= *bits) {
         Some((bits, unit)) => format!("{} {unit}", n >> bits),
         None => format!("{n} bytes"),
     }

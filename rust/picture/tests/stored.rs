@@ -130,12 +130,12 @@ fn tables_that_are_shared() {
 fn long_runs() {
     let mut words = way();
     words.extend((0..512).map(|index| (3, index, 0x1_0000_0000 + index * 4096 + 7)));
-    words.extend((1..100).map(|index| (2, index, index * 0x20_0000 | LARGE | 7)));
+    words.extend((1..100).map(|index| (2, index, (index * 0x20_0000) | LARGE | 7)));
     // The machine has walked through some, one has other rights, and one is damaged.
-    words.extend((100..200).map(|index| (2, index, index * 0x20_0000 | LARGE | 0x27)));
-    words.push((2, 200, 200 * 0x20_0000 | LARGE | 5));
-    words.push((2, 201, 201 * 0x20_0000 | LARGE | 1 << 13 | 7));
-    words.extend((202..512).map(|index| (2, index, index * 0x20_0000 | LARGE | 7)));
+    words.extend((100..200).map(|index| (2, index, (index * 0x20_0000) | LARGE | 0x27)));
+    words.push((2, 200, (200 * 0x20_0000) | LARGE | 5));
+    words.push((2, 201, (201 * 0x20_0000) | LARGE | 1 << 13 | 7));
+    words.extend((202..512).map(|index| (2, index, (index * 0x20_0000) | LARGE | 7)));
     words.extend((1..512).map(|index| (1, index, 0x4000_0000 | LARGE | 7)));
     assert_drawn(4, &words, include_str!("stored/runs.txt"));
 }

@@ -122,6 +122,7 @@ macro_rules! long {
         }
 
         #[cfg(not(target_arch = "x86_64"))]
+        #[allow(clippy::too_many_arguments)]
         unsafe fn $name($($argument: $type),*) -> $answer {
             extern "C" {
                 fn $name(to: *mut $answer, $($argument: $type),*);
