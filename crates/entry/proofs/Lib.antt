@@ -3,3 +3,4 @@ pub mod Fields
 pub mod Written
 pub mod Marks
 pub mod OtherRights
+pub mod Parts

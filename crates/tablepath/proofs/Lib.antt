@@ -9,3 +9,4 @@ pub mod Wholes
 pub mod Reported
 pub mod MapUnmap
 pub mod InPool
+pub mod Witness

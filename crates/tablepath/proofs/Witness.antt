@@ -1,0 +1,144 @@
+-- A WITNESS of what holds between operations, with tables in it: any five pages, made a pool, and a page of 4 KiB mapped at 0. Map makes three
+-- tables of the three free pages; the space is whole, and the address means the page.
+use Prim.Native.Nat.{ℕ, zero, suc, _+_, _*_, _%_, _<_, _≤_}
+use mathlib.Core.Bool.{Bool, true, false, cond, _&&_}
+use mathlib.Core.List.{List, replicate}
+use mathlib.Core.Logic.{_⊎_, inl, inr, _≢_}
+use mathlib.Core.Path.{_≡_, refl, sym, ap, _∙_, subst}
+use native.Mathlib.Decide.{ℕ-discrete}
+use native.Mathlib.Omega.{arith}
+use lib.Dec.{eqb, leb, ltb}
+use lib.ListN.{length}
+use Rattle.word.specs.Memory.{memory, holds}
+use Rattle.word.specs.Writes.{carried, after}
+use Rattle.entry.specs.Entry.{sizeOf, everything}
+use Rattle.entry.specs.declared.Rights.{Rights}
+use Rattle.entry.specs.declared.Entry.the-variants.{Page}
+use Rattle.entry.proofs.Parts.{root-no-page}
+use Rattle.walk.specs.Walk.{indexOf}
+use Rattle.walk.specs.declared.Found.{Found}
+use Rattle.walk.specs.declared.Found.the-variants as found
+use Rattle.tables.specs.Roles.{Setting, Role, foreign, free, aside, book, root, table, left, entryAt}
+use Rattle.tables.specs.Way.{Comes, comes-left}
+use Rattle.tables.specs.Meaning.{meaning, Ends, too-high, at-nothing, at-page, ends}
+use Rattle.pool.specs.Book.{bookPages, bookOf, pageAt, roomOf}
+use Rattle.pool.specs.Booked.{settingOf, newRole, tablesOf, howMany}
+use Rattle.pool.specs.Create.{newSpace, createdOf, createdIn, mayCreate, createWrites}
+use Rattle.pool.specs.declared.Created.the-variants as created
+use Rattle.pool.specs.declared.Space.{Space}
+use Rattle.pool.proofs.Pages.{adds-up}
+use Rattle.plan.specs.Map as map
+use Rattle.plan.specs.declared.Reason.{Reason}
+use Rattle.plan.specs.declared.maps.Asked.{Asked}
+use Rattle.plan.specs.declared.maps.Mapping.{Mapping}
+use Rattle.plan.specs.declared.maps.Placed.the-variants as placed
+use Rattle.effect.specs.Whole.{Whole}
+use Rattle.effect.specs.MapDone.{MapDone}
+use Rattle.effect.specs.MapRefused.{Cause, no-size, base-unaligned, frame-unaligned, base-high, frame-high, frame-in-pool, mapped, no-room}
+use Rattle.effect.proofs.Wholes.{owned}
+use Rattle.effect.proofs.MapDone.{mapped-inside}
+use Rattle.effect.proofs.MapRefused.{map-succeeds}
+use Rattle.tablepath.proofs.Wholes.{WholeBytes, create-whole}
+
+-- a new pool has no role but these
+new-roles : (sp : Space) (p : ℕ) (P : Role → Type 0) → P foreign → P book → P root → P free → P (newRole sp p)
+unfolding newRole
+new-roles sp p P f b r e = go (leb (sp .first) p && ltb p (sp .first + sp .pages)) (ltb p (sp .first + bookPages (sp .pages))) (eqb p (sp .first + bookPages (sp .pages)))
+  where
+    go : (x y z : Bool) → P (cond x (cond y book (cond z root free)) foreign)
+    go false y z = f
+    go true true z = b
+    go true false true = r
+    go true false false = e
+
+left-new : (sp : Space) (p : ℕ) → (left (newRole sp p) ≡ 0) ⊎ (left (newRole sp p) ≡ 4)
+left-new sp p = new-roles sp p (λ r. (left r ≡ 0) ⊎ (left r ≡ 4)) (inl refl) (inl refl) (inr refl) (inl refl)
+
+not-aside : (sp : Space) (p : ℕ) → newRole sp p ≢ aside
+not-aside sp p = new-roles sp p (λ r. r ≢ aside) (λ e. clash cc) (λ e. clash cc) (λ e. clash cc) (λ e. clash cc)
+  where
+    clash : _≡_ {A = ℕ} 0 1 → ⊥
+    clash z = omega arith
+
+-- where there is no table but the root, nothing is mapped, and no page is set aside
+module _ {h : ℕ → Bool} {sp : Space} {m : ℕ → ℕ} (w : Whole h sp m (newRole sp)) where
+  -- a walk comes to the root alone
+  only-root : {va n q : ℕ} → Comes (settingOf h sp) m va (suc n) q → n ≡ 3
+  only-root {n = n} {q} c = go (left-new sp q)
+    where
+      go : (left (newRole sp q) ≡ 0) ⊎ (left (newRole sp q) ≡ 4) → n ≡ 3
+      go (inl e) = absurd (omega (arith, comes-left (w .sound .built) c))
+      go (inr e) = omega (arith, comes-left (w .sound .built) c)
+
+  none-mapped : (va b s f : ℕ) (g : Rights) → meaning (settingOf h sp) m va ≡ found.Page b s f g → ⊥
+  none-mapped va b s f g = go (meaning (settingOf h sp) m va) (ends (w .sound .built) va)
+    where
+      go : (o : Found) → Ends (settingOf h sp) m va o → o ≡ found.Page b s f g → ⊥
+      go o (too-high u) e = let z : _≡_ {A = ℕ} 0 1 = cc in omega arith
+      go o (at-nothing l q c k) e = let z : _≡_ {A = ℕ} 0 1 = cc in omega arith
+      go o (at-page l q a r c k) e = root-no-page _ a r (subst (λ x. entryAt m x q (indexOf x va) ≡ Page a r) (only-root c) k)
+
+  none-aside : bookOf m sp .aside ≡ 0
+  none-aside = go (ℕ-discrete (bookOf m sp .aside) 0)
+    where
+      go : Dec (bookOf m sp .aside ≡ 0) → bookOf m sp .aside ≡ 0
+      go (yes e) = e
+      go (no n) = absurd (not-aside sp _ (w .booked .lists .asides 0 (omega arith)))
+
+-- the size of a last level's page
+last-size : (l : ℕ) → l ≤ 2 → 4096 ≡ sizeOf l → l ≡ 0
+unfolding sizeOf
+last-size zero u e = refl
+last-size (suc zero) u e = absurd (omega arith)
+last-size (suc (suc zero)) u e = absurd (omega arith)
+last-size (suc (suc (suc l))) u e = absurd (omega arith)
+
+-- Five pages at address 0 ----------------------------------------------------------------------------------------------------------------
+
+abbrev pub five : Space
+five = newSpace 0 0 5
+
+-- a page of 4 KiB at address 0, of the frame at 1 MiB
+abbrev pub page : Asked
+page = record { base = 0; frame = 1048576; size = 4096; rights = everything }
+
+module _ (s : List ℕ) (e : length s ≡ 20480) where
+  made : createdOf (length s) (holds s 0) 0 0 5 ≡ created.Root 1
+  unfolding createdOf createdIn mayCreate roomOf holds bookPages
+  made = rw e
+
+  -- the bytes that create leaves, and their memory
+  abbrev pub bytes : List ℕ
+  bytes = carried s 0 (createWrites (length s) (holds s 0) 0 0 5)
+
+  start : WholeBytes bytes five (newRole five)
+  start = create-whole s 0 0 5 1 made .1
+
+  enough : bookOf (memory bytes 0) five .free ≡ 3
+  enough = omega (arith, adds-up (owned start) (start .booked), none-aside start, no-tables)
+    where
+      no-tables : tablesOf five (newRole five) + 1 + bookPages 5 ≡ 2
+      no-tables = unfold newRole bookPages howMany in refl
+
+  fine : (r : Reason) → ¬ Cause (holds bytes 0) five (memory bytes 0) page r
+  fine r (no-size n) = n 0 (omega arith) (unfold sizeOf in refl)
+  fine r (base-unaligned l o n) = n refl
+  fine r (frame-unaligned l o b n) = n refl
+  fine r (base-high l o b c n) = omega arith
+  fine r (frame-high l o b c u n) = omega arith
+  fine r (frame-in-pool l g k) = omega (arith, k .1)
+  fine r (mapped l g c k) = none-mapped start (k .address) (k .start) (k .long) (k .frame) (k .rights) (k .means)
+  fine r (no-room l n g c x k u) = omega (arith, enough, only-root start (k .comes))
+
+  -- map goes on
+  pub goes : (p : Mapping) × (map.decideOf (holds bytes 0) (memory bytes 0) five page ≡ placed.Go p) × MapDone (holds bytes 0) five (memory bytes 0) (newRole five) page p
+  goes = map-succeeds start page .1 fine
+
+  -- THE WITNESS: the space is whole; the three free pages are tables; address 0 means the page
+  pub five-pages : (role : ℕ → Role) × Whole (holds bytes 0) five (after (memory bytes 0) (map.writesOf five (goes .0))) role
+      × ((j : ℕ) → j < 3 → (l : ℕ) × (q : ℕ) × (i : ℕ) × (role (pageAt (memory bytes 0) five j) ≡ table l q i))
+      × (meaning (settingOf (holds bytes 0) five) (after (memory bytes 0) (map.writesOf five (goes .0))) 0 ≡ found.Page 0 4096 1048576 everything)
+  five-pages =
+      let d = goes .2 in
+      let three : goes .0 .fresh .need ≡ 3 = omega (arith, only-root start (d .missing .comes), last-size (goes .0 .target) (d .fitted .level) (d .fitted .size-is)) in
+      (d .role', d .whole, λ j u. d .taken .tables j (omega (arith, three)), mapped-inside start page (goes .0) d 0 (omega arith) (omega arith))

@@ -1,0 +1,174 @@
+-- MAP_FRAME, both outcomes: what the source promises follows from what our map answers and writes.
+use Prim.Native.Nat.{ℕ, zero, suc, _+_, _*_, _%_, _^_, _<_, _≤_}
+use mathlib.Core.Bool.{Bool}
+use mathlib.Core.List.{List, []}
+use mathlib.Core.Logic.{_⊎_, inl, inr, _≢_}
+use mathlib.Core.Option.{none}
+use mathlib.Core.Path.{_≡_, refl, sym, ap, _∙_, subst}
+use native.Mathlib.Decide.{decLe}
+use native.Mathlib.Omega.{arith}
+use Rattle.word.specs.Writes.{Write, after}
+use Rattle.entry.specs.Entry.{sizeOf, tableOf}
+use Rattle.entry.specs.declared.Rights.{Rights}
+use Rattle.walk.specs.declared.Found.{Found}
+use Rattle.walk.specs.declared.Found.the-variants.{Page, Nothing, Outside}
+use Rattle.walk.proofs.Digits.{size-pos}
+use Rattle.tables.specs.Roles.{Role}
+use Rattle.tables.specs.Way.{comes-top}
+use Rattle.tables.specs.Meaning.{meaning, never-outside}
+use Rattle.tables.specs.Overlap.{MappedIn}
+use Rattle.pool.specs.Book.{bookOf}
+use Rattle.pool.specs.Booked.{settingOf}
+use Rattle.pool.specs.declared.Space.{Space}
+use Rattle.pool.proofs.Pages.{root-page}
+use Rattle.plan.specs.Map as map
+use Rattle.plan.specs.declared.Reason.{Reason}
+use Rattle.plan.specs.declared.maps.Asked.{Asked}
+use Rattle.plan.specs.declared.maps.Mapping.{Mapping}
+use Rattle.plan.specs.declared.maps.Placed.{Placed}
+use Rattle.plan.specs.declared.maps.Placed.the-variants as placed
+use Rattle.effect.specs.Whole.{Whole}
+use Rattle.effect.specs.MapDone.{MapDone, Fitted, Misses}
+use Rattle.effect.specs.MapRefused.{Cause, FrameApart, Mapped, no-size, base-unaligned, frame-unaligned, base-high, frame-high, frame-in-pool, mapped, no-room}
+use Rattle.effect.proofs.Wholes.{root-low}
+use Rattle.effect.proofs.MapDone.{decided-done, mapped-inside, mapped-outside}
+use Rattle.effect.proofs.MapRefused.{map-refused, map-succeeds}
+use Rattle.tablepath.specs.Answers.{mapAnswer, mapWrites, mapSaid, mapDid}
+use Rattle.tablepath.specs.declared.Mapped.the-variants as mapped′
+use Rattle.verus.specs.Regions.{PTE, pteOf}
+use Rattle.verus.specs.Mappings.{CandidateOverlaps, AcceptedMapping, EntrySize, inserted, maxBase, maxPhyaddr}
+use Rattle.verus.specs.Walks.{interp}
+use Rattle.verus.specs.Operations.{meant, InvAfter, ChangeMade, MapOk, MapErr}
+use Rattle.verus.proofs.Walks.{atBase, interp-found}
+use Rattle.verus.proofs.Mappings.{In, turned-inserts, overlaps-same}
+use Rattle.verus.proofs.Invariant.{inv-holds}
+
+-- what is asked, as theirs
+abbrev pub asked : Asked → PTE
+asked q = pteOf (q .size) (q .frame) (q .rights)
+
+-- what the tables mean to them, by what an address means to us
+pub meant-found : {h : ℕ → Bool} {sp : Space} {m : ℕ → ℕ} {role : ℕ → Role} → Whole h sp m role → (va : ℕ) → meant sp m va ≡ atBase va (meaning (settingOf h sp) m va)
+meant-found {h} {sp} {m} w va =
+    subst (λ t. interp m t va ≡ atBase va (meaning (settingOf h sp) m va)) (root-page (sp .root) (root-low w))
+    (interp-found h m (4096 * sp .root) (never-outside (w .sound .built)) va)
+
+-- a test of overlap, by our word for it
+pub meant-overlaps : {h : ℕ → Bool} {sp : Space} {m : ℕ → ℕ} {role : ℕ → Role} → Whole h sp m role → (base : ℕ) (p : PTE) → 0 < p .frame .size
+    → (CandidateOverlaps (meant sp m) base p → MappedIn (settingOf h sp) m base (p .frame .size)) × (MappedIn (settingOf h sp) m base (p .frame .size) → CandidateOverlaps (meant sp m) base p)
+meant-overlaps {h} {sp} {m} w base p wide =
+    subst (λ t. (CandidateOverlaps (interp m t) base p → MappedIn (settingOf h sp) m base (p .frame .size)) × (MappedIn (settingOf h sp) m base (p .frame .size) → CandidateOverlaps (interp m t) base p))
+    (root-page (sp .root) (root-low w))
+    (overlaps-same (settingOf h sp) m (never-outside (w .sound .built)) base p wide)
+
+-- an address that is not mapped is no base
+unmapped-none : (va : ℕ) (o : Found) → o ≢ Outside → ((b s f : ℕ) (r : Rights) → o ≡ Page b s f r → ⊥) → atBase va o ≡ none
+unfolding atBase
+unmapped-none va (Page b s f r) x n = absurd (n b s f r refl)
+unmapped-none va Nothing x n = refl
+unmapped-none va Outside x n = absurd (x refl)
+
+-- an aligned frame that begins below the physical limit ends there or below
+frame-ends : (l f : ℕ) → l ≤ 2 → f % sizeOf l ≡ 0 → f ≤ maxPhyaddr → f + sizeOf l ≤ 2 ^ 52
+unfolding sizeOf
+frame-ends zero f u k p = omega arith
+frame-ends (suc zero) f u k p = omega arith
+frame-ends (suc (suc zero)) f u k p = omega arith
+frame-ends (suc (suc (suc l))) f u k p = absurd (omega arith)
+
+-- what accepted_mapping accepts fits
+pub accepted-fits : (q : Asked) (a : AcceptedMapping (q .base) (asked q)) → Fitted (a .size .level) q
+unfolding pteOf
+accepted-fits q a = record {
+  level = a .size .low;
+  size-is = a .size .is;
+  base-aligned = a .vaddr-aligned;
+  frame-aligned = a .frame-aligned;
+  base-fits = a .ends;
+  frame-fits =
+      let k : q .frame % sizeOf (a .size .level) ≡ 0 = subst (λ x. q .frame % x ≡ 0) (a .size .is) (a .frame-aligned) in
+      omega (arith, a .size .is, frame-ends (a .size .level) (q .frame) (a .size .low) k (a .physical));
+}
+
+module _ {h : ℕ → Bool} {sp : Space} {m : ℕ → ℕ} {role : ℕ → Role} (w : Whole h sp m role) (q : Asked) where
+  map-made : (p : Mapping) → map.decideOf h m sp q ≡ placed.Go p → MapOk h sp m (map.writesOf sp p) (q .base) (asked q)
+  unfolding pteOf
+  map-made p e = record {
+    made = record {
+      inv = record { role = d .role'; whole = d .whole; inv = inv-holds (d .whole) };
+      one = d .changed .change;
+      meaning = λ va. meant-found (d .whole) va ∙ inserts va ∙ again va;
+    };
+    apart = λ c. not-mapped (meant-overlaps w (q .base) (asked q) wide .0 c);
+  }
+    where
+      d : MapDone h sp m role q p
+      d = decided-done w q p e
+
+      wide : 0 < q .size
+      wide = omega (arith, d .fitted .size-is, size-pos (p .target))
+
+      apart : FrameApart h sp q
+      apart = go (decLe (q .frame + q .size) (4096 * sp .first)) (decLe (4096 * (sp .first + sp .pages)) (q .frame))
+        where
+          go : Dec (q .frame + q .size ≤ 4096 * sp .first) → Dec (4096 * (sp .first + sp .pages) ≤ q .frame) → FrameApart h sp q
+          go (yes u) v = inl u
+          go (no u) (yes v) = inr v
+          go (no u) (no v) = absurd (map-succeeds w q .0 (p, e, d) _ (frame-in-pool (p .target) (d .fitted) (omega arith, omega arith)))
+
+      not-mapped : Mapped h sp m q → ⊥
+      not-mapped k = map-succeeds w q .0 (p, e, d) _ (mapped (p .target) (d .fitted) apart k)
+
+      inner : (va : ℕ) → In (q .base) (q .size) va → va ≢ q .base → atBase va (meaning (settingOf h sp) m va) ≡ none
+      inner va i n = unmapped-none va _ (never-outside (w .sound .built) va)
+          (λ b s f r k. not-mapped (record { address = va; from = i .0; upto = i .1; start = b; long = s; frame = f; rights = r; means = k }))
+
+      inserts : (va : ℕ) → atBase va (meaning (settingOf h sp) (after m (map.writesOf sp p)) va)
+          ≡ inserted (λ b. atBase b (meaning (settingOf h sp) m b)) (q .base) (asked q) va
+      inserts = turned-inserts (meaning (settingOf h sp) m) (meaning (settingOf h sp) (after m (map.writesOf sp p))) (q .base) (q .size) _ wide
+          (λ va i. mapped-inside w q p d va (i .0) (i .1)) (λ va n. mapped-outside w q p d va (λ x y. n (x, y))) inner (q .frame) (q .rights) refl
+
+      again : (va : ℕ) → inserted (λ b. atBase b (meaning (settingOf h sp) m b)) (q .base) (asked q) va ≡ inserted (meant sp m) (q .base) (asked q) va
+      again va = unfold inserted in rw (meant-found w va)
+
+  -- MAP_FRAME, OK: the candidate overlapped nothing; the one changing write was made; the map has the page, and nothing else has changed.
+  pub map-ok : (k : ℕ) → mapAnswer h m sp q ≡ mapped′.Done k → MapOk h sp m (mapWrites h m sp q) (q .base) (asked q)
+  unfolding mapAnswer mapWrites mapSaid mapDid
+  map-ok k done = go (map.decideOf h m sp q) refl done
+    where
+      go : (x : Placed) → map.decideOf h m sp q ≡ x → mapSaid x ≡ mapped′.Done k → MapOk h sp m (mapDid sp x) (q .base) (asked q)
+      go (placed.Refused r) e f = let z : _≡_ {A = ℕ} 0 1 = cc in absurd (omega arith)
+      go (placed.Go p) e f = map-made p e
+
+  -- MAP_FRAME, ERR, where the source's demands hold (accepted_mapping; table memory and frames lie apart; there always is a page): nothing
+  -- was written, and the candidate overlaps.
+  pub map-err : (y : Reason) → mapAnswer h m sp q ≡ mapped′.Refused y → AcceptedMapping (q .base) (asked q) → FrameApart h sp q → 3 ≤ bookOf m sp .free
+      → MapErr sp m (mapWrites h m sp q) (q .base) (asked q)
+  unfolding mapAnswer mapWrites mapSaid mapDid pteOf
+  map-err y refused a apart enough = go (map.decideOf h m sp q) refl refused
+    where
+      f : Fitted (a .size .level) q
+      f = accepted-fits q a
+
+      wide : 0 < q .size
+      wide = omega (arith, f .size-is, size-pos (a .size .level))
+
+      because : (r : Reason) → Cause h sp m q r → CandidateOverlaps (meant sp m) (q .base) (asked q)
+      because r (no-size n) = absurd (n (a .size .level) (a .size .low) (a .size .is))
+      because r (base-unaligned l o n) = absurd (n (a .vaddr-aligned))
+      because r (frame-unaligned l o b n) = absurd (n (a .frame-aligned))
+      because r (base-high l o b c n) = absurd (omega (arith, a .ends))
+      because r (frame-high l o b c u n) = absurd (omega (arith, f .frame-fits))
+      because r (frame-in-pool l g k) = absurd (meets k apart)
+        where
+          meets : (sp .first * 4096 < q .frame + q .size) × (q .frame < (sp .first + sp .pages) * 4096) → FrameApart h sp q → ⊥
+          meets k (inl u) = omega (arith, k .0)
+          meets k (inr u) = omega (arith, k .1)
+      because r (mapped l g c k) = meant-overlaps w (q .base) (asked q) wide .1 k
+      because r (no-room l n g c x k u) = absurd (omega (arith, comes-top (k .comes)))
+
+      go : (x : Placed) → map.decideOf h m sp q ≡ x → mapSaid x ≡ mapped′.Refused y → MapErr sp m (mapDid sp x) (q .base) (asked q)
+      go (placed.Go p) e g = let z : _≡_ {A = ℕ} 0 1 = cc in absurd (omega arith)
+      go (placed.Refused r) e g =
+          let same : r ≡ y = cc in
+          record { unchanged = refl; overlaps = because y (map-refused w q y .0 (e ∙ ap placed.Refused same)) }

@@ -1,0 +1,6 @@
+pub mod Regions
+pub mod Mappings
+pub mod Walks
+pub mod Trees
+pub mod Operations
+pub mod Entries
