@@ -1,10 +1,11 @@
 # make test   every test, from nothing; the last line counts them
 # make demo   the demonstration
+# make kernel a kernel that lives in tables of the library, in an emulated machine; its last line counts its checks
 # make lib    target/tablepath: the archive for x86-64, the header, the licences
 # make picture  a small example's tables as text, and as target/picture.svg
 # make walks  the compiled library against the manual's walk alone, with what is proved already
 # make clean  removes all that was made
-.PHONY: test demo lib picture walks clean
+.PHONY: test demo lib kernel picture walks clean
 
 test:
 	@tools/test
@@ -14,9 +15,14 @@ demo:
 	@rt check demo tour >target/demo.log 2>&1 || { cat target/demo.log; exit 1; }
 	@tools/run demo
 	@tools/run tour
+	@tools/lib
+	@tools/kernel
 
 lib:
 	@tools/lib
+
+kernel: lib
+	@tools/kernel
 
 picture:
 	@tools/picture

@@ -10,7 +10,8 @@
  * caller's. Processors may walk the tables meanwhile: words of a table are written one by one.
  *
  * Levels: four. Sizes: 4096, 2 MiB, 1 GiB. Virtual addresses: 0 to 2^48 - 1. Physical addresses: 0 to 2^52 - 1.
- * The library calls no function but memset, for pages that are no table yet. */
+ * The library calls no function but memset, for pages that are no table yet. Its code uses general registers alone, and nothing below the
+ * stack pointer: interrupts may come while it runs. */
 #ifndef TABLEPATH_H
 #define TABLEPATH_H
 

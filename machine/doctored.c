@@ -1,8 +1,20 @@
 /* The library, doctored: the real operation works on a copy, and what it changed is stored into the window in a way that it may not be.
- * SPLIT: each word by two stores. BACKWARDS: the last word first. The test of the stores must find either. */
+ * SPLIT: each word by two stores. BACKWARDS: the last word first. HALVES: each word is loaded by two loads. TWICE: and loaded again. VECTOR,
+ * RED_ZONE: what a kernel's code must not use. The test must find each. */
 #include "tablepath.h"
 
-static uint8_t copy[64 * 4096];
+static uint8_t copy[64 * 4096], was[64 * 4096];
+
+#ifdef VECTOR
+typedef uint64_t pair __attribute__((vector_size(16), aligned(8)));
+#endif
+
+#ifdef RED_ZONE
+__attribute__((noinline)) static size_t put_below(size_t len) {
+    volatile size_t below = len;
+    return below;
+}
+#endif
 
 static void store(uint8_t *mem, size_t at) {
 #ifdef SPLIT
@@ -13,18 +25,36 @@ static void store(uint8_t *mem, size_t at) {
 #endif
 }
 
+static uint64_t load(const uint8_t *mem, size_t at) {
+#ifdef HALVES
+    uint64_t low = *(volatile const uint32_t *)(mem + at);
+    return low | (uint64_t) * (volatile const uint32_t *)(mem + at + 4) << 32;
+#else
+    return *(volatile const uint64_t *)(mem + at);
+#endif
+}
+
 static void take(const uint8_t *mem, size_t len) {
-    for (size_t at = 0; at < len; at += 8) *(volatile uint64_t *)(copy + at) = *(volatile const uint64_t *)(mem + at);
+    for (size_t at = 0; at < len; at += 8) *(uint64_t *)(copy + at) = *(uint64_t *)(was + at) = load(mem, at);
 }
 
 static void give(uint8_t *mem, size_t len) {
+#ifdef VECTOR
+    *(volatile pair *)copy = *(volatile pair *)was;
+#endif
+#ifdef RED_ZONE
+    len = put_below(len);
+#endif
     for (size_t n = len; n; n -= 8) {
 #ifdef SPLIT
         size_t at = len - n;
 #else
         size_t at = n - 8;
 #endif
-        if (*(volatile uint64_t *)(mem + at) != *(uint64_t *)(copy + at)) store(mem, at);
+        if (*(uint64_t *)(was + at) != *(uint64_t *)(copy + at)) store(mem, at);
+#ifdef TWICE
+        load(mem, at);
+#endif
     }
 }
 

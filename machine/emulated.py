@@ -1,6 +1,6 @@
-"""The library's own x86-64 code, run instruction by instruction, with every load and store of the window recorded."""
+"""The library's own x86-64 code, run instruction by instruction, with every store of the window recorded, and every load where asked."""
 import struct
-from unicorn import Uc, UC_ARCH_X86, UC_HOOK_MEM_READ, UC_HOOK_MEM_WRITE, UC_MEM_READ, UC_MODE_64
+from unicorn import Uc, UC_ARCH_X86, UC_HOOK_MEM_WRITE, UC_MODE_64
 from unicorn.x86_const import (UC_X86_REG_R8, UC_X86_REG_R9, UC_X86_REG_RAX, UC_X86_REG_RCX, UC_X86_REG_RDI,
                                UC_X86_REG_RDX, UC_X86_REG_RSI, UC_X86_REG_RSP)
 
@@ -17,14 +17,14 @@ class Wrong(Exception):
 
 
 def program(path):
-    """The loaded segments and the symbols of a static program for x86-64."""
+    """The loaded segments (address, content, room, whether it is code) and the symbols of a static program for x86-64."""
     data = open(path, 'rb').read()
     header = struct.unpack_from('<16sHHIQQQIHHHHHH', data)
     segments, symbols = [], {}
     for n in range(header[10]):
-        kind, _, at, address, _, size, room, _ = struct.unpack_from('<IIQQQQQQ', data, header[5] + n * header[9])
+        kind, flags, at, address, _, size, room, _ = struct.unpack_from('<IIQQQQQQ', data, header[5] + n * header[9])
         if kind == 1:
-            segments.append((address, data[at:at + size], room))
+            segments.append((address, data[at:at + size], room, flags & 1))
     sections = [struct.unpack_from('<IIQQQQIIQQ', data, header[6] + n * header[11]) for n in range(header[12])]
     for section in sections:
         if section[1] == 2:
@@ -37,20 +37,26 @@ def program(path):
 
 class Code:
     def __init__(self, path, prefix=''):
-        segments, self.symbols = program(path)
+        self.segments, self.symbols = program(path)
         self.prefix = prefix
         self.uc = Uc(UC_ARCH_X86, UC_MODE_64)
-        low = min(address for address, _, _ in segments) & ~0xfff
-        high = max(address + room for address, _, room in segments)
+        low = min(address for address, _, _, _ in self.segments) & ~0xfff
+        high = max(address + room for address, _, room, _ in self.segments)
         self.uc.mem_map(low, (high - low + 0xfff) & ~0xfff)
-        for address, content, _ in segments:
+        for address, content, _, _ in self.segments:
             self.uc.mem_write(address, content)
         self.own = (low, high) if prefix else None
         self.uc.mem_map(STACK, STACK_SIZE)
         self.uc.mem_map(END, 0x1000)
         self.size = 0
         self.loads, self.stores = [], []
-        self.uc.hook_add(UC_HOOK_MEM_READ | UC_HOOK_MEM_WRITE, self.seen)
+        self.uc.hook_add(UC_HOOK_MEM_WRITE, self.stored)
+
+    def record_loads(self):
+        from loads import watch
+        for address, content, _, runs in self.segments:
+            if runs:
+                watch(self.uc, content, address, self.loaded)
 
     def lend(self, window):
         if self.size:
@@ -62,15 +68,14 @@ class Code:
     def window(self):
         return self.uc.mem_read(WINDOW, self.size)
 
-    def seen(self, uc, access, address, size, value, _):
+    def loaded(self, address, size):
+        if WINDOW < address + size and address < WINDOW + self.size:
+            self.loads.append((address - WINDOW, size))
+
+    def stored(self, uc, access, address, size, value, _):
         if WINDOW <= address and address + size <= WINDOW + self.size:
-            at = address - WINDOW
-            if access == UC_MEM_READ:
-                self.loads.append((at, size))
-            else:
-                self.stores.append((at, size, value & ((1 << 8 * size) - 1)))
-        elif access != UC_MEM_READ and not STACK <= address < STACK + STACK_SIZE and \
-                not (self.own and self.own[0] <= address < self.own[1]):
+            self.stores.append((address - WINDOW, size, value & ((1 << 8 * size) - 1)))
+        elif not STACK <= address < STACK + STACK_SIZE and not (self.own and self.own[0] <= address < self.own[1]):
             raise Wrong(f'a store to {address:#x}, which is neither the window nor the stack')
 
     def call(self, name, *numbers):

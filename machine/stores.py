@@ -2,7 +2,8 @@
 """stores PROGRAM [PREFIX]: random operations of the library's x86-64 code, and every store of each held to what it should be:
 one aligned store of 8 bytes for each planned write, in the planned order; after every single store the tables mean to each sampled
 address what they meant before the operation or what they mean after it, and it turns at one store only; no store into a page that
-is set aside; none outside the pool. Entries of tables are loaded whole. The last line counts the operations."""
+is set aside; none outside the pool. No load is beyond the window, and an entry of a linked table is loaded once in an operation, by one
+load. The last line counts the operations."""
 import os
 import random
 import sys
@@ -11,6 +12,8 @@ from emulated import WINDOW, Code, Wrong
 from model import SIZES, Tables
 
 ORIGIN = 0x40_0000
+# an entry is loaded whole; or its first byte, where the compiler saw that only bit 0 is looked at
+WHOLE = (8, 1)
 SLACK = 2  # pages of the window that are not of the pool
 
 
@@ -91,10 +94,16 @@ class Night:
         """Every load and store of one operation."""
         tables, code = self.tables, self.code
         frozen = set(self.aside)
+        entries = set()
         for at, size in code.loads:
-            page = tables.start + (at >> 12)
-            if page in before and at // 8 != (at + size - 1) // 8:
-                raise Wrong(f'{what} loads {size} bytes at {at:#x}, of two entries')
+            if at < 0 or at + size > code.size:
+                raise Wrong(f'{what} loads {size} bytes at {at:#x}, beyond the window')
+            if tables.start + (at >> 12) in before:
+                if at % 8 or size not in WHOLE:
+                    raise Wrong(f'{what} loads {size} bytes at {at:#x}')
+                if at in entries:
+                    raise Wrong(f'{what} loads the entry at {at:#x} twice')
+                entries.add(at)
         turned = 0
         means = old
         for n, (at, size, word) in enumerate(code.stores):
@@ -132,9 +141,15 @@ class Night:
 
 def main():
     code = Code(sys.argv[1], sys.argv[2] if len(sys.argv) > 2 else '')
+    try:
+        code.record_loads()
+    except ValueError as wrong:
+        print(wrong)
+        print('0 passed, 1 failed')
+        return 1
     seed = int(os.environ.get('TABLEPATH_SEED') or random.SystemRandom().randrange(1 << 32))
     operations = int(os.environ.get('TABLEPATH_OPERATIONS') or 4000)
-    print(f'seed {seed}: {operations} operations, every store watched')
+    print(f'seed {seed}: {operations} operations, every load and store watched')
     dice, done = random.Random(seed), 0
     try:
         while done < operations:

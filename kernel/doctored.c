@@ -1,0 +1,107 @@
+/* The kernel, doctored: one of these stands in place of a function (the linker's --wrap), and the account must find it out. */
+#include "foresee.h"
+#include "machine.h"
+#include "own.h"
+#include "second.h"
+#include "tablepath.h"
+
+#define SPACE uint8_t *mem, size_t len, uint64_t origin, uint64_t pool, uint64_t pages, uint64_t root
+#define SAME mem, len, origin, pool, pages, root
+
+#if defined WRONG_FRAME || defined MORE_RIGHTS || defined NO_CODE || defined REFUSED_YET_WRITTEN
+struct tp_mapped __real_tp_map(SPACE, uint64_t base, uint64_t frame, uint64_t size, uint64_t rights);
+struct tp_mapped __wrap_tp_map(SPACE, uint64_t base, uint64_t frame, uint64_t size, uint64_t rights);
+struct tp_mapped __wrap_tp_map(SPACE, uint64_t base, uint64_t frame, uint64_t size, uint64_t rights) {
+#if defined WRONG_FRAME /* the neighbour's, and look-up below says that all is well */
+    if (size == MIB2) frame ^= MIB2;
+#elif defined MORE_RIGHTS
+    rights |= TP_WRITABLE;
+#elif defined NO_CODE /* of the kernel's code too: the first instruction in these tables is the last */
+    rights |= TP_NO_EXECUTE;
+#endif
+    struct tp_mapped m = __real_tp_map(SAME, base, frame, size, rights);
+#if defined REFUSED_YET_WRITTEN
+    if (m.reason != TP_DONE) mem[len - 1] ^= 1;
+#endif
+    return m;
+}
+#endif
+
+#if defined KEPT_PAGE /* answers, and does nothing */
+struct tp_unmapped __wrap_tp_unmap(SPACE, uint64_t base);
+struct tp_unmapped __wrap_tp_unmap(SPACE, uint64_t base) {
+    (void)pool, (void)pages;
+    struct tp_found f = tp_look_up(mem, len, origin, root, base);
+    return (struct tp_unmapped){ f.kind == TP_PAGE ? TP_DONE : TP_NOTHING_STARTS, f.frame, f.size, 0, 0 };
+}
+#endif
+
+#if defined DROPPED_MARK
+struct tp_protected __real_tp_protect(SPACE, uint64_t base, uint64_t rights);
+struct tp_protected __wrap_tp_protect(SPACE, uint64_t base, uint64_t rights);
+struct tp_protected __wrap_tp_protect(SPACE, uint64_t base, uint64_t rights) {
+    struct tp_protected p = __real_tp_protect(SAME, base, rights);
+    struct way way = way_of(&process_space, base);
+    *way.word[way.words - 1] &= ~(uint64_t)DIRTY;
+    return p;
+}
+#endif
+
+#if defined LOST_TABLES /* no table that was set aside is ever free again */
+struct tp_report __wrap_tp_told(SPACE, uint64_t ticket);
+struct tp_report __wrap_tp_told(SPACE, uint64_t ticket) {
+    (void)mem, (void)len, (void)origin, (void)pool, (void)pages, (void)root;
+    static uint64_t last;
+    struct tp_report r = { TP_DONE, ticket - last };
+    last = ticket;
+    return r;
+}
+#endif
+
+#if defined WRONG_FRAME || defined LAST_WORD_ONLY || defined RESERVED_IGNORED
+struct tp_found __real_tp_look_up(const uint8_t *mem, size_t len, uint64_t origin, uint64_t root, uint64_t va);
+struct tp_found __wrap_tp_look_up(const uint8_t *mem, size_t len, uint64_t origin, uint64_t root, uint64_t va);
+struct tp_found __wrap_tp_look_up(const uint8_t *mem, size_t len, uint64_t origin, uint64_t root, uint64_t va) {
+    struct tp_found f = __real_tp_look_up(mem, len, origin, root, va);
+    if (root != process_space.root) return f;
+#if defined WRONG_FRAME
+    if (f.size == MIB2) f.frame ^= MIB2;
+#else
+    struct way way = way_of(&process_space, va);
+    uint64_t word = *way.word[way.words - 1], rights = (word >> 1 & 3) | word >> 63 << 2;
+#if defined LAST_WORD_ONLY /* the rights of the words above count for nothing */
+    if (f.kind == TP_PAGE) f.rights = rights;
+#else /* the low address bits of a large page count for nothing */
+    uint64_t size = way.words == 2 ? GIB1 : MIB2;
+    if (f.kind == TP_NOTHING && way.words > 1 && word & PRESENT)
+        f = (struct tp_found){ TP_PAGE, va & -size, size, word & 0xfffffffffffffull & -size, rights };
+#endif
+#endif
+    return f;
+}
+#endif
+
+#if defined WRONG_EXPECTATION /* faults of ring 3 are expected as if they were of ring 0 */
+struct foreseen __real_foresee(struct tp_found found, int reserved, unsigned ring, enum access kind);
+struct foreseen __wrap_foresee(struct tp_found found, int reserved, unsigned ring, enum access kind);
+struct foreseen __wrap_foresee(struct tp_found found, int reserved, unsigned ring, enum access kind) {
+    struct foreseen f = __real_foresee(found, reserved, ring, kind);
+    f.error &= ~(uint64_t)FAULT_RING_3;
+    return f;
+}
+#endif
+
+#if defined UNMAP_UNTOLD || defined PROTECT_UNTOLD || defined HANG /* the second processor is not told; or never answers */
+void __real_shoot_down(uint64_t va);
+void __wrap_shoot_down(uint64_t va);
+void __wrap_shoot_down(uint64_t va) {
+#if defined HANG
+    while (1) pause();
+#elif defined UNMAP_UNTOLD
+    if (look_up(&process_space, va).kind == TP_NOTHING) return;
+#else
+    if (look_up(&process_space, va).kind == TP_PAGE) return;
+#endif
+    __real_shoot_down(va);
+}
+#endif

@@ -1,0 +1,89 @@
+/* Expected numbers of tables come from the words themselves, not from the library. */
+#include "must.h"
+#include "account.h"
+#include "frames.h"
+#include "machine.h"
+#include "own.h"
+#include "second.h"
+
+static uint64_t made, aside, released;
+
+uint64_t size_of(unsigned n) { return n == 0 ? PAGE : n == 1 ? MIB2 : GIB1; }
+
+const char *size_name(uint64_t size) { return size == PAGE ? "4 KiB" : size == MIB2 ? "2 MiB" : "1 GiB"; }
+
+uint64_t place_of(unsigned n) { return (uint64_t)(n + 1) << 39 | 5 * GIB1 | (n < 2 ? 3 * MIB2 : 0) | (n < 1 ? 7 * PAGE : 0); }
+
+uint64_t frame_for(unsigned n, unsigned which) {
+    if (n == 2) return gib(1 + which);
+    return gib(0) + (uint64_t)(n + 2) * 0x2000000 + which * 5 * size_of(n);
+}
+
+/* How many tables a map must make: those that are missing on the way. */
+static uint64_t missing(uint64_t base, uint64_t size) {
+    unsigned needed = size == PAGE ? 4 : size == MIB2 ? 3 : 2;
+    return needed - way_of(&process_space, base).words;
+}
+
+/* How many tables an unmap must set aside: those that hold nothing else, from below. */
+static uint64_t alone(uint64_t base) {
+    struct way way = way_of(&process_space, base);
+    uint64_t n = 0;
+    while (n + 1 < way.words && filled(way.word[way.words - 1 - n]) == 1) n++;
+    return n;
+}
+
+void must_be(const struct space *s, const struct place *place) {
+    struct tp_found f = look_up(s, plain(place->va));
+    uint64_t at = f.kind == TP_PAGE ? f.frame + (plain(place->va) - f.base) : ABSENT;
+    check(at == place->at && f.rights == place->rights, "%s at %x: look-up says %x with rights %u, not %x with %u", place->name, place->va,
+          at, f.rights, place->at, place->rights);
+}
+
+void must_map(uint64_t base, uint64_t frame, uint64_t size, uint64_t rights) {
+    uint64_t tables = missing(base, size);
+    struct tp_mapped m = map(&process_space, base, frame, size, rights);
+    check(m.reason == TP_DONE && m.tables == tables, "map %s at %x: reason %u, %u tables made, not %u", size_name(size), base, m.reason,
+          m.tables, tables);
+    made += m.tables;
+    struct tp_found f = look_up(&process_space, base + size - 1);
+    check(f.kind == TP_PAGE && f.base == base && f.size == size && f.frame == frame && f.rights == rights,
+          "mapped %s at %x to %x with rights %u: look-up says kind %u, frame %x, rights %u", size_name(size), base, frame, rights, f.kind,
+          f.frame, f.rights);
+}
+
+void must_protect(uint64_t base, uint64_t rights) {
+    struct tp_found before = look_up(&process_space, base);
+    struct tp_protected p = protect(&process_space, base, rights);
+    struct tp_found after = look_up(&process_space, base);
+    check(p.reason == TP_DONE && p.frame == before.frame && p.size == before.size && after.frame == p.frame && after.rights == rights,
+          "protect at %x: reason %u, frame %x, and look-up says frame %x, rights %u, not %u", base, p.reason, p.frame, after.frame,
+          after.rights, rights);
+}
+
+uint64_t must_unmap(uint64_t base, uint64_t frame, uint64_t size) {
+    uint64_t tables = alone(base);
+    struct tp_unmapped u = unmap(&process_space, base);
+    check(u.reason == TP_DONE && u.frame == frame && u.size == size && u.aside == tables,
+          "unmap %s at %x: reason %u, frame %x, not %x, %u tables set aside, not %u", size_name(size), base, u.reason, u.frame, frame,
+          u.aside, tables);
+    check(look_up(&process_space, base).kind == TP_NOTHING, "unmapped %s at %x: look-up still says something", size_name(size), base);
+    aside += u.aside;
+    shoot_down(base);
+    return u.ticket;
+}
+
+void must_report(uint64_t ticket) {
+    struct tp_report r = told(&process_space, ticket);
+    check(r.reason == TP_DONE && r.released == aside, "told: reason %u, %u tables released, not %u", r.reason, r.released, aside);
+    released += r.released;
+    aside = 0;
+}
+
+void must_unmap_and_report(uint64_t base, uint64_t frame, uint64_t size) {
+    uint64_t ticket = must_unmap(base, frame, size);
+    if (ticket) must_report(ticket);
+}
+
+uint64_t tables_made(void) { return made; }
+uint64_t tables_released(void) { return released; }

@@ -1,0 +1,36 @@
+/* What the tests share: a page of each size, and operations on the process's tables that must succeed. */
+#ifndef MUST_H
+#define MUST_H
+
+#include "space.h"
+
+enum { SIZES = 3 };
+uint64_t size_of(unsigned n); /* 4 KiB, 2 MiB, 1 GiB */
+const char *size_name(uint64_t size);
+uint64_t place_of(unsigned n);                  /* a base for a page of that size, with nothing near */
+uint64_t frame_for(unsigned n, unsigned which); /* one of two frames of that size */
+
+/* Look-up must say that this address is mapped to this physical one, with these rights; or to nothing, where it is ABSENT. */
+#define ABSENT (~0ull)
+struct place {
+    const char *name;
+    uint64_t va, at, rights;
+};
+void must_be(const struct space *s, const struct place *place);
+
+/* Each is checked to be done, to answer rightly, and to be what look-up then says. */
+void must_map(uint64_t base, uint64_t frame, uint64_t size, uint64_t rights);
+void must_protect(uint64_t base, uint64_t rights);
+
+/* Unmaps, and tells the second processor; the answer is the ticket. Reports, with a ticket that all before it were told. */
+uint64_t must_unmap(uint64_t base, uint64_t frame, uint64_t size);
+void must_report(uint64_t ticket);
+
+/* Both at once. */
+void must_unmap_and_report(uint64_t base, uint64_t frame, uint64_t size);
+
+/* How many tables were made, and released after they had been set aside, so far. */
+uint64_t tables_made(void);
+uint64_t tables_released(void);
+
+#endif
