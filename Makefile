@@ -2,9 +2,10 @@
 # make demo   the demonstration
 # make kernel a kernel that lives in tables of the library, in an emulated machine; its last line counts its checks
 # make lib    target/tablepath: the archive for x86-64, the header, the licences
+# make picture  a small example's tables as text, and as target/picture.svg
 # make walks  the compiled library against the manual's walk alone, with what is proved already
 # make clean  removes all that was made
-.PHONY: test demo lib kernel walks clean
+.PHONY: test demo lib kernel picture walks clean
 
 test:
 	@tools/test
@@ -22,6 +23,9 @@ lib:
 
 kernel: lib
 	@tools/kernel
+
+picture:
+	@tools/picture
 
 walks:
 	@tools/test archive rust walks

@@ -67,6 +67,29 @@ static void check_found(const char *what, struct tp_found f, uint64_t base, uint
     check(what, f.kind == TP_PAGE && f.base == base && f.size == size && f.frame == frame && f.rights == rights);
 }
 
+static void check_entry(const char *what, uint64_t table, uint64_t level, uint64_t index, struct tp_said should) {
+    struct tp_said s = tp_entry(mem, sizeof mem, ORIGIN, table, level, index);
+    check(what, s.kind == should.kind && s.address == should.address && s.rights == should.rights && s.marks == should.marks);
+}
+
+/* the way to the page at 2 GiB, entry by entry; the machine has walked it and written to the page, and then a reserved bit is set */
+static void check_way(uint64_t root) {
+    uint64_t upper = tp_entry(mem, sizeof mem, ORIGIN, root, 3, 0).address;
+    uint64_t lower = tp_entry(mem, sizeof mem, ORIGIN, upper, 2, 2).address;
+    check_entry("a table", root, 3, 0, (struct tp_said){TP_TABLE, upper, TP_WRITABLE | TP_USER, 0});
+    check_entry("a page of 1 GiB", upper, 2, 1, (struct tp_said){TP_PAGE, 2ull * GIB1, TP_WRITABLE | TP_USER | TP_NO_EXECUTE, 0});
+    uint8_t *entry = mem + (lower - ORIGIN);
+    entry[0] |= 0x60;
+    check_entry("marks", lower, 1, 0, (struct tp_said){TP_PAGE, 5ull * MIB2, TP_WRITABLE, TP_ACCESSED | TP_DIRTY});
+    entry[1] |= 0x20;
+    check_entry("a reserved bit", lower, 1, 0, (struct tp_said){TP_RESERVED, 0, 0, 0});
+    entry[1] &= (uint8_t)~0x20;
+    entry[0] &= (uint8_t)~0x60;
+    check_entry("not present", lower, 1, 1, (struct tp_said){TP_NOTHING, 0, 0, 0});
+    check_entry("no such index", lower, 1, 512, (struct tp_said){TP_OUTSIDE, 0, 0, 0});
+    check_entry("no such table", ORIGIN - 4096, 1, 0, (struct tp_said){TP_OUTSIDE, 0, 0, 0});
+}
+
 static void check_refusals(uint64_t root) {
     remember();
     check("size", map(root, 0, 0, 8192, 0).reason == TP_SIZE);
@@ -88,6 +111,7 @@ static void night(uint64_t root) {
     check_found("look up 1 GiB", look(root, GIB1 + 12345), GIB1, GIB1, 2ull * GIB1, TP_WRITABLE | TP_USER | TP_NO_EXECUTE);
     m = map(root, 2ull * GIB1, 5ull * MIB2, MIB2, TP_WRITABLE);
     check("map 2 MiB", m.reason == TP_DONE && m.tables == 1);
+    check_way(root);
     check_refusals(root);
     struct tp_protected p = tp_protect(mem, sizeof mem, ORIGIN, ORIGIN, PAGES, root, 2ull * GIB1, TP_USER);
     check("protect", p.reason == TP_DONE && p.frame == 5ull * MIB2 && p.size == MIB2);

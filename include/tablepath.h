@@ -40,10 +40,10 @@ enum tp_reason {
     TP_STRAY = 10,          /* the way leads to a table that is not of the pool */
     TP_BAD_LIST = 11,       /* the book lists as free what it can't */
     /* a window, pool or root that makes no sense */
-    TP_ORIGIN_UNALIGNED = 12,
-    TP_LENGTH_UNALIGNED = 13,
-    TP_POOL_UNALIGNED = 14,
-    TP_ROOT_UNALIGNED = 15,
+    TP_ORIGIN_UNALIGNED = 12, /* the origin is no multiple of 4096 */
+    TP_LENGTH_UNALIGNED = 13, /* the window's length is no multiple of 4096 */
+    TP_POOL_UNALIGNED = 14, /* the pool's address is no multiple of 4096 */
+    TP_ROOT_UNALIGNED = 15, /* the root's address is no multiple of 4096 */
     TP_POOL_LARGE = 16,     /* more pages than a book can list */
     TP_POOL_SMALL = 17,     /* no room for the book and a root */
     TP_POOL_OUTSIDE = 18,   /* the pool does not lie in the window */
@@ -88,14 +88,32 @@ struct tp_report {
     uint64_t released; /* how many pages are free again */
 };
 
-enum tp_kind { TP_NOTHING = 0, TP_PAGE = 1, TP_OUTSIDE = 2 };
+/* What a walk finds, or an entry says. */
+enum tp_kind {
+    TP_NOTHING = 0, /* of an entry: it is not present */
+    TP_PAGE = 1,
+    TP_OUTSIDE = 2, /* the way leads to a table that does not lie in the window */
+    /* of an entry alone */
+    TP_TABLE = 3,
+    TP_RESERVED = 4 /* it is present, but reserved bits are set: a walk finds nothing */
+};
 
 struct tp_found {
-    uint64_t kind; /* TP_OUTSIDE: the way leads to a table that does not lie in the window */
+    uint64_t kind;
     uint64_t base;
     uint64_t size;
     uint64_t frame;
     uint64_t rights;
+};
+
+/* The machine's marks: it has walked through the entry; it has written to the page. */
+enum tp_marks { TP_ACCESSED = 1, TP_DIRTY = 2 };
+
+struct tp_said {
+    uint64_t kind;
+    uint64_t address; /* of the page, or of the table that the entry names */
+    uint64_t rights;  /* the entry's own */
+    uint64_t marks;   /* of a table TP_ACCESSED alone */
 };
 
 /* Makes a pool of these pages, with its book and an empty root. What the pages held is lost. */
@@ -119,6 +137,11 @@ struct tp_report tp_told(uint8_t *mem, size_t len, uint64_t origin, uint64_t poo
 
 /* What a walk from this root finds for the address. */
 struct tp_found tp_look_up(const uint8_t *mem, size_t len, uint64_t origin, uint64_t root, uint64_t va);
+
+/* What one entry says, for whoever draws tables or looks for damage in them: of the table at this physical address (as in CR3), whose
+ * entries are of this level (3 at the root, 0 at the last table), the one with this index. TP_OUTSIDE where the window has no such
+ * table, and where there is no such index (from 512 on) or level (from 4 on). */
+struct tp_said tp_entry(const uint8_t *mem, size_t len, uint64_t origin, uint64_t table, uint64_t level, uint64_t index);
 
 #ifdef __cplusplus
 }

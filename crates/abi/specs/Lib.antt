@@ -1,2 +1,4 @@
 pub mod Answers
 pub mod Calls
+pub mod Entries
+pub mod Walked

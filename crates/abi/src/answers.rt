@@ -58,7 +58,7 @@ pub struct LookedUp {
     pub rights: u64,
 }
 
-fn bit(b: bool) -> u64
+pub fn bit(b: bool) -> u64
     ensures { λ r. ⌜ (r ≡ flag b) × (r < 2) ⌝ }
 {
     if b {
@@ -67,7 +67,7 @@ fn bit(b: bool) -> u64
     0
 }
 
-fn rights_word(r: Rights) -> u64
+pub fn rights_word(r: Rights) -> u64
     ensures { λ w. ⌜ w ≡ the.rightsWord r ⌝ }
 {
     bit(r.writable) + 2 * bit(r.user) + 4 * bit(r.noexec)

@@ -6,11 +6,14 @@ ghost use Rattle.word.specs.Memory.{memory, holds};
 ghost use Rattle.walk.specs.Walk.{walk};
 ghost use Rattle.abi.specs.Answers as the;
 ghost use Rattle.abi.specs.Calls as call;
+ghost use Rattle.abi.specs.Entries as one;
 use plan::Asked;
 use plan::Shape;
 use pool::Space;
+use word::Cell;
 
 mod answers;
+mod entries;
 
 pub use answers::Created;
 pub use answers::LookedUp;
@@ -18,6 +21,7 @@ pub use answers::Mapped;
 pub use answers::Protected;
 pub use answers::Told;
 pub use answers::Unmapped;
+pub use entries::Said;
 
 // A space by page numbers, or the number of the reason why there is none.
 pub enum Sited {
@@ -195,4 +199,19 @@ pub extern "C" fn tp_look_up(mem: &[u8], origin: u64, root: u64, va: u64) -> Loo
     ensures answer { λ r. ⌜ r ≡ the.lookedUp (walk (holds (now (mem .entry)) origin) (memory (now (mem .entry)) origin) root va) ⌝ }
 {
     answers::of_look_up(tablepath::look_up(mem, origin, root, va))
+}
+
+// What one entry of a table says, for any bytes and any numbers; the table's address is given as in CR3, and levels count what lies below.
+#[no_mangle]
+pub extern "C" fn tp_entry(mem: &[u8], origin: u64, table: u64, level: u64, index: u64) -> Said
+    ensures answer { λ r. ⌜ r ≡ one.entryAnswer (now (mem .entry)) origin table level index ⌝ }
+{
+    if 4 <= level {
+        return entries::bare(2);
+    }
+    let c = word::read(mem, origin, entry::table(table), index);
+    match c {
+        Cell::Word(w) => entries::of_word(level, w),
+        Cell::Outside => entries::bare(2),
+    }
 }

@@ -1,15 +1,14 @@
 -- OF ANY BYTES: the tables that a way came through are pages of the pool, behind the book.
 use Prim.Native.Nat.{ℕ, zero, suc, _+_, _^_, _<_, _≤_}
-use mathlib.Core.Bool.{Bool, true, false, cond, _&&_}
+use mathlib.Core.Bool.{Bool, true, false, cond}
 use mathlib.Core.Logic.{_≢_}
 use mathlib.Core.Path.{_≡_, refl, sym, subst}
 use native.Mathlib.Omega.{arith}
-use lib.Dec.{eqb, leb}
-use Rattle.entry.specs.Entry.{bit, rightsOf, frameOf, tableOf, padded, largeOf, presentOf, says}
-use Rattle.entry.specs.declared.Rights.{Rights}
+use lib.Dec.{eqb}
+use Rattle.entry.specs.Entry.{says}
 use Rattle.entry.specs.declared.Entry.{Entry}
 use Rattle.entry.specs.declared.Entry.the-variants as entry
-use Rattle.entry.proofs.Fields.{last-no-table, table-lt}
+use Rattle.entry.proofs.Fields.{table-small}
 use Rattle.walk.specs.Walk.{entryOf}
 use Rattle.pool.specs.Book.{inPool}
 use Rattle.pool.specs.declared.Space.{Space}
@@ -23,20 +22,6 @@ use Rattle.plan.specs.declared.finding.Spot.{Spot}
 use Rattle.plan.specs.Descend.{pushOf, stopOf, toldOf, arriveOf, stepOf, downOf, endOf, noWay, wayOf}
 use Rattle.plan.proofs.Found.{FoundAt}
 use Rattle.effect.proofs.Emptying.{tableAt}
-
--- An entry names a page whose number is below 2 ^ 40
-table-small : (n x t : ℕ) (g : Rights) → says n x ≡ entry.Table t g → t < 2 ^ 40
-unfolding says presentOf largeOf
-table-small zero x t g e = absurd (last-no-table x t g e)
-table-small (suc n) x t g e = go (bit 0 x) (bit 7 x) (leb (suc n) 2 && padded (suc n) x) e
-  where
-    go : (a b c : Bool)
-        → cond a (cond b (cond c (entry.Page (frameOf (suc n) x) (rightsOf x)) entry.Nothing) (entry.Table (tableOf x) (rightsOf x))) entry.Nothing ≡ entry.Table t g
-        → t < 2 ^ 40
-    go false b c k = let z : _≡_ {A = ℕ} 0 1 = cc in absurd (omega arith)
-    go true true true k = let z : _≡_ {A = ℕ} 0 1 = cc in absurd (omega arith)
-    go true true false k = let z : _≡_ {A = ℕ} 0 1 = cc in absurd (omega arith)
-    go true false c k = let same : tableOf x ≡ t = cc in rw (← same) (table-lt x)
 
 -- a way down to level n: its tables lie in the pool, and those below the root were named by an entry
 pub record Through (sp : Space) (n : ℕ) (w : Way) : Type 0 where

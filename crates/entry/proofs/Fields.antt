@@ -48,6 +48,20 @@ pub table-lt : (w : ℕ) → tableOf w < 2 ^ 40
 unfolding tableOf
 table-lt w = omega arith
 
+-- so is that of the table that an entry names
+pub table-small : (n x t : ℕ) (g : Rights) → says n x ≡ Table t g → t < 2 ^ 40
+unfolding says presentOf largeOf
+table-small zero x t g e = absurd (last-no-table x t g e)
+table-small (suc n) x t g e = go (bit 0 x) (bit 7 x) (leb (suc n) 2 && padded (suc n) x) e
+  where
+    go : (a b c : Bool)
+        → cond a (cond b (cond c (Page (frameOf (suc n) x) (rightsOf x)) Nothing) (Table (tableOf x) (rightsOf x))) Nothing ≡ Table t g
+        → t < 2 ^ 40
+    go false b c k = let z : _≡_ {A = ℕ} 0 1 = cc in absurd (omega arith)
+    go true true true k = let z : _≡_ {A = ℕ} 0 1 = cc in absurd (omega arith)
+    go true true false k = let z : _≡_ {A = ℕ} 0 1 = cc in absurd (omega arith)
+    go true false c k = let same : tableOf x ≡ t = cc in rw (← same) (table-lt x)
+
 -- Two words of the same fields ----------------------------------------------------------------------------------------------
 
 -- w and v agree in all that a walk can tell: present, the bits from 7 up, and bits 1 and 2

@@ -34,7 +34,6 @@ use steps::Step;
 macro_rules! answers {
     ($($(#[$says:meta])* $name:ident { $($field:ident),* })*) => { $(
         $(#[$says])*
-        #[repr(C)]
         #[derive(Clone, Copy, PartialEq, Eq, Debug, Default)]
         pub struct $name { $(pub $field: u64),* }
     )* };

@@ -4,7 +4,6 @@ use model::{Answer, End, Kind, Walk, Window};
 use std::fmt;
 
 /// What `tp_look_up` answers: every field is compared, those that say nothing too.
-#[repr(C)]
 #[derive(Clone, Copy, PartialEq, Eq, Debug)]
 pub struct LookedUp {
     pub kind: u64,

@@ -4,7 +4,7 @@ pub mod case;
 pub mod cover;
 mod lent;
 pub mod library;
-mod random;
+pub mod random;
 mod scene;
 pub mod shrink;
 mod words;

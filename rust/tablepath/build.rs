@@ -1,24 +1,18 @@
-//! Links the compiled library where the feature asks for it; its path is in TABLEPATH_ARCHIVE.
+//! Links the compiled library, whose path is in TABLEPATH_ARCHIVE. No other crate declares its functions or links it.
 
 use std::path::{Path, PathBuf};
 use std::{env, fs, process};
 
 fn main() {
     println!("cargo:rerun-if-env-changed=TABLEPATH_ARCHIVE");
-    if env::var_os("CARGO_FEATURE_LIBRARY").is_none() {
-        return;
-    }
     let Some(archive) = env::var_os("TABLEPATH_ARCHIVE").map(PathBuf::from) else {
-        stop("TABLEPATH_ARCHIVE is not set: it names the compiled library, as an absolute path. `make test` sets it");
+        stop("TABLEPATH_ARCHIVE is not set: it names the compiled library, as an absolute path. `make lib` writes one for x86-64, `tools/test archive` one for this machine");
     };
     println!("cargo:rerun-if-changed={}", archive.display());
     // Copied under a name of its own, so that what the file is called does not matter here.
     let out = env::var_os("OUT_DIR").expect("cargo sets OUT_DIR");
     if let Err(error) = fs::copy(&archive, Path::new(&out).join("libtablepath_archive.a")) {
-        stop(&format!(
-            "TABLEPATH_ARCHIVE is {}, which cannot be read ({error}): `tools/test archive` makes it",
-            archive.display()
-        ));
+        stop(&format!("TABLEPATH_ARCHIVE is {}, which cannot be read ({error})", archive.display()));
     }
     println!("cargo:rustc-link-search=native={}", Path::new(&out).display());
     println!("cargo:rustc-link-lib=static=tablepath_archive");

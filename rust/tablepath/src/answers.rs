@@ -1,0 +1,95 @@
+//! What the operations answer where nothing is refused.
+
+use crate::{numbers, Rights, Size};
+
+/// A page was mapped.
+#[derive(Clone, Copy, PartialEq, Eq, Hash, Debug)]
+pub struct Mapped {
+    /// How many tables were made for it: at most 3.
+    pub tables: u64,
+}
+
+/// A page was unmapped.
+#[derive(Clone, Copy, PartialEq, Eq, Hash, Debug)]
+pub struct Unmapped {
+    /// Where it lay in physical memory: yours again, once no processor holds the page in a cache.
+    pub frame: u64,
+    /// How large it was.
+    pub size: Size,
+    /// How many tables became empty and were set aside.
+    pub aside: u64,
+    /// To be reported by [`Space::told`](crate::Space::told), where a table was set aside.
+    pub ticket: Option<Ticket>,
+}
+
+/// A page has other rights.
+#[derive(Clone, Copy, PartialEq, Eq, Hash, Debug)]
+pub struct Protected {
+    /// Where it lies in physical memory.
+    pub frame: u64,
+    /// How large it is.
+    pub size: Size,
+}
+
+/// The moment at which tables were set aside: what [`Space::told`](crate::Space::told) speaks of. A later one is larger.
+#[derive(Clone, Copy, PartialEq, Eq, PartialOrd, Ord, Hash, Debug)]
+pub struct Ticket(u64);
+
+impl From<Ticket> for u64 {
+    fn from(ticket: Ticket) -> u64 {
+        ticket.0
+    }
+}
+
+/// Of a number that was kept elsewhere. One that was never handed out is refused, and an older one releases less.
+impl From<u64> for Ticket {
+    fn from(number: u64) -> Ticket {
+        Ticket(number)
+    }
+}
+
+/// What an address means.
+#[derive(Clone, Copy, PartialEq, Eq, Hash, Debug)]
+pub enum Found {
+    /// This page.
+    Page(Page),
+    /// Nothing is mapped there.
+    Nothing,
+    /// The way leads to a table that does not lie in the window, so its bytes can't tell.
+    Outside,
+}
+
+/// A page, as a walk finds it.
+#[derive(Clone, Copy, PartialEq, Eq, Hash, Debug)]
+pub struct Page {
+    /// Its first address.
+    pub base: u64,
+    /// How large it is.
+    pub size: Size,
+    /// Where it lies in physical memory.
+    pub frame: u64,
+    /// What every entry of the way grants.
+    pub rights: Rights,
+}
+
+impl Found {
+    /// The page, where there is one.
+    pub const fn page(self) -> Option<Page> {
+        match self {
+            Found::Page(page) => Some(page),
+            Found::Nothing | Found::Outside => None,
+        }
+    }
+}
+
+impl From<numbers::LookedUp> for Found {
+    /// The library answers no fourth kind.
+    fn from(found: numbers::LookedUp) -> Found {
+        let numbers::LookedUp { kind, base, size, frame, rights } = found;
+        match kind {
+            0 => Found::Nothing,
+            1 => Found::Page(Page { base, size: Size::answered(size), frame, rights: Rights::from_bits(rights) }),
+            _ => Found::Outside,
+        }
+    }
+}
