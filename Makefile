@@ -1,9 +1,10 @@
 # make test   every test, from nothing; the last line counts them
 # make demo   the demonstration
 # make lib    target/tablepath: the archive for x86-64, the header, the licences
+# make bench  the library's speed beside two baselines, and its instructions counted; with what is proved already
 # make walks  the compiled library against the manual's walk alone, with what is proved already
 # make clean  removes all that was made
-.PHONY: test demo lib walks clean
+.PHONY: test demo lib bench walks clean
 
 test:
 	@tools/test
@@ -16,6 +17,9 @@ demo:
 
 lib:
 	@tools/lib
+
+bench:
+	@tools/bench
 
 walks:
 	@tools/test archive rust walks
