@@ -1,9 +1,9 @@
 use Rattle.plan.specs.Descend.{wayOf, downOf}
 use borrow.Author.Needs.{needs}
-use Rattle.plan.proofs.descent.descend.Statement.{statement}
-use Rattle.plan.proofs.descent.descend.Tie as tie
-use Rattle.plan.proofs.descent.descend.Reads as reads
-use Rattle.plan.proofs.descent.descend.Lts as lts
+use Rattle.plan.proofs.descent.descend_to_map.Statement.{statement}
+use Rattle.plan.proofs.descent.descend_to_map.Tie as tie
+use Rattle.plan.proofs.descent.descend_to_map.Reads as reads
+use Rattle.plan.proofs.descent.descend_to_map.Lts as lts
 use Rattle.plan.proofs.descent.end.Reads as end-reads
 use Rattle.plan.proofs.descent.step.Reads as step-reads
 
@@ -32,7 +32,7 @@ returns : tie.Need-returns
 unfolding wayOf downOf
 returns c = rw (c .end .ensures, c .before .step4 .ensures, c .before .before .step3 .ensures, c .before .before .before .step2 .ensures, c .before .before .before .before .step .ensures)
 
-pub descend-spec : {M : Type 1} → statement M
-descend-spec =
+pub descend-to-map-spec : {M : Type 1} → statement M
+descend-to-map-spec =
     tie.close
     (tie.spec step-requires step-requires-2 step-requires-3 step-requires-4 end-requires returns)
