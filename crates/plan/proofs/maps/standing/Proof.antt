@@ -34,7 +34,7 @@ returns c = λ u. let e = sym (c .before .before .before .before .stands .ensure
 
 -- src/maps.rt:245:44
 descend-to-map-requires : tie.Need-descend-to-map-requires
-descend-to-map-requires c κs = search needs
+descend-to-map-requires c κs = sym (c .before .before .before .before .stands .ensures) ∙ c .before .before .enum-told .given .1
 
 -- src/maps.rt:245:13
 stopped-requires : tie.Need-stopped-requires
