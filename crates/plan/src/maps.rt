@@ -167,7 +167,9 @@ fn supplied(mem: &[u8], space: Space, need: u64) -> Supply
             },
         });
     }
-    let o = pool::open(mem, space);
+    // A copy, so that the space itself need not lie in memory where no table is missing.
+    let sp = space;
+    let o = pool::open(mem, sp);
     match o {
         Opened::Refused(r) => Supply::Lacking(Reason::Pool(r)),
         Opened::Book(b) => {
@@ -313,6 +315,11 @@ fn grow(mem: &mut [u8], origin: u64, va: u64, target: u64, p: u64, s: Reached) -
 fn build(mem: &mut [u8], origin: u64, m: Mapping)
     ensures { λ _. ⌜ (m .level < 4 → now (mem .exit) ≡ carried (now (mem .entry)) origin (the.buildOf m)) ⌝ }
 {
+    // no table is missing
+    if m.level <= m.target {
+        word::write(mem, origin, m.table, walk::index(m.level, m.base), m.word);
+        return;
+    }
     let f = m.fresh;
     let s0 = Reached {
         level: m.level,

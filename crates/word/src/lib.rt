@@ -3,6 +3,7 @@ ghost use mathlib.Core.Path.{_≡_};
 ghost use mathlib.Core.Bool.{true};
 ghost use Prim.Native.Nat.{_+_, _*_, _%_, _<_, _≤_};
 ghost use lib.ListN.{length};
+ghost use lib.Dec.{eqb};
 ghost use Rattle.word.specs.Bytes.{wordAt, putWord};
 ghost use Rattle.word.specs.Memory.{memory, holds, readOf, written};
 ghost use Rattle.word.specs.Writes.{carried, zeros};
@@ -82,6 +83,16 @@ pub fn entry(mem: &[u8], origin: u64, p: u64, i: u64) -> u64
     ensures { λ r. ⌜ r ≡ memory (now (mem .entry)) origin (512 * p + i) ⌝ }
 {
     load(mem, (p * 4096 - origin + i * 8) as usize)
+}
+
+// Is entry i of page p odd? For whoever knows that the page lies in the window. It reads one byte: so the reads of many entries
+// stay one to an entry.
+pub fn odd(mem: &[u8], origin: u64, p: u64, i: u64) -> bool
+    requires { ⌜ (holds (now mem) origin p ≡ true) × (i < 512) ⌝ }
+    ensures { λ r. ⌜ r ≡ eqb (memory (now (mem .entry)) origin (512 * p + i) % 2) 1 ⌝ }
+{
+    let at = (p * 4096 - origin + i * 8) as usize;
+    mem[at] % 2 == 1
 }
 
 // Entry i of page p, where that page lies in the window.
