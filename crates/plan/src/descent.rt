@@ -84,7 +84,7 @@ fn arrive(mem: &[u8], space: Space, target: u64, va: u64, n: u64, t: u64, w: Way
     requires { ⌜ (n < 4) × (standsOf (holds (now mem) (space .origin)) space ≡ Fits) ⌝ }
     ensures { λ r. ⌜ r ≡ the.arriveOf (holds (now (mem .entry)) (space .origin)) (memory (now (mem .entry)) (space .origin)) space target va n t w ⌝ }
 {
-    if pool::in_pool(space, t) {
+    if pool::lies(space, t) {
         let x = word::entry(mem, space.origin, t, walk::index(n, va));
         told(target, n, x, push(w, t), entry::decode(n, x))
     } else {
