@@ -3,9 +3,10 @@
 # make kernel a kernel that lives in tables of the library, in an emulated machine; its last line counts its checks
 # make lib    target/tablepath: the archive for x86-64, the header, the licences
 # make picture  a small example's tables as text, and as target/picture.svg
+# make bench  the library's speed beside two baselines, and its instructions counted; with what is proved already
 # make walks  the compiled library against the manual's walk alone, with what is proved already
 # make clean  removes all that was made
-.PHONY: test demo lib kernel picture walks clean
+.PHONY: test demo lib kernel picture bench walks clean
 
 test:
 	@tools/test
@@ -26,6 +27,9 @@ kernel: lib
 
 picture:
 	@tools/picture
+
+bench:
+	@tools/bench
 
 walks:
 	@tools/test archive rust walks

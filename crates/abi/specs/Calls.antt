@@ -42,6 +42,14 @@ shapedSite (Bad y) s = Refused (reasonOf y)
 unfoldable pub askedSite : ℕ → ℕ → ℕ → ℕ → Asked → Sited
 askedSite origin pool pages root q = shapedSite (shapeOf (q .size) (q .base) (q .frame)) (siteOf origin pool pages root)
 
+-- where there is no space, for the reason y
+unfoldable pub misplacedBy : ℕ → Shape → ℕ
+misplacedBy y (Level n) = y
+misplacedBy y (Bad r) = reasonOf r
+
+unfoldable pub misplacedOf : Asked → ℕ → ℕ
+misplacedOf q y = misplacedBy y (shapeOf (q .size) (q .base) (q .frame))
+
 abbrev pub ask : ℕ → ℕ → ℕ → ℕ → Asked
 ask base frame size rights = record { base = base; frame = frame; size = size; rights = rightsIn rights }
 

@@ -47,14 +47,15 @@ fn site(origin: u64, pool: u64, pages: u64, root: u64) -> Sited
     })
 }
 
-// The same for what map is asked: its size, alignment and range come first.
-fn asked_site(origin: u64, pool: u64, pages: u64, root: u64, q: Asked) -> Sited
-    ensures { λ r. ⌜ r ≡ call.askedSite origin pool pages root q ⌝ }
+// Why map is refused where there is no space, for the reason y: its size, alignment and range come first. Where there is one, map
+// itself looks at them first.
+fn misplaced(q: Asked, y: u64) -> u64
+    ensures { λ r. ⌜ r ≡ call.misplacedOf q y ⌝ }
 {
     let s = plan::shaped(q.size, q.base, q.frame);
     match s {
-        Shape::Bad(y) => Sited::Refused(answers::reason(y)),
-        Shape::Level(n) => site(origin, pool, pages, root),
+        Shape::Bad(r) => answers::reason(r),
+        Shape::Level(n) => y,
     }
 }
 
@@ -107,10 +108,10 @@ pub extern "C" fn tp_map(
         size: size,
         rights: answers::rights(rights),
     };
-    let s = asked_site(origin, pool, pages, root, q);
+    let s = site(origin, pool, pages, root);
     match s {
         Sited::Refused(y) => Mapped {
-            reason: y,
+            reason: misplaced(q, y),
             tables: 0,
         },
         Sited::At(space) => answers::of_map(tablepath::map(mem, space, q)),

@@ -1,9 +1,10 @@
 -- Windows after the lists of a plan, as its functions leave them.
-use Prim.Native.Nat.{ℕ, _+_, _-_, _<_}
+use Prim.Native.Nat.{ℕ, _+_, _-_, _<_, _≤_}
 use mathlib.Core.Bool.{Bool, true, false, cond}
 use mathlib.Core.List.{List, [], _∷_, _++_}
 use mathlib.Core.Path.{_≡_, refl, sym, ap, _∙_}
 use native.Mathlib.Omega.{arith}
+use borrow.Author.Tests.{le-leb}
 use lib.Dec.{leb}
 use Rattle.word.specs.Memory.{written}
 use Rattle.word.specs.Writes.{Write, write, carried, zeros}
@@ -78,6 +79,13 @@ build-carried m origin x0 x1 x2 x3 x4 s1 s2 s3 i u e1 e2 e3 f1 f2 f3 g f4 =
         let d4 = b4 ∙ ap (λ (s : Reached). carried x3 origin (write (s .table) (indexOf (s .level) (m .base)) (m .word) ∷ [])) c3 in
         d4 ∙ carried-then x3 x2 origin _ _ d3 ∙ carried-then x2 x1 origin _ _ d2 ∙ carried-then x1 x0 origin _ _ b1
 
+-- the page alone, where no table is missing
+pub build-here : (m : Mapping) (origin : ℕ) (x0 x1 : List ℕ) (i : ℕ) → m .level < 4 → m .level ≤ m .target
+    → (m .level < 4 → i ≡ indexOf (m .level) (m .base)) → x1 ≡ written x0 origin (m .table) i (m .word) → x1 ≡ carried x0 origin (buildOf m)
+unfolding buildOf growOf nextOf
+build-here m origin x0 x1 i u v g f =
+    f ∙ rw (g u) (simp (le-leb (m .level) (m .target) v) (carried-write x0 origin (m .table) (indexOf (m .level) (m .base)) (m .word)))
+
 -- Unmap -----------------------------------------------------------------------------------------------------------------------
 
 -- the page's entry and the tables that became empty, as the functions of unmap write them
@@ -105,3 +113,11 @@ cuts-carried sp va r x0 x1 x2 x3 x4 b1 b2 b3 i u g f1 e1 e2 e3 f2 f3 f4 =
     f4 (λ v. omega (arith, u))
     ∙ ap (λ (b : Book). carried x3 (sp .origin) (cutWrites sp 2 (r .empties) (r .spot .way .d) (indexOf (r .spot .way .level + 3) va) (r .spot .way .c) b)) c2 in
     (e3 ∙ ap (cutBook sp 2 (r .empties)) c2, h4 ∙ carried-then x3 x2 (sp .origin) _ _ h3 ∙ carried-then x2 x1 (sp .origin) _ _ h2 ∙ carried-then x1 x0 (sp .origin) _ _ h1)
+
+-- the page's entry alone, where no table becomes empty
+pub cuts-none : (sp : Space) (va : ℕ) (r : Removal) (x0 x1 : List ℕ) (i : ℕ) → low r → r .empties ≡ 0
+    → (r .spot .way .level < 4 → i ≡ indexOf (r .spot .way .level) va) → x1 ≡ written x0 (sp .origin) (r .spot .way .a) i 0
+    → (r .book ≡ bookAfter sp r) × (x1 ≡ carried x0 (sp .origin) (writesOf sp va r))
+unfolding writesOf cutWrites cutBook
+cuts-none sp va r x0 x1 i u e g f =
+    (simp e, f ∙ rw (g (omega (arith, u))) (simp e (carried-write x0 (sp .origin) (r .spot .way .a) (indexOf (r .spot .way .level) va) 0)))

@@ -50,6 +50,9 @@ endOf (Stopped w) = w
 abbrev pub noWay : Way
 noWay = record { why = Stray; level = 0; word = 0; a = 0; b = 0; c = 0; d = 0 }
 
+abbrev pub startOf : Space → Trail
+startOf sp = At (sp .root) noWay
+
 -- THE WAY of an address to its entry at the target level
 unfoldable pub wayOf : (ℕ → Bool) → (ℕ → ℕ) → Space → ℕ → ℕ → Way
-wayOf h m sp va target = endOf (downOf h m sp target va 4 (At (sp .root) noWay))
+wayOf h m sp va target = endOf (downOf h m sp target va 4 (startOf sp))

@@ -2,10 +2,11 @@
 ghost use mathlib.Core.Path.{_≡_};
 ghost use Prim.Native.Nat.{_<_};
 ghost use Rattle.word.specs.Memory.{memory, holds};
+ghost use Rattle.pool.specs.Stands.{standsOf};
+ghost use Rattle.pool.specs.declared.Fit.the-variants.{Fits};
 ghost use Rattle.plan.specs.Descend as the;
 use entry::Entry;
 use pool::Space;
-use word::Cell;
 
 pub enum Why {
     Nothing,
@@ -78,29 +79,45 @@ fn told(target: u64, n: u64, x: u64, w: Way, e: Entry) -> Trail
     }
 }
 
+// The pool lies in the window, so a page of it is read without a second test.
 fn arrive(mem: &[u8], space: Space, target: u64, va: u64, n: u64, t: u64, w: Way) -> Trail
-    requires { ⌜ n < 4 ⌝ }
+    requires { ⌜ (n < 4) × (standsOf (holds (now mem) (space .origin)) space ≡ Fits) ⌝ }
     ensures { λ r. ⌜ r ≡ the.arriveOf (holds (now (mem .entry)) (space .origin)) (memory (now (mem .entry)) (space .origin)) space target va n t w ⌝ }
 {
-    if pool::in_pool(space, t) {
-        let c = word::read(mem, space.origin, t, walk::index(n, va));
-        match c {
-            Cell::Word(x) => told(target, n, x, push(w, t), entry::decode(n, x)),
-            Cell::Outside => stop(Why::Stray, n, 0, w),
-        }
+    if pool::lies(space, t) {
+        let x = word::entry(mem, space.origin, t, walk::index(n, va));
+        told(target, n, x, push(w, t), entry::decode(n, x))
     } else {
         stop(Why::Stray, n, 0, w)
     }
 }
 
 fn step(mem: &[u8], space: Space, target: u64, va: u64, n: u64, s: Trail) -> Trail
-    requires { ⌜ n < 4 ⌝ }
+    requires { ⌜ (n < 4) × (standsOf (holds (now mem) (space .origin)) space ≡ Fits) ⌝ }
     ensures { λ r. ⌜ r ≡ the.stepOf (holds (now (mem .entry)) (space .origin)) (memory (now (mem .entry)) (space .origin)) space target va n s ⌝ }
 {
     match s {
         Trail::At(t, w) => arrive(mem, space, target, va, n, t, w),
         Trail::Stopped(w) => Trail::Stopped(w),
     }
+}
+
+// Where the way begins.
+fn start(space: Space) -> Trail
+    ensures { λ r. ⌜ r ≡ the.startOf space ⌝ }
+{
+    Trail::At(
+        space.root,
+        Way {
+            why: Why::Stray,
+            level: 0,
+            word: 0,
+            a: 0,
+            b: 0,
+            c: 0,
+            d: 0,
+        },
+    )
 }
 
 fn end(s: Trail) -> Way
@@ -112,20 +129,35 @@ fn end(s: Trail) -> Way
     }
 }
 
-// The way of an address to its entry at the target level.
-pub fn descend(mem: &[u8], space: Space, va: u64, target: u64) -> Way
+// The way of an address to its entry at the target level. It is written out for each operation, and called once: so the compiler
+// makes one piece of an operation, in which no way goes through memory (docs/SPEED.md).
+pub fn descend_to_map(mem: &[u8], space: Space, va: u64, target: u64) -> Way
+    requires { ⌜ standsOf (holds (now mem) (space .origin)) space ≡ Fits ⌝ }
     ensures { λ r. ⌜ r ≡ the.wayOf (holds (now (mem .entry)) (space .origin)) (memory (now (mem .entry)) (space .origin)) space va target ⌝ }
 {
-    let none = Way {
-        why: Why::Stray,
-        level: 0,
-        word: 0,
-        a: 0,
-        b: 0,
-        c: 0,
-        d: 0,
-    };
-    let s3 = step(mem, space, target, va, 3, Trail::At(space.root, none));
+    let s3 = step(mem, space, target, va, 3, start(space));
+    let s2 = step(mem, space, target, va, 2, s3);
+    let s1 = step(mem, space, target, va, 1, s2);
+    let s0 = step(mem, space, target, va, 0, s1);
+    end(s0)
+}
+
+pub fn descend_to_unmap(mem: &[u8], space: Space, va: u64, target: u64) -> Way
+    requires { ⌜ standsOf (holds (now mem) (space .origin)) space ≡ Fits ⌝ }
+    ensures { λ r. ⌜ r ≡ the.wayOf (holds (now (mem .entry)) (space .origin)) (memory (now (mem .entry)) (space .origin)) space va target ⌝ }
+{
+    let s3 = step(mem, space, target, va, 3, start(space));
+    let s2 = step(mem, space, target, va, 2, s3);
+    let s1 = step(mem, space, target, va, 1, s2);
+    let s0 = step(mem, space, target, va, 0, s1);
+    end(s0)
+}
+
+pub fn descend_to_protect(mem: &[u8], space: Space, va: u64, target: u64) -> Way
+    requires { ⌜ standsOf (holds (now mem) (space .origin)) space ≡ Fits ⌝ }
+    ensures { λ r. ⌜ r ≡ the.wayOf (holds (now (mem .entry)) (space .origin)) (memory (now (mem .entry)) (space .origin)) space va target ⌝ }
+{
+    let s3 = step(mem, space, target, va, 3, start(space));
     let s2 = step(mem, space, target, va, 2, s3);
     let s1 = step(mem, space, target, va, 1, s2);
     let s0 = step(mem, space, target, va, 0, s1);

@@ -7,7 +7,6 @@ mod unmaps;
 
 pub use descent::Way;
 pub use descent::Why;
-pub use descent::descend;
 pub use maps::Asked;
 pub use maps::Mapping;
 pub use maps::Placed;

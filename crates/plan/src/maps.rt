@@ -7,7 +7,7 @@ ghost use Rattle.plan.specs.Map as the;
 use crate::Reason;
 use crate::descent::Way;
 use crate::descent::Why;
-use crate::descent::descend;
+use crate::descent::descend_to_map;
 use entry::Made;
 use entry::Rights;
 use pool::Book;
@@ -167,7 +167,9 @@ fn supplied(mem: &[u8], space: Space, need: u64) -> Supply
             },
         });
     }
-    let o = pool::open(mem, space);
+    // A copy, so that the space itself need not lie in memory where no table is missing.
+    let sp = space;
+    let o = pool::open(mem, sp);
     match o {
         Opened::Refused(r) => Supply::Lacking(Reason::Pool(r)),
         Opened::Book(b) => {
@@ -255,7 +257,13 @@ fn standing(mem: &[u8], space: Space, q: Asked, target: u64) -> Placed
             if meets(space, q.frame, q.size) {
                 return Placed::Refused(Reason::FrameInPool);
             }
-            stopped(mem, space, q, target, descend(mem, space, q.base, target))
+            stopped(
+                mem,
+                space,
+                q,
+                target,
+                descend_to_map(mem, space, q.base, target),
+            )
         }
     }
 }
@@ -307,6 +315,11 @@ fn grow(mem: &mut [u8], origin: u64, va: u64, target: u64, p: u64, s: Reached) -
 fn build(mem: &mut [u8], origin: u64, m: Mapping)
     ensures { λ _. ⌜ (m .level < 4 → now (mem .exit) ≡ carried (now (mem .entry)) origin (the.buildOf m)) ⌝ }
 {
+    // no table is missing
+    if m.level <= m.target {
+        word::write(mem, origin, m.table, walk::index(m.level, m.base), m.word);
+        return;
+    }
     let f = m.fresh;
     let s0 = Reached {
         level: m.level,

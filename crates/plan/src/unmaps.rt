@@ -1,19 +1,20 @@
 // Unmap: the page's entry is cleared first; then each table that became empty is unlinked, bottom up, and set aside.
 ghost use mathlib.Core.Path.{_≡_};
-ghost use Prim.Native.Nat.{_<_};
+ghost use mathlib.Core.Bool.{true};
+ghost use Prim.Native.Nat.{_+_, _-_, _<_, _≤_};
 ghost use Rattle.word.specs.Memory.{memory, holds};
 ghost use Rattle.word.specs.Writes.{carried};
 ghost use Rattle.walk.specs.Walk.{indexOf};
+ghost use Rattle.plan.specs.Present.{presentOf};
 ghost use Rattle.plan.specs.Unmap as the;
 use crate::Reason;
 use crate::descent::Way;
 use crate::finding::Sought;
 use crate::finding::Spot;
-use crate::finding::find;
+use crate::finding::find_to_unmap;
 use pool::Book;
 use pool::Opened;
 use pool::Space;
-use word::Cell;
 
 // The page that goes, how many tables become empty with it, and the book that takes them.
 pub struct Removal {
@@ -27,30 +28,61 @@ pub enum Removing {
     Refused(Reason),
 }
 
-// Is entry k of page p another than i, and present?
-fn other(mem: &[u8], origin: u64, p: u64, i: u64, k: u64) -> bool
-    ensures { λ r. ⌜ (k < 512 → r ≡ the.otherOf (holds (now (mem .entry)) origin) (memory (now (mem .entry)) origin) p i k) ⌝ }
+// Is entry k of page p present, or the next one?
+fn two(mem: &[u8], origin: u64, p: u64, k: u64) -> bool
+    requires { ⌜ (holds (now mem) origin p ≡ true) × (k + 2 ≤ 512) ⌝ }
+    ensures { λ r. ⌜ r ≡ presentOf (memory (now (mem .entry)) origin) p k 2 ⌝ }
 {
-    if k == i {
-        return false;
+    word::odd(mem, origin, p, k) | word::odd(mem, origin, p, k + 1)
+}
+
+fn four(mem: &[u8], origin: u64, p: u64, k: u64) -> bool
+    requires { ⌜ (holds (now mem) origin p ≡ true) × (k + 4 ≤ 512) ⌝ }
+    ensures { λ r. ⌜ r ≡ presentOf (memory (now (mem .entry)) origin) p k 4 ⌝ }
+{
+    two(mem, origin, p, k) | two(mem, origin, p, k + 2)
+}
+
+// Is one of eight entries present? All are read before anything is tested.
+fn eight(mem: &[u8], origin: u64, p: u64, k: u64) -> bool
+    requires { ⌜ (holds (now mem) origin p ≡ true) × (k + 8 ≤ 512) ⌝ }
+    ensures { λ r. ⌜ r ≡ presentOf (memory (now (mem .entry)) origin) p k 8 ⌝ }
+{
+    four(mem, origin, p, k) | four(mem, origin, p, k + 4)
+}
+
+// Is one of the entries of page p present, from one up to another? Eight at a time, as long as there are eight.
+fn some(mem: &[u8], origin: u64, p: u64, from: u64, to: u64) -> bool
+    requires { ⌜ (holds (now mem) origin p ≡ true) × (to ≤ 512) ⌝ }
+    ensures { λ r. ⌜ r ≡ presentOf (memory (now (mem .entry)) origin) p from (to - from) ⌝ }
+{
+    let mut k: u64 = from;
+    while k < to {
+        if to - k < 8 {
+            if word::odd(mem, origin, p, k) {
+                return true;
+            }
+            k += 1;
+        } else {
+            if eight(mem, origin, p, k) {
+                return true;
+            }
+            k += 8;
+        }
     }
-    let c = word::read(mem, origin, p, k);
-    match c {
-        Cell::Word(w) => w % 2 == 1,
-        Cell::Outside => false,
-    }
+    false
 }
 
 // Has page p a present entry besides entry i?
 fn keeps(mem: &[u8], origin: u64, p: u64, i: u64) -> bool
+    requires { ⌜ i < 512 ⌝ }
     ensures { λ r. ⌜ r ≡ the.keepsOf (holds (now (mem .entry)) origin) (memory (now (mem .entry)) origin) p i 512 ⌝ }
 {
-    let mut k: u64 = 512;
-    while 0 < k {
-        k -= 1;
-        if other(mem, origin, p, i, k) {
+    if word::inside(mem, origin, p) {
+        if some(mem, origin, p, 0, i) {
             return true;
         }
+        return some(mem, origin, p, i + 1, 512);
     }
     false
 }
@@ -110,7 +142,9 @@ fn remove(mem: &[u8], space: Space, s: Spot, n: u64) -> Removing
             },
         });
     }
-    let o = pool::open(mem, space);
+    // A copy, so that the space itself need not lie in memory where no book is needed.
+    let sp = space;
+    let o = pool::open(mem, sp);
     match o {
         Opened::Refused(r) => Removing::Refused(Reason::Pool(r)),
         Opened::Book(b) => booked(space, s, n, b),
@@ -121,7 +155,7 @@ fn remove(mem: &[u8], space: Space, s: Spot, n: u64) -> Removing
 pub fn decide_unmap(mem: &[u8], space: Space, va: u64) -> Removing
     ensures { λ r. ⌜ r ≡ the.decideOf (holds (now (mem .entry)) (space .origin)) (memory (now (mem .entry)) (space .origin)) space va ⌝ }
 {
-    let s = find(mem, space, va);
+    let s = find_to_unmap(mem, space, va);
     match s {
         Sought::Refused(r) => Removing::Refused(r),
         Sought::Found(p) => {
@@ -167,7 +201,12 @@ pub fn carry_unmap(mem: &mut [u8], space: Space, va: u64, r: Removal) -> Book
         return b0;
     }
     word::write(mem, space.origin, w.a, walk::index(l, va), 0);
-    let b1 = cut(mem, space, va, 0, n, w.b, l + 1, w.a, b0);
-    let b2 = cut(mem, space, va, 1, n, w.c, l + 2, w.b, b1);
-    cut(mem, space, va, 2, n, w.d, l + 3, w.c, b2)
+    if n == 0 {
+        return b0;
+    }
+    // A copy, so that the space itself need not lie in memory where nothing becomes empty.
+    let sp = space;
+    let b1 = cut(mem, sp, va, 0, n, w.b, l + 1, w.a, b0);
+    let b2 = cut(mem, sp, va, 1, n, w.c, l + 2, w.b, b1);
+    cut(mem, sp, va, 2, n, w.d, l + 3, w.c, b2)
 }

@@ -16,6 +16,7 @@ use Rattle.pool.specs.declared.Reason.{Reason}
 use Rattle.pool.specs.declared.Listed.the-variants.{Bad}
 use Rattle.pool.specs.Book.{bookPages, wordOf, mark, bookOf, roomOf, inPool, soundOf, Sound, openedOf, openedIn, headerOf, checkedOf, namedOf, usableOf}
 use Rattle.pool.specs.Create.{mayCreate, newSpace, Roomy}
+use Rattle.pool.specs.Stands.{Counted}
 use Rattle.pool.proofs.Far.{word-at}
 use borrow.Author.Tests.{leb-true, le-leb, lt-ltb, eqb-true, eq-eqb}
 use lib.ListN.{length}
@@ -76,6 +77,9 @@ fit-inside s origin first pages f p u v =
     let a = held s origin first (f .from) in
     let z = held s origin (first + pages - 1) (f .upto) in
     simp (lt-ltb p (2 ^ 40) (omega (arith, z .small)), le-leb origin (4096 * p) (omega (arith, a .from)), le-leb (4096 * p + 4096) (origin + length s) (omega (arith, z .upto)))
+
+pub fit-counted : (s : List ℕ) (sp : Space) → Fitting (holds s (sp .origin)) (sp .first) (sp .pages) → Counted sp
+fit-counted s sp f = record { low = held s (sp .origin) (sp .first) (f .from) .small; small = f .small; enough = omega (arith, f .enough) }
 
 -- WHAT AN OPENED BOOK SHOWS, for any bytes
 pub record Open (h : ℕ → Bool) (m : ℕ → ℕ) (sp : Space) (b : Book) : Type 0 where

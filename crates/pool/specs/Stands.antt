@@ -1,5 +1,5 @@
 -- A space that makes sense, before any book is read; and a book with room for pages to be set aside.
-use Prim.Native.Nat.{ℕ, _+_}
+use Prim.Native.Nat.{ℕ, _+_, _^_, _<_, _≤_}
 use mathlib.Core.Bool.{Bool, cond, _&&_}
 use lib.Dec.{leb}
 use Rattle.pool.specs.declared.Space.{Space}
@@ -20,3 +20,9 @@ standsOf h sp = standsIn sp (roomOf h (sp .first) (sp .pages))
 -- n pages more can be set aside
 unfoldable pub takesOf : Space → Book → ℕ → Bool
 takesOf sp b n = soundOf (sp .pages) b && leb (b .free + b .aside + n + bookPages (sp .pages) + 1) (sp .pages)
+
+-- the numbers of a pool that lies in a window
+pub record Counted (sp : Space) : Type 0 where
+  pub low : sp .first < 2 ^ 40
+  pub small : sp .pages ≤ 2 ^ 32
+  pub enough : bookPages (sp .pages) ≤ sp .pages

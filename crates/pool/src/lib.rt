@@ -10,8 +10,12 @@ ghost use Rattle.pool.specs.Changes as to;
 ghost use Rattle.pool.specs.Stands as stand;
 use word::Cell;
 
+mod bounds;
 mod making;
 
+use bounds::book_of;
+pub use bounds::lies;
+use bounds::spans;
 pub use making::create;
 
 // "the book" in ASCII.
@@ -97,13 +101,11 @@ fn room(mem: &[u8], origin: u64, first: u64, pages: u64) -> Fit
     if MOST < pages {
         return Fit::Refused(Reason::PoolLarge);
     }
-    if pages < book_pages(pages) + 2 {
+    if pages < book_of(pages) + 2 {
         return Fit::Refused(Reason::PoolSmall);
     }
-    if word::inside(mem, origin, first) {
-        if word::inside(mem, origin, first + pages - 1) {
-            return Fit::Fits;
-        }
+    if spans(mem, origin, first, pages) {
+        return Fit::Fits;
     }
     Fit::Refused(Reason::PoolOutside)
 }
@@ -200,7 +202,7 @@ pub fn open(mem: &[u8], space: Space) -> Opened
     match fit {
         Fit::Refused(r) => Opened::Refused(r),
         Fit::Fits => {
-            if in_pool(space, space.root) {
+            if lies(space, space.root) {
                 return header(mem, space);
             }
             Opened::Refused(Reason::BadRoot)
@@ -353,7 +355,7 @@ pub fn stands(mem: &[u8], space: Space) -> Fit
     match fit {
         Fit::Refused(r) => Fit::Refused(r),
         Fit::Fits => {
-            if in_pool(space, space.root) {
+            if lies(space, space.root) {
                 return Fit::Fits;
             }
             Fit::Refused(Reason::BadRoot)

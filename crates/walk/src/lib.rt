@@ -117,10 +117,11 @@ pub fn answer(p: Place) -> Found
 pub fn look_up(mem: &[u8], origin: u64, root: u64, va: u64) -> Found
     ensures { λ f. ⌜ f ≡ the.walk (holds (now (mem .entry)) origin) (memory (now (mem .entry)) origin) root va ⌝ }
 {
-    let p4 = begin(root, va);
-    let p3 = step(mem, origin, 3, va, p4);
-    let p2 = step(mem, origin, 2, va, p3);
-    let p1 = step(mem, origin, 1, va, p2);
-    let p0 = step(mem, origin, 0, va, p1);
-    answer(p0)
+    let mut p = begin(root, va);
+    let mut n: u64 = 4;
+    while 0 < n {
+        n -= 1;
+        p = step(mem, origin, n, va, p);
+    }
+    answer(p)
 }

@@ -1,6 +1,10 @@
-use Rattle.walk.specs.Walk.{walk, run}
+use Prim.Native.Nat.{_≤_}
+use mathlib.Core.Path.{_≡_, refl, sym, ap, _∙_}
 use native.Mathlib.Omega.{arith}
 use borrow.Author.Needs.{needs}
+use Rattle.word.specs.Memory.{memory, holds}
+use Rattle.walk.specs.Walk.{walk, run, start, foundOf}
+use Rattle.walk.proofs.Steps.{run-down, run-none}
 use Rattle.walk.proofs.look_up.Statement.{statement}
 use Rattle.walk.proofs.look_up.Tie as tie
 use Rattle.walk.proofs.look_up.Reads as reads
@@ -9,43 +13,56 @@ use Rattle.walk.proofs.answer.Reads as answer-reads
 use Rattle.walk.proofs.begin.Reads as begin-reads
 use Rattle.walk.proofs.step.Reads as step-reads
 
+abbrev Inv-loop : tie.InvT-loop
+Inv-loop mem origin root va p₀ n₀ p n = (n ≤ 4) × (run (holds mem origin) (memory mem origin) 4 va (start root va) ≡ run (holds mem origin) (memory mem origin) n va p)
+
+abbrev μ-loop : tie.MeasureT-loop
+μ-loop mem origin root va p₀ n₀ p n = n
+
 -- src/lib.rt:120:9
-begin-requires : tie.Need-begin-requires
+begin-requires : tie.Need-begin-requires Inv-loop μ-loop
 begin-requires c κs = search needs
 
--- src/lib.rt:121:9
-step-requires : tie.Need-step-requires
-step-requires c κs = search needs
-
--- src/lib.rt:122:9
-step-requires-2 : tie.Need-step-requires-2
-step-requires-2 c κs = search needs
+-- src/lib.rt:122:5
+loop-holds : tie.Need-loop-holds Inv-loop μ-loop
+loop-holds c = (omega arith, rw (c .begin .ensures))
 
 -- src/lib.rt:123:9
-step-requires-3 : tie.Need-step-requires-3
-step-requires-3 c κs = search needs
+sub-n : tie.Need-sub-n Inv-loop μ-loop
+sub-n c = omega arith
 
 -- src/lib.rt:124:9
-step-requires-4 : tie.Need-step-requires-4
-step-requires-4 c κs = search needs
+step-requires : tie.Need-step-requires Inv-loop μ-loop
+step-requires c κs = search needs
 
--- src/lib.rt:125:5
-answer-requires : tie.Need-answer-requires
+-- src/lib.rt:122:5
+loop-less : tie.Need-loop-less Inv-loop μ-loop
+loop-less c = omega arith
+
+-- src/lib.rt:122:5
+loop-again : tie.Need-loop-again Inv-loop μ-loop
+loop-again c = (omega arith, c .before .before .loop .inv .1 ∙ (run-down _ _ _ _ _ (omega arith) ∙ rw (c .step .ensures (omega arith))))
+
+-- src/lib.rt:126:5
+answer-requires : tie.Need-answer-requires Inv-loop μ-loop
 answer-requires c κs = search needs
 
 -- src/lib.rt:117:1
-returns : tie.Need-returns
-unfolding walk run
-returns c = rw (c .answer .ensures, c .before .step4 .ensures (omega arith), c .before .before .step3 .ensures (omega arith), c .before .before .before .step2 .ensures (omega arith), c .before .before .before .before .step .ensures (omega arith), c .before .before .before .before .before .begin .ensures)
+returns : tie.Need-returns Inv-loop μ-loop
+unfolding walk
+returns c = let z : c .before .before .loop .n ≡ 0 = omega arith in rw (c .answer .ensures) (ap foundOf (sym (c .before .before .loop .inv .1 ∙ rw z (run-none _ _ _ _))))
 
 pub look-up-spec : {M : Type 1} → statement M
 look-up-spec =
     tie.close
     (tie.spec
+    Inv-loop
+    μ-loop
     begin-requires
+    loop-holds
+    sub-n
     step-requires
-    step-requires-2
-    step-requires-3
-    step-requires-4
+    loop-less
+    loop-again
     answer-requires
     returns)

@@ -1,3 +1,4 @@
+use Rattle.walk.proofs.Digits.{index-lt}
 use Rattle.plan.specs.Unmap.{emptiedOf}
 use mathlib.Core.Path.{_≡_, sym, _∙_}
 use native.Mathlib.Omega.{arith}
@@ -21,7 +22,7 @@ index-requires c κs = search needs
 
 -- src/unmaps.rt:65:8
 keeps-requires : tie.Need-keeps-requires
-keeps-requires c κs = search needs
+keeps-requires c κs = rw (c .index .ensures (omega arith)) (index-lt _ _)
 
 -- src/unmaps.rt:66:9
 returns-2 : tie.Need-returns-2
@@ -43,7 +44,7 @@ index-requires-2 c κs = search needs
 
 -- src/unmaps.rt:71:8
 keeps-requires-2 : tie.Need-keeps-requires-2
-keeps-requires-2 c κs = search needs
+keeps-requires-2 c κs = rw (c .index2 .ensures (omega arith)) (index-lt _ _)
 
 -- src/unmaps.rt:72:9
 returns-4 : tie.Need-returns-4
@@ -61,7 +62,7 @@ index-requires-3 c κs = search needs
 
 -- src/unmaps.rt:77:8
 keeps-requires-3 : tie.Need-keeps-requires-3
-keeps-requires-3 c κs = search needs
+keeps-requires-3 c κs = rw (c .index3 .ensures (omega arith)) (index-lt _ _)
 
 -- src/unmaps.rt:78:9
 returns-6 : tie.Need-returns-6

@@ -1,59 +1,44 @@
-use Prim.Native.Nat.{_≤_}
-use mathlib.Core.Path.{_≡_, refl, sym, _∙_}
+use Prim.Native.Nat.{_-_}
+use mathlib.Core.Path.{_≡_, sym, ap, _∙_}
 use native.Mathlib.Omega.{arith}
-use Rattle.word.specs.Memory.{memory, holds}
-use Rattle.plan.specs.Unmap.{keepsOf}
-use Rattle.plan.proofs.Keeping.{keeps-here, keeps-below, keeps-none}
+use Rattle.plan.proofs.Keeping.{keeps-split, keeps-outside}
+use borrow.Author.Needs.{needs}
 use Rattle.plan.proofs.unmaps.keeps.Statement.{statement}
 use Rattle.plan.proofs.unmaps.keeps.Tie as tie
 use Rattle.plan.proofs.unmaps.keeps.Reads as reads
 use Rattle.plan.proofs.unmaps.keeps.Lts as lts
-use Rattle.plan.proofs.unmaps.other.Reads as other-reads
+use Rattle.plan.proofs.unmaps.some.Reads as some-reads
+use Rattle.word.proofs.inside.Reads as inside-reads
 
-abbrev Inv-loop : tie.InvT-loop
-Inv-loop mem origin p i k₀ k = (k ≤ 512) × (keepsOf (holds mem origin) (memory mem origin) p i 512 ≡ keepsOf (holds mem origin) (memory mem origin) p i k)
+-- src/unmaps.rt:81:8
+inside-requires : tie.Need-inside-requires
+inside-requires c κs = search needs
 
-abbrev μ-loop : tie.MeasureT-loop
-μ-loop mem origin p i k₀ k = k
+-- src/unmaps.rt:82:12
+some-requires : tie.Need-some-requires
+some-requires c κs = (sym (c .before .inside .ensures) ∙ c .if1 .taken, omega (arith, c .before .before .before .pre))
 
--- src/unmaps.rt:49:5
-loop-holds : tie.Need-loop-holds Inv-loop μ-loop
-loop-holds c = (omega arith, refl)
+-- src/unmaps.rt:83:13
+returns : tie.Need-returns
+returns c = let z : c .before .before .before .before .before .args .i - 0 ≡ c .before .before .before .before .before .args .i = omega arith in sym (keeps-split _ _ _ _ (sym (c .before .before .before .inside .ensures) ∙ c .before .before .if1 .taken) (c .before .before .before .before .before .pre) ∙ rw (rw z at (sym (c .before .some .ensures) ∙ c .if2 .taken)))
 
--- src/unmaps.rt:50:9
-sub-k : tie.Need-sub-k Inv-loop μ-loop
-sub-k c = omega arith
+-- src/unmaps.rt:85:37
+add-some : tie.Need-add-some
+add-some c = search needs
 
--- src/unmaps.rt:51:12
-other-requires : tie.Need-other-requires Inv-loop μ-loop
-other-requires c κs = tt
+-- src/unmaps.rt:85:9
+some-requires-2 : tie.Need-some-requires-2
+some-requires-2 c κs = (sym (c .before .before .before .inside .ensures) ∙ c .before .before .if1 .taken, omega arith)
 
--- src/unmaps.rt:52:13
-returns : tie.Need-returns Inv-loop μ-loop
-returns c = sym (c .before .before .before .loop .inv .1 ∙ keeps-here _ _ _ _ _ (omega arith) (sym (c .before .other .ensures (omega arith)) ∙ c .if1 .taken))
+-- src/unmaps.rt:85:9
+returns-2 : tie.Need-returns-2
+returns-2 c = let z : c .before .before .before .before .before .before .args .i - 0 ≡ c .before .before .before .before .before .before .args .i = omega arith in c .some2 .ensures ∙ sym (keeps-split _ _ _ _ (sym (c .before .before .before .before .inside .ensures) ∙ c .before .before .before .if1 .taken) (c .before .before .before .before .before .before .pre) ∙ rw (rw z at (sym (c .before .before .some .ensures) ∙ c .before .if2 .left)))
 
--- src/unmaps.rt:49:5
-loop-less : tie.Need-loop-less Inv-loop μ-loop
-loop-less c = omega arith
-
--- src/unmaps.rt:49:5
-loop-again : tie.Need-loop-again Inv-loop μ-loop
-loop-again c = (omega arith, c .before .before .before .loop .inv .1 ∙ keeps-below _ _ _ _ _ (omega arith) (sym (c .before .other .ensures (omega arith)) ∙ c .if1 .left))
-
--- src/unmaps.rt:45:1
-returns-2 : tie.Need-returns-2 Inv-loop μ-loop
-returns-2 c = let z : c .before .loop .k ≡ 0 = omega arith in sym (c .before .loop .inv .1 ∙ rw z (keeps-none _ _ _ _))
+-- src/unmaps.rt:77:1
+returns-3 : tie.Need-returns-3
+returns-3 c = sym (keeps-outside _ _ _ _ 512 (sym (c .before .inside .ensures) ∙ c .if1 .left))
 
 pub keeps-spec : {M : Type 1} → statement M
 keeps-spec =
     tie.close
-    (tie.spec
-    Inv-loop
-    μ-loop
-    loop-holds
-    sub-k
-    other-requires
-    returns
-    loop-less
-    loop-again
-    returns-2)
+    (tie.spec inside-requires some-requires returns add-some some-requires-2 returns-2 returns-3)

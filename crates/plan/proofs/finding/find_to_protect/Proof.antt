@@ -1,0 +1,59 @@
+use Rattle.plan.specs.Find.{foundOf, soughtOf}
+use mathlib.Core.Path.{_≡_, sym, _∙_}
+use borrow.Author.Tests.{lt-ltb, le-ltb}
+use borrow.Author.Needs.{needs}
+use Rattle.plan.proofs.finding.find_to_protect.Statement.{statement}
+use Rattle.plan.proofs.finding.find_to_protect.Tie as tie
+use Rattle.plan.proofs.finding.find_to_protect.Reads as reads
+use Rattle.plan.proofs.finding.find_to_protect.Lts as lts
+use Rattle.plan.proofs.descent.descend_to_protect.Reads as descend-to-protect-reads
+use Rattle.plan.proofs.finding.stopped.Reads as stopped-reads
+use Rattle.pool.proofs.stands.Reads as stands-reads
+
+-- src/finding.rt:72:9
+stands-requires : tie.Need-stands-requires
+stands-requires c κs = search needs
+
+-- src/finding.rt:74:22
+enum-known-fit : tie.Need-enum-known-fit
+enum-known-fit c = search needs
+
+-- src/finding.rt:76:16
+enum-told : tie.Need-enum-told
+enum-told c = search needs
+
+-- src/finding.rt:77:17
+returns : tie.Need-returns
+unfolding foundOf soughtOf
+returns c = simp (sym (c .before .before .before .stands .ensures) ∙ c .before .enum-told .given .1, le-ltb _ _ (c .if1 .taken))
+
+-- src/finding.rt:79:25
+descend-to-protect-requires : tie.Need-descend-to-protect-requires
+descend-to-protect-requires c κs = sym (c .before .before .before .stands .ensures) ∙ c .before .enum-told .given .1
+
+-- src/finding.rt:79:13
+stopped-requires : tie.Need-stopped-requires
+stopped-requires c κs = search needs
+
+-- src/finding.rt:69:1
+returns-2 : tie.Need-returns-2
+unfolding foundOf soughtOf
+returns-2 c = simp (sym (c .before .before .before .stands .ensures) ∙ c .before .fit .given .1)
+
+-- src/finding.rt:69:1
+returns-3 : tie.Need-returns-3
+unfolding foundOf soughtOf
+returns-3 c = simp (sym (c .before .before .before .before .before .stands .ensures) ∙ c .before .before .before .enum-told .given .1, lt-ltb _ _ (c .before .before .if1 .left), c .stopped .ensures, c .before .descend-to-protect .ensures)
+
+pub find-to-protect-spec : {M : Type 1} → statement M
+find-to-protect-spec =
+    tie.close
+    (tie.spec
+    stands-requires
+    enum-known-fit
+    enum-told
+    returns
+    descend-to-protect-requires
+    stopped-requires
+    returns-2
+    returns-3)
