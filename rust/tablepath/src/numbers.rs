@@ -21,12 +21,6 @@ macro_rules! answers {
         #[repr(C)]
         #[derive(Clone, Copy, PartialEq, Eq, Hash, Debug, Default)]
         pub struct $name { $($(#[$tells])* pub $field: u64,)* }
-
-        impl $name {
-            // A field that the library did not set would show.
-            #[allow(dead_code)]
-            const UNSET: $name = $name { $($field: !0),* };
-        }
     )* };
 }
 
@@ -123,14 +117,17 @@ macro_rules! long {
 
         #[cfg(not(target_arch = "x86_64"))]
         #[allow(clippy::too_many_arguments)]
+        #[inline]
         unsafe fn $name($($argument: $type),*) -> $answer {
             extern "C" {
                 fn $name(to: *mut $answer, $($argument: $type),*);
             }
-            let mut answer = $answer::UNSET;
-            // SAFETY: the answer is here until the call is over; the rest is as the caller has it.
-            unsafe { $name(&mut answer, $($argument),*) };
-            answer
+            let mut answer = core::mem::MaybeUninit::uninit();
+            // SAFETY: the answer is here until the call is over, and the library sets every field of it; the rest is as the caller has it.
+            unsafe {
+                $name(answer.as_mut_ptr(), $($argument),*);
+                answer.assume_init()
+            }
         }
     };
 }
@@ -144,40 +141,47 @@ long!(tp_entry(mem: *const u8, len: usize, origin: u64, table: u64, level: u64, 
 // end and to read and write inside it alone, for any bytes and any numbers (crates/abi: no function has a `requires`).
 
 /// `tp_create`.
+#[inline]
 pub fn create(mem: &mut [u8], origin: u64, pool: u64, pages: u64) -> Created {
     unsafe { tp_create(mem.as_mut_ptr(), mem.len(), origin, pool, pages) }
 }
 
 /// `tp_map`.
+#[inline]
 pub fn map(mem: &mut [u8], space: Space, base: u64, frame: u64, size: u64, rights: u64) -> Mapped {
     let Space { origin, pool, pages, root } = space;
     unsafe { tp_map(mem.as_mut_ptr(), mem.len(), origin, pool, pages, root, base, frame, size, rights) }
 }
 
 /// `tp_unmap`.
+#[inline]
 pub fn unmap(mem: &mut [u8], space: Space, base: u64) -> Unmapped {
     let Space { origin, pool, pages, root } = space;
     unsafe { tp_unmap(mem.as_mut_ptr(), mem.len(), origin, pool, pages, root, base) }
 }
 
 /// `tp_protect`.
+#[inline]
 pub fn protect(mem: &mut [u8], space: Space, base: u64, rights: u64) -> Protected {
     let Space { origin, pool, pages, root } = space;
     unsafe { tp_protect(mem.as_mut_ptr(), mem.len(), origin, pool, pages, root, base, rights) }
 }
 
 /// `tp_told`.
+#[inline]
 pub fn told(mem: &mut [u8], space: Space, ticket: u64) -> Told {
     let Space { origin, pool, pages, root } = space;
     unsafe { tp_told(mem.as_mut_ptr(), mem.len(), origin, pool, pages, root, ticket) }
 }
 
 /// `tp_look_up`.
+#[inline]
 pub fn look_up(mem: &[u8], origin: u64, root: u64, va: u64) -> LookedUp {
     unsafe { tp_look_up(mem.as_ptr(), mem.len(), origin, root, va) }
 }
 
 /// `tp_entry`.
+#[inline]
 pub fn entry(mem: &[u8], origin: u64, table: u64, level: u64, index: u64) -> Said {
     unsafe { tp_entry(mem.as_ptr(), mem.len(), origin, table, level, index) }
 }
