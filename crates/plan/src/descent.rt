@@ -129,31 +129,8 @@ fn end(s: Trail) -> Way
     }
 }
 
-// The way of an address to its entry at the target level. It is written out for each operation, and called once: so the compiler
-// makes one piece of an operation, in which no way goes through memory (docs/SPEED.md).
-pub fn descend_to_map(mem: &[u8], space: Space, va: u64, target: u64) -> Way
-    requires { ⌜ standsOf (holds (now mem) (space .origin)) space ≡ Fits ⌝ }
-    ensures { λ r. ⌜ r ≡ the.wayOf (holds (now (mem .entry)) (space .origin)) (memory (now (mem .entry)) (space .origin)) space va target ⌝ }
-{
-    let s3 = step(mem, space, target, va, 3, start(space));
-    let s2 = step(mem, space, target, va, 2, s3);
-    let s1 = step(mem, space, target, va, 1, s2);
-    let s0 = step(mem, space, target, va, 0, s1);
-    end(s0)
-}
-
-pub fn descend_to_unmap(mem: &[u8], space: Space, va: u64, target: u64) -> Way
-    requires { ⌜ standsOf (holds (now mem) (space .origin)) space ≡ Fits ⌝ }
-    ensures { λ r. ⌜ r ≡ the.wayOf (holds (now (mem .entry)) (space .origin)) (memory (now (mem .entry)) (space .origin)) space va target ⌝ }
-{
-    let s3 = step(mem, space, target, va, 3, start(space));
-    let s2 = step(mem, space, target, va, 2, s3);
-    let s1 = step(mem, space, target, va, 1, s2);
-    let s0 = step(mem, space, target, va, 0, s1);
-    end(s0)
-}
-
-pub fn descend_to_protect(mem: &[u8], space: Space, va: u64, target: u64) -> Way
+// The way of an address to its entry at the target level.
+pub fn descend(mem: &[u8], space: Space, va: u64, target: u64) -> Way
     requires { ⌜ standsOf (holds (now mem) (space .origin)) space ≡ Fits ⌝ }
     ensures { λ r. ⌜ r ≡ the.wayOf (holds (now (mem .entry)) (space .origin)) (memory (now (mem .entry)) (space .origin)) space va target ⌝ }
 {

@@ -6,8 +6,7 @@ ghost use Rattle.plan.specs.Find as the;
 use crate::Reason;
 use crate::descent::Way;
 use crate::descent::Why;
-use crate::descent::descend_to_protect;
-use crate::descent::descend_to_unmap;
+use crate::descent::descend;
 use entry::Entry;
 use pool::Fit;
 use pool::Space;
@@ -66,8 +65,8 @@ fn stopped(va: u64, w: Way) -> Sought
     }
 }
 
-// Finds the page that starts at va, or says why there is none. Written out for each operation, as the way is.
-pub fn find_to_unmap(mem: &[u8], space: Space, va: u64) -> Sought
+// Finds the page that starts at va, or says why there is none.
+pub fn find(mem: &[u8], space: Space, va: u64) -> Sought
     ensures { λ r. ⌜ r ≡ the.foundOf (holds (now (mem .entry)) (space .origin)) (memory (now (mem .entry)) (space .origin)) space va ⌝ }
 {
     let fit = pool::stands(mem, space);
@@ -77,22 +76,7 @@ pub fn find_to_unmap(mem: &[u8], space: Space, va: u64) -> Sought
             if 281474976710656 <= va {
                 return Sought::Refused(Reason::NothingStarts);
             }
-            stopped(va, descend_to_unmap(mem, space, va, 4))
-        }
-    }
-}
-
-pub fn find_to_protect(mem: &[u8], space: Space, va: u64) -> Sought
-    ensures { λ r. ⌜ r ≡ the.foundOf (holds (now (mem .entry)) (space .origin)) (memory (now (mem .entry)) (space .origin)) space va ⌝ }
-{
-    let fit = pool::stands(mem, space);
-    match fit {
-        Fit::Refused(r) => Sought::Refused(Reason::Pool(r)),
-        Fit::Fits => {
-            if 281474976710656 <= va {
-                return Sought::Refused(Reason::NothingStarts);
-            }
-            stopped(va, descend_to_protect(mem, space, va, 4))
+            stopped(va, descend(mem, space, va, 4))
         }
     }
 }

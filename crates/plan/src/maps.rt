@@ -7,7 +7,7 @@ ghost use Rattle.plan.specs.Map as the;
 use crate::Reason;
 use crate::descent::Way;
 use crate::descent::Why;
-use crate::descent::descend_to_map;
+use crate::descent::descend;
 use entry::Made;
 use entry::Rights;
 use pool::Book;
@@ -257,13 +257,7 @@ fn standing(mem: &[u8], space: Space, q: Asked, target: u64) -> Placed
             if meets(space, q.frame, q.size) {
                 return Placed::Refused(Reason::FrameInPool);
             }
-            stopped(
-                mem,
-                space,
-                q,
-                target,
-                descend_to_map(mem, space, q.base, target),
-            )
+            stopped(mem, space, q, target, descend(mem, space, q.base, target))
         }
     }
 }

@@ -6,7 +6,7 @@ ghost use Rattle.plan.specs.Protect as the;
 use crate::Reason;
 use crate::finding::Sought;
 use crate::finding::Spot;
-use crate::finding::find_to_protect;
+use crate::finding::find;
 use entry::Rights;
 use pool::Space;
 
@@ -41,7 +41,7 @@ fn changed(va: u64, s: Spot, rights: Rights) -> Change
 pub fn decide_protect(mem: &[u8], space: Space, va: u64, rights: Rights) -> Changing
     ensures { λ r. ⌜ r ≡ the.decideOf (holds (now (mem .entry)) (space .origin)) (memory (now (mem .entry)) (space .origin)) space va rights ⌝ }
 {
-    let s = find_to_protect(mem, space, va);
+    let s = find(mem, space, va);
     match s {
         Sought::Refused(r) => Changing::Refused(r),
         Sought::Found(p) => Changing::Go(changed(va, p, rights)),

@@ -11,7 +11,7 @@ use crate::Reason;
 use crate::descent::Way;
 use crate::finding::Sought;
 use crate::finding::Spot;
-use crate::finding::find_to_unmap;
+use crate::finding::find;
 use pool::Book;
 use pool::Opened;
 use pool::Space;
@@ -155,7 +155,7 @@ fn remove(mem: &[u8], space: Space, s: Spot, n: u64) -> Removing
 pub fn decide_unmap(mem: &[u8], space: Space, va: u64) -> Removing
     ensures { λ r. ⌜ r ≡ the.decideOf (holds (now (mem .entry)) (space .origin)) (memory (now (mem .entry)) (space .origin)) space va ⌝ }
 {
-    let s = find_to_unmap(mem, space, va);
+    let s = find(mem, space, va);
     match s {
         Sought::Refused(r) => Removing::Refused(r),
         Sought::Found(p) => {

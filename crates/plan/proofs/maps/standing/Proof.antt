@@ -6,7 +6,7 @@ use Rattle.plan.proofs.maps.standing.Statement.{statement}
 use Rattle.plan.proofs.maps.standing.Tie as tie
 use Rattle.plan.proofs.maps.standing.Reads as reads
 use Rattle.plan.proofs.maps.standing.Lts as lts
-use Rattle.plan.proofs.descent.descend_to_map.Reads as descend-to-map-reads
+use Rattle.plan.proofs.descent.descend.Reads as descend-reads
 use Rattle.plan.proofs.maps.meets.Reads as meets-reads
 use Rattle.plan.proofs.maps.stopped.Reads as stopped-reads
 use Rattle.pool.proofs.stands.Reads as stands-reads
@@ -33,8 +33,8 @@ unfolding standingOf fittingOf
 returns c = λ u. let e = sym (c .before .before .before .before .stands .ensures) ∙ c .before .before .enum-told .given .1 in simp (e, sym (c .before .meets .ensures u (stands _ _ e .fits .small)) ∙ c .if1 .taken)
 
 -- src/maps.rt:245:44
-descend-to-map-requires : tie.Need-descend-to-map-requires
-descend-to-map-requires c κs = sym (c .before .before .before .before .stands .ensures) ∙ c .before .before .enum-told .given .1
+descend-requires : tie.Need-descend-requires
+descend-requires c κs = sym (c .before .before .before .before .stands .ensures) ∙ c .before .before .enum-told .given .1
 
 -- src/maps.rt:245:13
 stopped-requires : tie.Need-stopped-requires
@@ -48,7 +48,7 @@ returns-2 c = λ u. simp (sym (c .before .before .before .stands .ensures) ∙ c
 -- src/maps.rt:235:1
 returns-3 : tie.Need-returns-3
 unfolding standingOf fittingOf
-returns-3 c = λ u. let e = sym (c .before .before .before .before .before .before .stands .ensures) ∙ c .before .before .before .before .enum-told .given .1 in simp (e, sym (c .before .before .before .meets .ensures u (stands _ _ e .fits .small)) ∙ c .before .before .if1 .left, c .stopped .ensures, c .before .descend-to-map .ensures)
+returns-3 c = λ u. let e = sym (c .before .before .before .before .before .before .stands .ensures) ∙ c .before .before .before .before .enum-told .given .1 in simp (e, sym (c .before .before .before .meets .ensures u (stands _ _ e .fits .small)) ∙ c .before .before .if1 .left, c .stopped .ensures, c .before .descend .ensures)
 
 pub standing-spec : {M : Type 1} → statement M
 standing-spec =
@@ -59,7 +59,7 @@ standing-spec =
     enum-told
     meets-requires
     returns
-    descend-to-map-requires
+    descend-requires
     stopped-requires
     returns-2
     returns-3)

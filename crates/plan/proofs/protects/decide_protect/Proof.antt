@@ -6,12 +6,12 @@ use Rattle.plan.proofs.protects.decide_protect.Statement.{statement}
 use Rattle.plan.proofs.protects.decide_protect.Tie as tie
 use Rattle.plan.proofs.protects.decide_protect.Reads as reads
 use Rattle.plan.proofs.protects.decide_protect.Lts as lts
-use Rattle.plan.proofs.finding.find_to_protect.Reads as find-to-protect-reads
+use Rattle.plan.proofs.finding.find.Reads as find-reads
 use Rattle.plan.proofs.protects.changed.Reads as changed-reads
 
 -- src/protects.rt:44:9
-find-to-protect-requires : tie.Need-find-to-protect-requires
-find-to-protect-requires c κs = search needs
+find-requires : tie.Need-find-requires
+find-requires c κs = search needs
 
 -- src/protects.rt:46:25
 enum-known-s : tie.Need-enum-known-s
@@ -28,14 +28,14 @@ changed-requires c κs = search needs
 -- src/protects.rt:41:1
 returns : tie.Need-returns
 unfolding decideOf changingOf
-returns c = rw (sym (c .before .before .before .find-to-protect .ensures) ∙ c .before .s .given .1)
+returns c = rw (sym (c .before .before .before .find .ensures) ∙ c .before .s .given .1)
 
 -- src/protects.rt:41:1
 returns-2 : tie.Need-returns-2
 unfolding decideOf changingOf
-returns-2 c = let e = sym (c .before .before .before .before .find-to-protect .ensures) ∙ c .before .before .s2 .given .1 in rw (e, c .changed .ensures (found-at _ _ _ _ _ e .low))
+returns-2 c = let e = sym (c .before .before .before .before .find .ensures) ∙ c .before .before .s2 .given .1 in rw (e, c .changed .ensures (found-at _ _ _ _ _ e .low))
 
 pub decide-protect-spec : {M : Type 1} → statement M
 decide-protect-spec =
     tie.close
-    (tie.spec find-to-protect-requires enum-known-s enum-known-s-2 changed-requires returns returns-2)
+    (tie.spec find-requires enum-known-s enum-known-s-2 changed-requires returns returns-2)

@@ -5,13 +5,13 @@ use Rattle.plan.proofs.unmaps.decide_unmap.Statement.{statement}
 use Rattle.plan.proofs.unmaps.decide_unmap.Tie as tie
 use Rattle.plan.proofs.unmaps.decide_unmap.Reads as reads
 use Rattle.plan.proofs.unmaps.decide_unmap.Lts as lts
-use Rattle.plan.proofs.finding.find_to_unmap.Reads as find-to-unmap-reads
+use Rattle.plan.proofs.finding.find.Reads as find-reads
 use Rattle.plan.proofs.unmaps.emptied.Reads as emptied-reads
 use Rattle.plan.proofs.unmaps.remove.Reads as remove-reads
 
 -- src/unmaps.rt:124:9
-find-to-unmap-requires : tie.Need-find-to-unmap-requires
-find-to-unmap-requires c κs = search needs
+find-requires : tie.Need-find-requires
+find-requires c κs = search needs
 
 -- src/unmaps.rt:126:25
 enum-known-s : tie.Need-enum-known-s
@@ -32,18 +32,18 @@ remove-requires c κs = search needs
 -- src/unmaps.rt:121:1
 returns : tie.Need-returns
 unfolding decideOf soughtOf
-returns c = rw (sym (c .before .before .before .find-to-unmap .ensures) ∙ c .before .s .given .1)
+returns c = rw (sym (c .before .before .before .find .ensures) ∙ c .before .s .given .1)
 
 -- src/unmaps.rt:121:1
 returns-2 : tie.Need-returns-2
 unfolding decideOf soughtOf
-returns-2 c = rw (sym (c .before .before .before .before .before .before .find-to-unmap .ensures) ∙ c .before .before .before .before .s2 .given .1, c .remove .ensures, c .before .emptied .ensures)
+returns-2 c = rw (sym (c .before .before .before .before .before .before .find .ensures) ∙ c .before .before .before .before .s2 .given .1, c .remove .ensures, c .before .emptied .ensures)
 
 pub decide-unmap-spec : {M : Type 1} → statement M
 decide-unmap-spec =
     tie.close
     (tie.spec
-    find-to-unmap-requires
+    find-requires
     enum-known-s
     enum-known-s-2
     emptied-requires

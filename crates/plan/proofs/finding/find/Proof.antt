@@ -2,11 +2,11 @@ use Rattle.plan.specs.Find.{foundOf, soughtOf}
 use mathlib.Core.Path.{_≡_, sym, _∙_}
 use borrow.Author.Tests.{lt-ltb, le-ltb}
 use borrow.Author.Needs.{needs}
-use Rattle.plan.proofs.finding.find_to_unmap.Statement.{statement}
-use Rattle.plan.proofs.finding.find_to_unmap.Tie as tie
-use Rattle.plan.proofs.finding.find_to_unmap.Reads as reads
-use Rattle.plan.proofs.finding.find_to_unmap.Lts as lts
-use Rattle.plan.proofs.descent.descend_to_unmap.Reads as descend-to-unmap-reads
+use Rattle.plan.proofs.finding.find.Statement.{statement}
+use Rattle.plan.proofs.finding.find.Tie as tie
+use Rattle.plan.proofs.finding.find.Reads as reads
+use Rattle.plan.proofs.finding.find.Lts as lts
+use Rattle.plan.proofs.descent.descend.Reads as descend-reads
 use Rattle.plan.proofs.finding.stopped.Reads as stopped-reads
 use Rattle.pool.proofs.stands.Reads as stands-reads
 
@@ -28,8 +28,8 @@ unfolding foundOf soughtOf
 returns c = simp (sym (c .before .before .before .stands .ensures) ∙ c .before .enum-told .given .1, le-ltb _ _ (c .if1 .taken))
 
 -- src/finding.rt:79:25
-descend-to-unmap-requires : tie.Need-descend-to-unmap-requires
-descend-to-unmap-requires c κs = sym (c .before .before .before .stands .ensures) ∙ c .before .enum-told .given .1
+descend-requires : tie.Need-descend-requires
+descend-requires c κs = sym (c .before .before .before .stands .ensures) ∙ c .before .enum-told .given .1
 
 -- src/finding.rt:79:13
 stopped-requires : tie.Need-stopped-requires
@@ -43,17 +43,17 @@ returns-2 c = simp (sym (c .before .before .before .stands .ensures) ∙ c .befo
 -- src/finding.rt:69:1
 returns-3 : tie.Need-returns-3
 unfolding foundOf soughtOf
-returns-3 c = simp (sym (c .before .before .before .before .before .stands .ensures) ∙ c .before .before .before .enum-told .given .1, lt-ltb _ _ (c .before .before .if1 .left), c .stopped .ensures, c .before .descend-to-unmap .ensures)
+returns-3 c = simp (sym (c .before .before .before .before .before .stands .ensures) ∙ c .before .before .before .enum-told .given .1, lt-ltb _ _ (c .before .before .if1 .left), c .stopped .ensures, c .before .descend .ensures)
 
-pub find-to-unmap-spec : {M : Type 1} → statement M
-find-to-unmap-spec =
+pub find-spec : {M : Type 1} → statement M
+find-spec =
     tie.close
     (tie.spec
     stands-requires
     enum-known-fit
     enum-told
     returns
-    descend-to-unmap-requires
+    descend-requires
     stopped-requires
     returns-2
     returns-3)

@@ -1,9 +1,9 @@
 use Rattle.plan.specs.Descend.{wayOf, downOf}
 use borrow.Author.Needs.{needs}
-use Rattle.plan.proofs.descent.descend_to_protect.Statement.{statement}
-use Rattle.plan.proofs.descent.descend_to_protect.Tie as tie
-use Rattle.plan.proofs.descent.descend_to_protect.Reads as reads
-use Rattle.plan.proofs.descent.descend_to_protect.Lts as lts
+use Rattle.plan.proofs.descent.descend.Statement.{statement}
+use Rattle.plan.proofs.descent.descend.Tie as tie
+use Rattle.plan.proofs.descent.descend.Reads as reads
+use Rattle.plan.proofs.descent.descend.Lts as lts
 use Rattle.plan.proofs.descent.end.Reads as end-reads
 use Rattle.plan.proofs.descent.start.Reads as start-reads
 use Rattle.plan.proofs.descent.step.Reads as step-reads
@@ -35,7 +35,7 @@ returns : tie.Need-returns
 unfolding wayOf downOf
 returns c = rw (c .end .ensures, c .before .step4 .ensures, c .before .before .step3 .ensures, c .before .before .before .step2 .ensures, c .before .before .before .before .step .ensures, c .before .before .before .before .before .start .ensures)
 
-pub descend-to-protect-spec : {M : Type 1} → statement M
-descend-to-protect-spec =
+pub descend-spec : {M : Type 1} → statement M
+descend-spec =
     tie.close
     (tie.spec start-requires step-requires step-requires-2 step-requires-3 step-requires-4 end-requires returns)
