@@ -19,13 +19,12 @@ impl Scene {
             return Step::Ask { request: Request::Create { origin, pool, pages }, from: 0, to: len, sample: 0 };
         }
         let mut step = self.next(&run.hints);
-        let len = self.setup.len;
         if let Step::Ask { request, from, to, .. } = &mut step {
             if self.random.chance(1, 6) {
                 self.move_space(request);
             }
             if self.random.chance(1, 24) {
-                *to -= self.random.pick(&[1, 8, 4096, 5000]).min(len);
+                *to -= self.random.pick(&[1, 8, 4096, 5000]).min(*to);
             }
             if self.random.chance(1, 24) {
                 *from = self.random.pick(&[1, 8, 4096, 5000]).min(*to);
