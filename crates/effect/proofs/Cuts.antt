@@ -25,7 +25,8 @@ use Rattle.pool.proofs.Booked.{booked-elsewhere}
 use Rattle.plan.specs.declared.descent.Way.{Way}
 use Rattle.plan.specs.declared.finding.Spot.{Spot}
 use Rattle.plan.specs.declared.unmaps.Removal.{Removal}
-use Rattle.plan.specs.Unmap.{keepsOf, cutWrites, cutBook, book1, book2, bookAfter, writesOf}
+use Rattle.word.specs.Scan.{besidesOf}
+use Rattle.plan.specs.Unmap.{cutWrites, cutBook, book1, book2, bookAfter, writesOf}
 use Rattle.effect.specs.UnmapDone.{asideMore}
 use Rattle.effect.specs.Whole.{Whole}
 use Rattle.effect.proofs.Emptying.{tableAt, levelAt, Empty, Emptied, keeps-no, keeps-yes}
@@ -145,7 +146,7 @@ module _ {h : ℕ → Bool} {sp : Space} {m : ℕ → ℕ} {role : ℕ → Role}
       d : Rising h sp m role va (s .way .level) n (cuts sp m va (s .way) n) (cutRoles role (s .way) n) (levelAt (s .way) n) (tableAt (s .way) n)
       d = risen n (e .empty)
 
-      stay : (3 ≤ levelAt (s .way) n) ⊎ (keepsOf h m (tableAt (s .way) n) (indexOf (levelAt (s .way) n) va) 512 ≡ true)
+      stay : (3 ≤ levelAt (s .way) n) ⊎ (besidesOf h m (tableAt (s .way) n) (indexOf (levelAt (s .way) n) va) 512 ≡ true)
           → Stays (after m (cuts sp m va (s .way) n)) (levelAt (s .way) n) (tableAt (s .way) n)
       stay (inl u) = inr (omega (arith, last-level n (e .empty)))
       stay (inr x) =

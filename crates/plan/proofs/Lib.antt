@@ -3,4 +3,3 @@ pub mod Found
 pub mod Shapes
 pub mod Standing
 pub mod Carrying
-pub mod Keeping

@@ -2,5 +2,4 @@ pub mod Descend
 pub mod Find
 pub mod Protect
 pub mod Map
-pub mod Present
 pub mod Unmap

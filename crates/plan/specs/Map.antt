@@ -81,9 +81,12 @@ unfoldable pub stockOf : (ℕ → Bool) → (ℕ → ℕ) → Space → ℕ → 
 stockOf h m sp need (opened.Book b) = cond (ltb (b .free) need) (Lacking NoRoom) (freshOf h m sp b need)
 stockOf h m sp need (opened.Refused r) = Lacking (Pool r)
 
+abbrev pub noneOf : Supply
+noneOf = Pages (record { need = 0; a = 0; b = 0; c = 0; book = noBook })
+
 unfoldable pub supplyOf : (ℕ → Bool) → (ℕ → ℕ) → Space → ℕ → Supply
 supplyOf h m sp need =
-    cond (eqb need 0) (Pages (record { need = 0; a = 0; b = 0; c = 0; book = noBook })) (stockOf h m sp need (openedOf h m sp))
+    cond (eqb need 0) noneOf (stockOf h m sp need (openedOf h m sp))
 
 -- The decision -----------------------------------------------------------------------------------------------------------------------
 

@@ -3,9 +3,8 @@ use Prim.Native.Nat.{ℕ, zero, suc, _+_, _<_}
 use mathlib.Core.Bool.{Bool, true, false, cond, _&&_, _||_}
 use mathlib.Core.List.{List, [], _∷_, _++_}
 use lib.Dec.{eqb, leb, ltb}
-use Rattle.word.specs.Memory.{at}
+use Rattle.word.specs.Scan.{besidesOf}
 use Rattle.word.specs.Writes.{Write, write}
-use Rattle.entry.specs.Entry.{bit}
 use Rattle.walk.specs.Walk.{indexOf}
 use Rattle.pool.specs.Stands.{takesOf}
 use Rattle.pool.specs.Book.{openedOf}
@@ -29,23 +28,14 @@ use Rattle.plan.specs.Map.{noBook}
 
 -- Which tables become empty ------------------------------------------------------------------------------------------------------
 
--- entry k of page p is another than i, and present
-unfoldable pub otherOf : (ℕ → Bool) → (ℕ → ℕ) → ℕ → ℕ → ℕ → Bool
-otherOf h m p i k = cond (eqb k i) false (cond (h p) (bit 0 (m (at p k))) false)
-
--- one of the first n entries of page p, entry i aside, is present
-unfoldable pub keepsOf : (ℕ → Bool) → (ℕ → ℕ) → ℕ → ℕ → ℕ → Bool
-keepsOf h m p i zero = false
-keepsOf h m p i (suc n) = otherOf h m p i n || keepsOf h m p i n
-
 -- how many tables become empty, from the one of the page's entry up; the root stays
 unfoldable pub emptiedOf : (ℕ → Bool) → (ℕ → ℕ) → ℕ → Way → ℕ
 emptiedOf h m va w =
     cond (leb 3 (w .level)) 0
-    (cond (keepsOf h m (w .a) (indexOf (w .level) va) 512) 0
+    (cond (besidesOf h m (w .a) (indexOf (w .level) va) 512) 0
     (cond (leb 2 (w .level)) 1
-    (cond (keepsOf h m (w .b) (indexOf (w .level + 1) va) 512) 1
-    (cond (leb 1 (w .level)) 2 (cond (keepsOf h m (w .c) (indexOf 2 va) 512) 2 3)))))
+    (cond (besidesOf h m (w .b) (indexOf (w .level + 1) va) 512) 1
+    (cond (leb 1 (w .level)) 2 (cond (besidesOf h m (w .c) (indexOf 2 va) 512) 2 3)))))
 
 -- The decision ---------------------------------------------------------------------------------------------------------------------
 

@@ -7,6 +7,7 @@ ghost use Rattle.pool.specs.declared.Fit.the-variants.{Fits};
 ghost use Rattle.plan.specs.Descend as the;
 use entry::Entry;
 use pool::Space;
+use word::Cell;
 
 pub enum Why {
     Nothing,
@@ -79,16 +80,15 @@ fn told(target: u64, n: u64, x: u64, w: Way, e: Entry) -> Trail
     }
 }
 
-// The pool lies in the window, so a page of it is read without a second test.
+// The way has come to the table in page t.
 fn arrive(mem: &[u8], space: Space, target: u64, va: u64, n: u64, t: u64, w: Way) -> Trail
     requires { ⌜ (n < 4) × (standsOf (holds (now mem) (space .origin)) space ≡ Fits) ⌝ }
     ensures { λ r. ⌜ r ≡ the.arriveOf (holds (now (mem .entry)) (space .origin)) (memory (now (mem .entry)) (space .origin)) space target va n t w ⌝ }
 {
-    if pool::lies(space, t) {
-        let x = word::entry(mem, space.origin, t, walk::index(n, va));
-        told(target, n, x, push(w, t), entry::decode(n, x))
-    } else {
-        stop(Why::Stray, n, 0, w)
+    let c = pool::entry(mem, space, t, walk::index(n, va));
+    match c {
+        Cell::Word(x) => told(target, n, x, push(w, t), entry::decode(n, x)),
+        Cell::Outside => stop(Why::Stray, n, 0, w),
     }
 }
 

@@ -149,23 +149,30 @@ fn take_fresh(mem: &[u8], space: Space, book: Book, need: u64) -> Supply
     })
 }
 
+// No page is needed, and no book.
+fn none() -> Supply
+    ensures { λ r. ⌜ r ≡ the.noneOf ⌝ }
+{
+    Supply::Pages(Fresh {
+        need: 0,
+        a: 0,
+        b: 0,
+        c: 0,
+        book: Book {
+            head: 0,
+            free: 0,
+            aside: 0,
+            tickets: 0,
+        },
+    })
+}
+
 // The pages for the missing tables. A book is needed only where a table is missing.
 fn supplied(mem: &[u8], space: Space, need: u64) -> Supply
     ensures { λ r. ⌜ r ≡ the.supplyOf (holds (now (mem .entry)) (space .origin)) (memory (now (mem .entry)) (space .origin)) space need ⌝ }
 {
     if need == 0 {
-        return Supply::Pages(Fresh {
-            need: 0,
-            a: 0,
-            b: 0,
-            c: 0,
-            book: Book {
-                head: 0,
-                free: 0,
-                aside: 0,
-                tickets: 0,
-            },
-        });
+        return none();
     }
     // A copy, so that the space itself need not lie in memory where no table is missing.
     let sp = space;
@@ -218,14 +225,15 @@ fn place(q: Asked, target: u64, level: u64, table: u64, s: Supply) -> Placed
     }
 }
 
-// How far a is above b.
-fn above(a: u64, b: u64) -> u64
-    ensures { λ r. ⌜ r ≡ a - b ⌝ }
+// The entry is free. Where no table is missing that is a way of its own: the same test tells them apart when the plan is carried out,
+// and the compiler then leaves the pages that are not needed out of both.
+fn vacant(mem: &[u8], space: Space, q: Asked, target: u64, level: u64, table: u64) -> Placed
+    ensures { λ r. ⌜ r ≡ the.placeOf q target level table (the.supplyOf (holds (now (mem .entry)) (space .origin)) (memory (now (mem .entry)) (space .origin)) space (level - target)) ⌝ }
 {
-    if a < b {
-        return 0;
+    if level <= target {
+        return place(q, target, level, table, none());
     }
-    a - b
+    place(q, target, level, table, supplied(mem, space, level - target))
 }
 
 fn stopped(mem: &[u8], space: Space, q: Asked, target: u64, w: Way) -> Placed
@@ -233,13 +241,7 @@ fn stopped(mem: &[u8], space: Space, q: Asked, target: u64, w: Way) -> Placed
 {
     let y = w.why;
     match y {
-        Why::Nothing => place(
-            q,
-            target,
-            w.level,
-            w.a,
-            supplied(mem, space, above(w.level, target)),
-        ),
+        Why::Nothing => vacant(mem, space, q, target, w.level, w.a),
         Why::Page => Placed::Refused(Reason::Overlap),
         Why::Table => Placed::Refused(Reason::Overlap),
         Why::Stray => Placed::Refused(Reason::Stray),

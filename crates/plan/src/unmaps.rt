@@ -5,7 +5,6 @@ ghost use Prim.Native.Nat.{_+_, _-_, _<_, _≤_};
 ghost use Rattle.word.specs.Memory.{memory, holds};
 ghost use Rattle.word.specs.Writes.{carried};
 ghost use Rattle.walk.specs.Walk.{indexOf};
-ghost use Rattle.plan.specs.Present.{presentOf};
 ghost use Rattle.plan.specs.Unmap as the;
 use crate::Reason;
 use crate::descent::Way;
@@ -28,65 +27,6 @@ pub enum Removing {
     Refused(Reason),
 }
 
-// Is entry k of page p present, or the next one?
-fn two(mem: &[u8], origin: u64, p: u64, k: u64) -> bool
-    requires { ⌜ (holds (now mem) origin p ≡ true) × (k + 2 ≤ 512) ⌝ }
-    ensures { λ r. ⌜ r ≡ presentOf (memory (now (mem .entry)) origin) p k 2 ⌝ }
-{
-    word::odd(mem, origin, p, k) | word::odd(mem, origin, p, k + 1)
-}
-
-fn four(mem: &[u8], origin: u64, p: u64, k: u64) -> bool
-    requires { ⌜ (holds (now mem) origin p ≡ true) × (k + 4 ≤ 512) ⌝ }
-    ensures { λ r. ⌜ r ≡ presentOf (memory (now (mem .entry)) origin) p k 4 ⌝ }
-{
-    two(mem, origin, p, k) | two(mem, origin, p, k + 2)
-}
-
-// Is one of eight entries present? All are read before anything is tested.
-fn eight(mem: &[u8], origin: u64, p: u64, k: u64) -> bool
-    requires { ⌜ (holds (now mem) origin p ≡ true) × (k + 8 ≤ 512) ⌝ }
-    ensures { λ r. ⌜ r ≡ presentOf (memory (now (mem .entry)) origin) p k 8 ⌝ }
-{
-    four(mem, origin, p, k) | four(mem, origin, p, k + 4)
-}
-
-// Is one of the entries of page p present, from one up to another? Eight at a time, as long as there are eight.
-fn some(mem: &[u8], origin: u64, p: u64, from: u64, to: u64) -> bool
-    requires { ⌜ (holds (now mem) origin p ≡ true) × (to ≤ 512) ⌝ }
-    ensures { λ r. ⌜ r ≡ presentOf (memory (now (mem .entry)) origin) p from (to - from) ⌝ }
-{
-    let mut k: u64 = from;
-    while k < to {
-        if to - k < 8 {
-            if word::odd(mem, origin, p, k) {
-                return true;
-            }
-            k += 1;
-        } else {
-            if eight(mem, origin, p, k) {
-                return true;
-            }
-            k += 8;
-        }
-    }
-    false
-}
-
-// Has page p a present entry besides entry i?
-fn keeps(mem: &[u8], origin: u64, p: u64, i: u64) -> bool
-    requires { ⌜ i < 512 ⌝ }
-    ensures { λ r. ⌜ r ≡ the.keepsOf (holds (now (mem .entry)) origin) (memory (now (mem .entry)) origin) p i 512 ⌝ }
-{
-    if word::inside(mem, origin, p) {
-        if some(mem, origin, p, 0, i) {
-            return true;
-        }
-        return some(mem, origin, p, i + 1, 512);
-    }
-    false
-}
-
 // How many tables become empty, from the one of the page's entry up; the root stays.
 fn emptied(mem: &[u8], origin: u64, va: u64, w: Way) -> u64
     ensures { λ r. ⌜ r ≡ the.emptiedOf (holds (now (mem .entry)) origin) (memory (now (mem .entry)) origin) va w ⌝ }
@@ -94,19 +34,19 @@ fn emptied(mem: &[u8], origin: u64, va: u64, w: Way) -> u64
     if 3 <= w.level {
         return 0;
     }
-    if keeps(mem, origin, w.a, walk::index(w.level, va)) {
+    if word::besides(mem, origin, w.a, walk::index(w.level, va)) {
         return 0;
     }
     if 2 <= w.level {
         return 1;
     }
-    if keeps(mem, origin, w.b, walk::index(w.level + 1, va)) {
+    if word::besides(mem, origin, w.b, walk::index(w.level + 1, va)) {
         return 1;
     }
     if 1 <= w.level {
         return 2;
     }
-    if keeps(mem, origin, w.c, walk::index(2, va)) {
+    if word::besides(mem, origin, w.c, walk::index(2, va)) {
         return 2;
     }
     3

@@ -1,7 +1,11 @@
 -- A space that makes sense, before any book is read; and a book with room for pages to be set aside.
 use Prim.Native.Nat.{ℕ, _+_, _^_, _<_, _≤_}
 use mathlib.Core.Bool.{Bool, cond, _&&_}
+use mathlib.Core.List.{List}
 use lib.Dec.{leb}
+use Rattle.word.specs.Runs.{amongOf}
+use Rattle.word.specs.declared.Cell.{Cell}
+use Rattle.word.specs.declared.Cell.the-variants.{Outside}
 use Rattle.pool.specs.declared.Space.{Space}
 use Rattle.pool.specs.declared.Book.{Book}
 use Rattle.pool.specs.declared.Reason.the-variants.{BadRoot}
@@ -16,6 +20,10 @@ standsIn sp (Refused r) = Refused r
 -- the pool lies in the window with its book, and the root behind that
 unfoldable pub standsOf : (ℕ → Bool) → Space → Fit
 standsOf h sp = standsIn sp (roomOf h (sp .first) (sp .pages))
+
+-- what reading entry i of page p answers, where the pool lies in the window and p is a page of it, and not the book's
+unfoldable pub entryOf : List ℕ → Space → ℕ → ℕ → Cell
+entryOf s sp p i = cond (leb (sp .pages) (2 ^ 32)) (amongOf s (sp .origin) (sp .first) (bookPages (sp .pages)) (sp .pages) p i) Outside
 
 -- n pages more can be set aside
 unfoldable pub takesOf : Space → Book → ℕ → Bool

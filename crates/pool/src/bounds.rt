@@ -1,11 +1,11 @@
 // Where a pool lies, by as few comparisons as it takes: every operation asks for it.
 ghost use mathlib.Core.Path.{_≡_};
-ghost use mathlib.Core.Bool.{_&&_};
 ghost use Prim.Native.Nat.{_+_, _-_, _^_, _<_, _≤_};
-ghost use Rattle.word.specs.Memory.{holds};
 ghost use Rattle.pool.specs.Book as the;
 ghost use Rattle.pool.specs.Stands as stand;
 use crate::Space;
+use crate::book_pages;
+use word::Cell;
 
 // How many pages the book of a pool has, where the pool's pages can be counted.
 pub fn book_of(pages: u64) -> u64
@@ -15,29 +15,8 @@ pub fn book_of(pages: u64) -> u64
     (pages + 519) / 512
 }
 
-// Do the first page and the last one lie in the window?
-pub fn spans(mem: &[u8], origin: u64, first: u64, pages: u64) -> bool
-    requires { ⌜ (0 < pages) × (pages ≤ 2 ^ 32) ⌝ }
-    ensures { λ r. ⌜ r ≡ (holds (now (mem .entry)) origin first && holds (now (mem .entry)) origin (first + pages - 1)) ⌝ }
-{
-    if 1099511627776 <= first {
-        return false;
-    }
-    if 1099511627776 < first + pages {
-        return false;
-    }
-    if first * 4096 < origin {
-        return false;
-    }
-    let len = mem.len() as u64;
-    if len < (first + pages) * 4096 - origin {
-        return false;
-    }
-    true
-}
-
-// Is p a page of the pool, and not the book's? One comparison, for a pool that lies in the window.
-pub fn lies(space: Space, p: u64) -> bool
+// By one comparison, where the pool's numbers are those of one in a window.
+fn lies(space: Space, p: u64) -> bool
     requires { ⌜ stand.Counted space ⌝ }
     ensures { λ r. ⌜ r ≡ the.inPool space p ⌝ }
 {
@@ -47,4 +26,56 @@ pub fn lies(space: Space, p: u64) -> bool
         return true;
     }
     false
+}
+
+// By three, for any numbers.
+fn among(space: Space, p: u64) -> bool
+    ensures { λ r. ⌜ r ≡ the.inPool space p ⌝ }
+{
+    if p < space.first {
+        return false;
+    }
+    let i = p - space.first;
+    if i < book_pages(space.pages) {
+        return false;
+    }
+    if space.pages <= i {
+        return false;
+    }
+    true
+}
+
+// Is p a page of the pool, and not the book's? The tests are those of `room` and `spans`: where these were made before, the compiler
+// leaves out the second ones, and one comparison is left.
+pub fn in_pool(space: Space, p: u64) -> bool
+    ensures { λ r. ⌜ r ≡ the.inPool space p ⌝ }
+{
+    if 4294967296 < space.pages {
+        return among(space, p);
+    }
+    if space.pages < book_of(space.pages) + 2 {
+        return among(space, p);
+    }
+    if 1099511627776 <= space.first {
+        return among(space, p);
+    }
+    lies(space, p)
+}
+
+// Entry i of page p, where the pool lies in the window and p is a page of it, and not the book's.
+pub fn entry(mem: &[u8], space: Space, p: u64, i: u64) -> Cell
+    ensures { λ r. ⌜ r ≡ stand.entryOf (now (mem .entry)) space p i ⌝ }
+{
+    if 4294967296 < space.pages {
+        return Cell::Outside;
+    }
+    word::read_among(
+        mem,
+        space.origin,
+        space.first,
+        book_of(space.pages),
+        space.pages,
+        p,
+        i,
+    )
 }

@@ -14,8 +14,8 @@ mod bounds;
 mod making;
 
 use bounds::book_of;
-pub use bounds::lies;
-use bounds::spans;
+pub use bounds::entry;
+pub use bounds::in_pool;
 pub use making::create;
 
 // "the book" in ASCII.
@@ -104,27 +104,10 @@ fn room(mem: &[u8], origin: u64, first: u64, pages: u64) -> Fit
     if pages < book_of(pages) + 2 {
         return Fit::Refused(Reason::PoolSmall);
     }
-    if spans(mem, origin, first, pages) {
+    if word::spans(mem, origin, first, pages) {
         return Fit::Fits;
     }
     Fit::Refused(Reason::PoolOutside)
-}
-
-// Is p a page of the pool, and not the book's?
-pub fn in_pool(space: Space, p: u64) -> bool
-    ensures { λ r. ⌜ r ≡ the.inPool space p ⌝ }
-{
-    if p < space.first {
-        return false;
-    }
-    let i = p - space.first;
-    if i < book_pages(space.pages) {
-        return false;
-    }
-    if space.pages <= i {
-        return false;
-    }
-    true
 }
 
 // Can a pool of that many pages have a book with these counts?
@@ -202,7 +185,7 @@ pub fn open(mem: &[u8], space: Space) -> Opened
     match fit {
         Fit::Refused(r) => Opened::Refused(r),
         Fit::Fits => {
-            if lies(space, space.root) {
+            if in_pool(space, space.root) {
                 return header(mem, space);
             }
             Opened::Refused(Reason::BadRoot)
@@ -355,7 +338,7 @@ pub fn stands(mem: &[u8], space: Space) -> Fit
     match fit {
         Fit::Refused(r) => Fit::Refused(r),
         Fit::Fits => {
-            if lies(space, space.root) {
+            if in_pool(space, space.root) {
                 return Fit::Fits;
             }
             Fit::Refused(Reason::BadRoot)

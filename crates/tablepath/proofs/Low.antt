@@ -5,6 +5,7 @@ use mathlib.Core.Path.{_≡_, refl, sym, ap, _∙_, subst}
 use native.Mathlib.Omega.{arith}
 use borrow.Author.Tests.{leb-true, leb-false, eqb-true, ltb-true, ltb-false}
 use lib.Dec.{leb, ltb, eqb}
+use Rattle.word.specs.Scan.{besidesOf}
 use Rattle.word.proofs.Tests.{and-both}
 use Rattle.entry.specs.Entry.{says}
 use Rattle.entry.specs.Words.{madePage}
@@ -141,8 +142,8 @@ module _ (h : ℕ → Bool) (m : ℕ → ℕ) (sp : Space) (q : Asked) (p : Mapp
 emptied-low : (h : ℕ → Bool) (m : ℕ → ℕ) (va : ℕ) (w : Way) → w .level < 4 → w .level + unmap.emptiedOf h m va w < 4
 unfolding unmap.emptiedOf
 emptied-low h m va w u =
-    go (leb 3 (w .level)) (unmap.keepsOf h m (w .a) (indexOf (w .level) va) 512) (leb 2 (w .level))
-    (unmap.keepsOf h m (w .b) (indexOf (w .level + 1) va) 512) (leb 1 (w .level)) (unmap.keepsOf h m (w .c) (indexOf 2 va) 512) refl refl refl
+    go (leb 3 (w .level)) (besidesOf h m (w .a) (indexOf (w .level) va) 512) (leb 2 (w .level))
+    (besidesOf h m (w .b) (indexOf (w .level + 1) va) 512) (leb 1 (w .level)) (besidesOf h m (w .c) (indexOf 2 va) 512) refl refl refl
   where
     go : (a : Bool) (x : Bool) (b : Bool) (y : Bool) (c : Bool) (z : Bool) → leb 3 (w .level) ≡ a → leb 2 (w .level) ≡ b → leb 1 (w .level) ≡ c
         → w .level + cond a 0 (cond x 0 (cond b 1 (cond y 1 (cond c 2 (cond z 2 3))))) < 4

@@ -1,3 +1,5 @@
 pub mod Bytes
 pub mod Memory
 pub mod Writes
+pub mod Scan
+pub mod Runs

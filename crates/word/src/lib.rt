@@ -1,12 +1,17 @@
 // Words of eight bytes in a window of physical memory: one read and one write, each for any bytes and any numbers.
 ghost use mathlib.Core.Path.{_≡_};
-ghost use mathlib.Core.Bool.{true};
-ghost use Prim.Native.Nat.{_+_, _*_, _%_, _<_, _≤_};
+ghost use Prim.Native.Nat.{_+_, _%_, _<_, _≤_};
 ghost use lib.ListN.{length};
-ghost use lib.Dec.{eqb};
 ghost use Rattle.word.specs.Bytes.{wordAt, putWord};
-ghost use Rattle.word.specs.Memory.{memory, holds, readOf, written};
+ghost use Rattle.word.specs.Memory.{holds, readOf, written};
 ghost use Rattle.word.specs.Writes.{carried, zeros};
+
+mod run;
+mod scan;
+
+pub use run::read_among;
+pub use run::spans;
+pub use scan::besides;
 
 // What reading an entry answers.
 pub enum Cell {
@@ -56,43 +61,22 @@ fn store(mem: &mut [u8], at: usize, w: u64)
     mem[at + 7] = byte(w >> 56);
 }
 
-// Does page p lie wholly in the window?
+// Does page p lie wholly in the window? One comparison finds both ends of the page: where it begins before the window the difference
+// wraps, and is more than any length.
 pub fn inside(mem: &[u8], origin: u64, p: u64) -> bool
     ensures { λ r. ⌜ r ≡ holds (now (mem .entry)) origin p ⌝ }
 {
-    if 1099511627776 <= p {
-        return false;
-    }
-    let first = p * 4096;
-    if first < origin {
+    if 4503599627370496 <= origin {
         return false;
     }
     let len = mem.len() as u64;
     if len < 4096 {
         return false;
     }
-    if len - 4096 < first - origin {
+    if 1099511627776 <= p {
         return false;
     }
-    true
-}
-
-// Entry i of page p, for whoever knows that the page lies in the window.
-pub fn entry(mem: &[u8], origin: u64, p: u64, i: u64) -> u64
-    requires { ⌜ (holds (now mem) origin p ≡ true) × (i < 512) ⌝ }
-    ensures { λ r. ⌜ r ≡ memory (now (mem .entry)) origin (512 * p + i) ⌝ }
-{
-    load(mem, (p * 4096 - origin + i * 8) as usize)
-}
-
-// Is entry i of page p odd? For whoever knows that the page lies in the window. It reads one byte: so the reads of many entries
-// stay one to an entry.
-pub fn odd(mem: &[u8], origin: u64, p: u64, i: u64) -> bool
-    requires { ⌜ (holds (now mem) origin p ≡ true) × (i < 512) ⌝ }
-    ensures { λ r. ⌜ r ≡ eqb (memory (now (mem .entry)) origin (512 * p + i) % 2) 1 ⌝ }
-{
-    let at = (p * 4096 - origin + i * 8) as usize;
-    mem[at] % 2 == 1
+    std::num::wrapping_sub_u64(p * 4096, origin) <= len - 4096
 }
 
 // Entry i of page p, where that page lies in the window.

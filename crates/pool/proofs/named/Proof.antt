@@ -1,7 +1,7 @@
 use mathlib.Core.Path.{sym, _∙_}
 use native.Mathlib.Omega.{arith}
 use Rattle.pool.specs.Book.{namedOf}
-use Rattle.pool.proofs.Far.{far}
+use Rattle.word.proofs.Holding.{far}
 use Rattle.pool.proofs.Opening.{named-word, named-outside}
 use Prim.Native.Nat.{_+_, _/_}
 use borrow.Author.Needs.{needs}

@@ -6,7 +6,7 @@ use Rattle.pool.proofs.open.Statement.{statement}
 use Rattle.pool.proofs.open.Tie as tie
 use Rattle.pool.proofs.open.Reads as reads
 use Rattle.pool.proofs.open.Lts as lts
-use Rattle.pool.proofs.bounds.lies.Reads as lies-reads
+use Rattle.pool.proofs.bounds.in_pool.Reads as in-pool-reads
 use Rattle.pool.proofs.header.Reads as header-reads
 use Rattle.pool.proofs.room.Reads as room-reads
 
@@ -23,8 +23,8 @@ enum-told : tie.Need-enum-told
 enum-told c = search needs
 
 -- src/lib.rt:205:16
-lies-requires : tie.Need-lies-requires
-lies-requires c κs = fit-counted _ _ (fitting _ _ _ (sym (c .before .before .room .ensures) ∙ c .enum-told .given .1))
+in-pool-requires : tie.Need-in-pool-requires
+in-pool-requires c κs = search needs
 
 -- src/lib.rt:206:17
 header-requires : tie.Need-header-requires
@@ -33,7 +33,7 @@ header-requires c κs = search needs
 -- src/lib.rt:206:17
 returns : tie.Need-returns
 unfolding openedOf openedIn
-returns c = let e = sym (c .before .before .before .before .before .room .ensures) ∙ c .before .before .before .enum-told .given .1 in rw (e, sym (c .before .before .lies .ensures) ∙ c .before .if1 .taken) (c .header .ensures (fitting _ _ _ e .from))
+returns c = let e = sym (c .before .before .before .before .before .room .ensures) ∙ c .before .before .before .enum-told .given .1 in rw (e, sym (c .before .before .in-pool .ensures) ∙ c .before .if1 .taken) (c .header .ensures (fitting _ _ _ e .from))
 
 -- src/lib.rt:198:1
 returns-2 : tie.Need-returns-2
@@ -43,7 +43,7 @@ returns-2 c = rw (sym (c .before .before .before .room .ensures) ∙ c .before .
 -- src/lib.rt:198:1
 returns-3 : tie.Need-returns-3
 unfolding openedOf openedIn
-returns-3 c = rw (sym (c .before .before .before .before .room .ensures) ∙ c .before .before .enum-told .given .1, sym (c .before .lies .ensures) ∙ c .if1 .left)
+returns-3 c = rw (sym (c .before .before .before .before .room .ensures) ∙ c .before .before .enum-told .given .1, sym (c .before .in-pool .ensures) ∙ c .if1 .left)
 
 pub open-spec : {M : Type 1} → statement M
 open-spec =
@@ -52,7 +52,7 @@ open-spec =
     room-requires
     enum-known-fit
     enum-told
-    lies-requires
+    in-pool-requires
     header-requires
     returns
     returns-2

@@ -6,7 +6,7 @@ use Rattle.pool.proofs.stands.Statement.{statement}
 use Rattle.pool.proofs.stands.Tie as tie
 use Rattle.pool.proofs.stands.Reads as reads
 use Rattle.pool.proofs.stands.Lts as lts
-use Rattle.pool.proofs.bounds.lies.Reads as lies-reads
+use Rattle.pool.proofs.bounds.in_pool.Reads as in-pool-reads
 use Rattle.pool.proofs.room.Reads as room-reads
 
 -- src/lib.rt:354:9
@@ -22,13 +22,13 @@ enum-told : tie.Need-enum-told
 enum-told c = search needs
 
 -- src/lib.rt:358:16
-lies-requires : tie.Need-lies-requires
-lies-requires c κs = fit-counted _ _ (fitting _ _ _ (sym (c .before .before .room .ensures) ∙ c .enum-told .given .1))
+in-pool-requires : tie.Need-in-pool-requires
+in-pool-requires c κs = search needs
 
 -- src/lib.rt:359:17
 returns : tie.Need-returns
 unfolding standsOf standsIn
-returns c = rw (sym (c .before .before .before .before .room .ensures) ∙ c .before .before .enum-told .given .1, sym (c .before .lies .ensures) ∙ c .if1 .taken)
+returns c = rw (sym (c .before .before .before .before .room .ensures) ∙ c .before .before .enum-told .given .1, sym (c .before .in-pool .ensures) ∙ c .if1 .taken)
 
 -- src/lib.rt:351:1
 returns-2 : tie.Need-returns-2
@@ -38,9 +38,9 @@ returns-2 c = rw (sym (c .before .before .before .room .ensures) ∙ c .before .
 -- src/lib.rt:351:1
 returns-3 : tie.Need-returns-3
 unfolding standsOf standsIn
-returns-3 c = rw (sym (c .before .before .before .before .room .ensures) ∙ c .before .before .enum-told .given .1, sym (c .before .lies .ensures) ∙ c .if1 .left)
+returns-3 c = rw (sym (c .before .before .before .before .room .ensures) ∙ c .before .before .enum-told .given .1, sym (c .before .in-pool .ensures) ∙ c .if1 .left)
 
 pub stands-spec : {M : Type 1} → statement M
 stands-spec =
     tie.close
-    (tie.spec room-requires enum-known-fit enum-told lies-requires returns returns-2 returns-3)
+    (tie.spec room-requires enum-known-fit enum-told in-pool-requires returns returns-2 returns-3)

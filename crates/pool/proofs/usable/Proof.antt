@@ -6,7 +6,7 @@ use Rattle.pool.proofs.usable.Statement.{statement}
 use Rattle.pool.proofs.usable.Tie as tie
 use Rattle.pool.proofs.usable.Reads as reads
 use Rattle.pool.proofs.usable.Lts as lts
-use Rattle.pool.proofs.in_pool.Reads as in-pool-reads
+use Rattle.pool.proofs.bounds.in_pool.Reads as in-pool-reads
 
 -- src/lib.rt:236:9
 returns : tie.Need-returns

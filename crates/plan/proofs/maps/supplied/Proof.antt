@@ -6,13 +6,17 @@ use Rattle.plan.proofs.maps.supplied.Statement.{statement}
 use Rattle.plan.proofs.maps.supplied.Tie as tie
 use Rattle.plan.proofs.maps.supplied.Reads as reads
 use Rattle.plan.proofs.maps.supplied.Lts as lts
+use Rattle.plan.proofs.maps.none.Reads as none-reads
 use Rattle.plan.proofs.maps.take_fresh.Reads as take-fresh-reads
 use Rattle.pool.proofs.open.Reads as open-reads
 
 -- src/maps.rt:157:9
+none-requires : tie.Need-none-requires
+none-requires c κs = search needs
+
 returns : tie.Need-returns
 unfolding supplyOf
-returns c = simp (eq-eqb _ _ (c .if1 .taken))
+returns c = simp (eq-eqb _ _ (c .before .if1 .taken), c .none .ensures)
 
 -- src/maps.rt:170:9
 open-requires : tie.Need-open-requires
@@ -49,6 +53,7 @@ pub supplied-spec : {M : Type 1} → statement M
 supplied-spec =
     tie.close
     (tie.spec
+    none-requires
     returns
     open-requires
     enum-known-o

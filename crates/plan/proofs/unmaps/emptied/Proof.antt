@@ -1,4 +1,3 @@
-use Rattle.walk.proofs.Digits.{index-lt}
 use Rattle.plan.specs.Unmap.{emptiedOf}
 use mathlib.Core.Path.{_≡_, sym, _∙_}
 use native.Mathlib.Omega.{arith}
@@ -8,7 +7,7 @@ use Rattle.plan.proofs.unmaps.emptied.Statement.{statement}
 use Rattle.plan.proofs.unmaps.emptied.Tie as tie
 use Rattle.plan.proofs.unmaps.emptied.Reads as reads
 use Rattle.plan.proofs.unmaps.emptied.Lts as lts
-use Rattle.plan.proofs.unmaps.keeps.Reads as keeps-reads
+use Rattle.word.proofs.besides.Reads as besides-reads
 use Rattle.walk.proofs.index.Reads as index-reads
 
 -- src/unmaps.rt:63:9
@@ -21,18 +20,18 @@ index-requires : tie.Need-index-requires
 index-requires c κs = search needs
 
 -- src/unmaps.rt:65:8
-keeps-requires : tie.Need-keeps-requires
-keeps-requires c κs = rw (c .index .ensures (omega arith)) (index-lt _ _)
+besides-requires : tie.Need-besides-requires
+besides-requires c κs = search needs
 
 -- src/unmaps.rt:66:9
 returns-2 : tie.Need-returns-2
 unfolding emptiedOf
-returns-2 c = simp (lt-leb _ _ (c .before .before .before .if1 .left), rw (c .before .before .index .ensures (omega arith)) at (sym (c .before .keeps .ensures) ∙ c .if2 .taken))
+returns-2 c = simp (lt-leb _ _ (c .before .before .before .if1 .left), rw (c .before .before .index .ensures (omega arith)) at (sym (c .before .besides .ensures) ∙ c .if2 .taken))
 
 -- src/unmaps.rt:69:9
 returns-3 : tie.Need-returns-3
 unfolding emptiedOf
-returns-3 c = simp (lt-leb _ _ (c .before .before .before .before .before .if1 .left), rw (c .before .before .before .before .index .ensures (omega arith)) at (sym (c .before .before .before .keeps .ensures) ∙ c .before .before .if2 .left), le-leb _ _ (c .if3 .taken))
+returns-3 c = simp (lt-leb _ _ (c .before .before .before .before .before .if1 .left), rw (c .before .before .before .before .index .ensures (omega arith)) at (sym (c .before .before .before .besides .ensures) ∙ c .before .before .if2 .left), le-leb _ _ (c .if3 .taken))
 
 -- src/unmaps.rt:71:44
 add-index : tie.Need-add-index
@@ -43,36 +42,36 @@ index-requires-2 : tie.Need-index-requires-2
 index-requires-2 c κs = search needs
 
 -- src/unmaps.rt:71:8
-keeps-requires-2 : tie.Need-keeps-requires-2
-keeps-requires-2 c κs = rw (c .index2 .ensures (omega arith)) (index-lt _ _)
+besides-requires-2 : tie.Need-besides-requires-2
+besides-requires-2 c κs = search needs
 
 -- src/unmaps.rt:72:9
 returns-4 : tie.Need-returns-4
 unfolding emptiedOf
-returns-4 c = simp (lt-leb _ _ (c .before .before .before .before .before .before .before .before .before .if1 .left), rw (c .before .before .before .before .before .before .before .before .index .ensures (omega arith)) at (sym (c .before .before .before .before .before .before .before .keeps .ensures) ∙ c .before .before .before .before .before .before .if2 .left), lt-leb _ _ (c .before .before .before .before .if3 .left), rw (c .before .before .index2 .ensures (omega arith)) at (sym (c .before .keeps2 .ensures) ∙ c .if4 .taken))
+returns-4 c = simp (lt-leb _ _ (c .before .before .before .before .before .before .before .before .before .if1 .left), rw (c .before .before .before .before .before .before .before .before .index .ensures (omega arith)) at (sym (c .before .before .before .before .before .before .before .besides .ensures) ∙ c .before .before .before .before .before .before .if2 .left), lt-leb _ _ (c .before .before .before .before .if3 .left), rw (c .before .before .index2 .ensures (omega arith)) at (sym (c .before .besides2 .ensures) ∙ c .if4 .taken))
 
 -- src/unmaps.rt:75:9
 returns-5 : tie.Need-returns-5
 unfolding emptiedOf
-returns-5 c = simp (lt-leb _ _ (c .before .before .before .before .before .before .before .before .before .before .before .if1 .left), rw (c .before .before .before .before .before .before .before .before .before .before .index .ensures (omega arith)) at (sym (c .before .before .before .before .before .before .before .before .before .keeps .ensures) ∙ c .before .before .before .before .before .before .before .before .if2 .left), lt-leb _ _ (c .before .before .before .before .before .before .if3 .left), rw (c .before .before .before .before .index2 .ensures (omega arith)) at (sym (c .before .before .before .keeps2 .ensures) ∙ c .before .before .if4 .left), le-leb _ _ (c .if5 .taken))
+returns-5 c = simp (lt-leb _ _ (c .before .before .before .before .before .before .before .before .before .before .before .if1 .left), rw (c .before .before .before .before .before .before .before .before .before .before .index .ensures (omega arith)) at (sym (c .before .before .before .before .before .before .before .before .before .besides .ensures) ∙ c .before .before .before .before .before .before .before .before .if2 .left), lt-leb _ _ (c .before .before .before .before .before .before .if3 .left), rw (c .before .before .before .before .index2 .ensures (omega arith)) at (sym (c .before .before .before .besides2 .ensures) ∙ c .before .before .if4 .left), le-leb _ _ (c .if5 .taken))
 
 -- src/unmaps.rt:77:32
 index-requires-3 : tie.Need-index-requires-3
 index-requires-3 c κs = search needs
 
 -- src/unmaps.rt:77:8
-keeps-requires-3 : tie.Need-keeps-requires-3
-keeps-requires-3 c κs = rw (c .index3 .ensures (omega arith)) (index-lt _ _)
+besides-requires-3 : tie.Need-besides-requires-3
+besides-requires-3 c κs = search needs
 
 -- src/unmaps.rt:78:9
 returns-6 : tie.Need-returns-6
 unfolding emptiedOf
-returns-6 c = simp (lt-leb _ _ (c .before .before .before .before .before .before .before .before .before .before .before .before .before .before .if1 .left), rw (c .before .before .before .before .before .before .before .before .before .before .before .before .before .index .ensures (omega arith)) at (sym (c .before .before .before .before .before .before .before .before .before .before .before .before .keeps .ensures) ∙ c .before .before .before .before .before .before .before .before .before .before .before .if2 .left), lt-leb _ _ (c .before .before .before .before .before .before .before .before .before .if3 .left), rw (c .before .before .before .before .before .before .before .index2 .ensures (omega arith)) at (sym (c .before .before .before .before .before .before .keeps2 .ensures) ∙ c .before .before .before .before .before .if4 .left), lt-leb _ _ (c .before .before .before .if5 .left), rw (c .before .before .index3 .ensures (omega arith)) at (sym (c .before .keeps3 .ensures) ∙ c .if6 .taken))
+returns-6 c = simp (lt-leb _ _ (c .before .before .before .before .before .before .before .before .before .before .before .before .before .before .if1 .left), rw (c .before .before .before .before .before .before .before .before .before .before .before .before .before .index .ensures (omega arith)) at (sym (c .before .before .before .before .before .before .before .before .before .before .before .before .besides .ensures) ∙ c .before .before .before .before .before .before .before .before .before .before .before .if2 .left), lt-leb _ _ (c .before .before .before .before .before .before .before .before .before .if3 .left), rw (c .before .before .before .before .before .before .before .index2 .ensures (omega arith)) at (sym (c .before .before .before .before .before .before .besides2 .ensures) ∙ c .before .before .before .before .before .if4 .left), lt-leb _ _ (c .before .before .before .if5 .left), rw (c .before .before .index3 .ensures (omega arith)) at (sym (c .before .besides3 .ensures) ∙ c .if6 .taken))
 
 -- src/unmaps.rt:59:1
 returns-7 : tie.Need-returns-7
 unfolding emptiedOf
-returns-7 c = simp (lt-leb _ _ (c .before .before .before .before .before .before .before .before .before .before .before .before .before .before .if1 .left), rw (c .before .before .before .before .before .before .before .before .before .before .before .before .before .index .ensures (omega arith)) at (sym (c .before .before .before .before .before .before .before .before .before .before .before .before .keeps .ensures) ∙ c .before .before .before .before .before .before .before .before .before .before .before .if2 .left), lt-leb _ _ (c .before .before .before .before .before .before .before .before .before .if3 .left), rw (c .before .before .before .before .before .before .before .index2 .ensures (omega arith)) at (sym (c .before .before .before .before .before .before .keeps2 .ensures) ∙ c .before .before .before .before .before .if4 .left), lt-leb _ _ (c .before .before .before .if5 .left), rw (c .before .before .index3 .ensures (omega arith)) at (sym (c .before .keeps3 .ensures) ∙ c .if6 .left))
+returns-7 c = simp (lt-leb _ _ (c .before .before .before .before .before .before .before .before .before .before .before .before .before .before .if1 .left), rw (c .before .before .before .before .before .before .before .before .before .before .before .before .before .index .ensures (omega arith)) at (sym (c .before .before .before .before .before .before .before .before .before .before .before .before .besides .ensures) ∙ c .before .before .before .before .before .before .before .before .before .before .before .if2 .left), lt-leb _ _ (c .before .before .before .before .before .before .before .before .before .if3 .left), rw (c .before .before .before .before .before .before .before .index2 .ensures (omega arith)) at (sym (c .before .before .before .before .before .before .besides2 .ensures) ∙ c .before .before .before .before .before .if4 .left), lt-leb _ _ (c .before .before .before .if5 .left), rw (c .before .before .index3 .ensures (omega arith)) at (sym (c .before .besides3 .ensures) ∙ c .if6 .left))
 
 pub emptied-spec : {M : Type 1} → statement M
 emptied-spec =
@@ -80,15 +79,15 @@ emptied-spec =
     (tie.spec
     returns
     index-requires
-    keeps-requires
+    besides-requires
     returns-2
     returns-3
     add-index
     index-requires-2
-    keeps-requires-2
+    besides-requires-2
     returns-4
     returns-5
     index-requires-3
-    keeps-requires-3
+    besides-requires-3
     returns-6
     returns-7)

@@ -1,11 +1,11 @@
 use mathlib.Core.Path.{_≡_, sym, ap, _∙_}
-use Rattle.plan.proofs.Keeping.{present-join}
+use Rattle.word.proofs.Odds.{odd-join}
 use borrow.Author.Needs.{needs}
-use Rattle.plan.proofs.unmaps.eight.Statement.{statement}
-use Rattle.plan.proofs.unmaps.eight.Tie as tie
-use Rattle.plan.proofs.unmaps.eight.Reads as reads
-use Rattle.plan.proofs.unmaps.eight.Lts as lts
-use Rattle.plan.proofs.unmaps.four.Reads as four-reads
+use Rattle.word.proofs.scan.eight.Statement.{statement}
+use Rattle.word.proofs.scan.eight.Tie as tie
+use Rattle.word.proofs.scan.eight.Reads as reads
+use Rattle.word.proofs.scan.eight.Lts as lts
+use Rattle.word.proofs.scan.four.Reads as four-reads
 
 -- src/unmaps.rt:51:5
 four-requires : tie.Need-four-requires
@@ -21,7 +21,7 @@ four-requires-2 c κs = search needs
 
 -- src/unmaps.rt:47:1
 returns : tie.Need-returns
-returns c = rw (c .before .four .ensures, c .four2 .ensures) (sym (present-join _ _ _ 4 4))
+returns c = rw (c .before .four .ensures, c .four2 .ensures) (sym (odd-join _ _ _ 4 4))
 
 pub eight-spec : {M : Type 1} → statement M
 eight-spec = tie.close (tie.spec four-requires add-four four-requires-2 returns)

@@ -1,12 +1,13 @@
 use mathlib.Core.Path.{_≡_, sym, ap, _∙_}
 use native.Mathlib.Omega.{arith}
+use Rattle.word.specs.Scan as the
 use Rattle.word.proofs.Bytes.{word-odd}
 use Rattle.word.proofs.Memory.{offset, memory-in, held, held-lies}
 use borrow.Author.Needs.{needs}
-use Rattle.word.proofs.odd.Statement.{statement}
-use Rattle.word.proofs.odd.Tie as tie
-use Rattle.word.proofs.odd.Reads as reads
-use Rattle.word.proofs.odd.Lts as lts
+use Rattle.word.proofs.scan.odd.Statement.{statement}
+use Rattle.word.proofs.scan.odd.Tie as tie
+use Rattle.word.proofs.scan.odd.Reads as reads
+use Rattle.word.proofs.scan.odd.Lts as lts
 
 -- src/lib.rt:94:15
 mul-at : tie.Need-mul-at
@@ -30,6 +31,7 @@ shared-slice-read-result c = omega (arith, offset _ _ _ _ (c .before .pre .0) (c
 
 -- src/lib.rt:90:1
 returns : tie.Need-returns
+unfolding the.odd
 returns c = simp (memory-in _ _ _ (held-lies _ _ _ _ (held _ _ _ (c .before .pre .0)) (c .before .pre .1)), sym (offset _ _ _ _ (c .before .pre .0) (c .before .pre .1) .same), word-odd)
 
 pub odd-spec : {M : Type 1} → statement M

@@ -1,0 +1,106 @@
+-- A run of pages that lies in the window, and reading in it.
+use Prim.Native.Nat.{ℕ, _+_, _-_, _*_, _^_, _<_, _≤_}
+use mathlib.Core.Bool.{Bool, true, false, false≢true, cond, _&&_}
+use mathlib.Core.List.{List}
+use mathlib.Core.Path.{_≡_, refl, sym, _∙_}
+use native.Mathlib.Decide.{decLe}
+use native.Mathlib.Omega.{arith}
+use borrow.Author.Tests.{le-leb, lt-leb, lt-ltb, leb-true, ltb-true}
+use lib.Dec.{leb, ltb}
+use lib.ListN.{length}
+use Rattle.word.specs.Memory.{at, memory, holds}
+use Rattle.word.specs.Runs.{spansOf, amongOf}
+use Rattle.word.specs.declared.Cell.the-variants.{Word, Outside}
+use Rattle.word.proofs.Tests.{and-both}
+use Rattle.word.proofs.Memory.{held}
+use Rattle.word.proofs.Holding.{within}
+
+module _ (s : List ℕ) (origin first pages : ℕ) where
+  pub record Run : Type 0 where
+    pub low : first < 2 ^ 40
+    pub end : first + pages ≤ 2 ^ 40
+    pub from : origin ≤ 4096 * first
+    pub upto : 4096 * (first + pages) ≤ origin + length s
+
+  pub run-spans : Run → spansOf s origin first pages ≡ true
+  unfolding spansOf
+  run-spans r = simp (lt-ltb first (2 ^ 40) (r .low), le-leb (first + pages) (2 ^ 40) (r .end), le-leb origin (4096 * first) (r .from), le-leb (4096 * (first + pages)) (origin + length s) (r .upto))
+
+  pub spans-run : spansOf s origin first pages ≡ true → Run
+  unfolding spansOf
+  spans-run h =
+      let a = and-both _ _ h in
+      let b = and-both _ _ (a .0) in
+      let c = and-both _ _ (a .1) in
+      record { low = ltb-true _ _ (b .0); end = leb-true _ _ (b .1); from = leb-true _ _ (c .0); upto = leb-true _ _ (c .1) }
+
+  pub no-run : (Run → ⊥) → spansOf s origin first pages ≡ false
+  no-run n = go (spansOf s origin first pages) refl
+    where
+      go : (t : Bool) → spansOf s origin first pages ≡ t → t ≡ false
+      go true e = absurd (n (spans-run e))
+      go false e = refl
+
+  -- the last of the tests
+  pub spans-last : first < 2 ^ 40 → first + pages ≤ 2 ^ 40 → origin ≤ 4096 * first → leb ((first + pages) * 4096 - origin) (length s) ≡ spansOf s origin first pages
+  spans-last a b c = go (decLe ((first + pages) * 4096 - origin) (length s))
+    where
+      go : Dec ((first + pages) * 4096 - origin ≤ length s) → leb ((first + pages) * 4096 - origin) (length s) ≡ spansOf s origin first pages
+      go (yes u) = le-leb _ _ u ∙ sym (run-spans (record { low = a; end = b; from = c; upto = omega arith }))
+      go (no u) = lt-leb ((first + pages) * 4096 - origin) (length s) (omega arith) ∙ sym (no-run (λ r. u (omega (arith, r .upto))))
+
+  -- a page of the run lies in the window
+  pub run-holds : Run → (p : ℕ) → first ≤ p → p < first + pages → holds s origin p ≡ true
+  run-holds r p u v = within s origin p (omega (arith, r .end)) (omega (arith, r .from)) (omega (arith, r .upto))
+
+  -- a run lies in the window where its first page does and its last one
+  pub spans-ends : 0 < pages → spansOf s origin first pages ≡ (holds s origin first && holds s origin (first + pages - 1))
+  spans-ends u = go (holds s origin first) (holds s origin (first + pages - 1)) refl refl
+    where
+      go : (a b : Bool) → holds s origin first ≡ a → holds s origin (first + pages - 1) ≡ b → spansOf s origin first pages ≡ (a && b)
+      go true true f l =
+          let x = held s origin first f in
+          let y = held s origin (first + pages - 1) l in
+          run-spans (record { low = x .small; end = omega (arith, y .small); from = x .from; upto = omega (arith, y .upto) })
+      go true false f l = no-run (λ r. false≢true (sym l ∙ run-holds r (first + pages - 1) (omega arith) (omega arith)))
+      go false b f l = no-run (λ r. false≢true (sym f ∙ run-holds r first (omega arith) (omega arith)))
+
+  module _ (kept p i : ℕ) where
+    pub record Among : Type 0 where
+      pub run : Run
+      pub small : i < 512
+      pub behind : first + kept ≤ p
+      pub before-end : p < first + pages
+
+    pub among-word : Among → Word (memory s origin (at p i)) ≡ amongOf s origin first kept pages p i
+    unfolding amongOf
+    among-word a = simp (run-spans (a .run), lt-ltb i 512 (a .small), le-leb (first + kept) p (a .behind), lt-ltb p (first + pages) (a .before-end))
+
+    tested : (spansOf s origin first pages && (ltb i 512 && (leb (first + kept) p && ltb p (first + pages)))) ≡ true → Among
+    tested e =
+        let a = and-both _ _ e in
+        let b = and-both _ _ (a .1) in
+        let c = and-both _ _ (b .1) in
+        record { run = spans-run (a .0); small = ltb-true _ _ (b .0); behind = leb-true _ _ (c .0); before-end = ltb-true _ _ (c .1) }
+
+    pub among-outside : (Among → ⊥) → Outside ≡ amongOf s origin first kept pages p i
+    unfolding amongOf
+    among-outside n = go (spansOf s origin first pages && (ltb i 512 && (leb (first + kept) p && ltb p (first + pages)))) refl
+      where
+        go : (t : Bool) → (spansOf s origin first pages && (ltb i 512 && (leb (first + kept) p && ltb p (first + pages)))) ≡ t
+            → Outside ≡ cond t (Word (memory s origin (at p i))) Outside
+        go true e = absurd (n (tested e))
+        go false e = refl
+
+    -- what it answered
+    pub word-among : (w : ℕ) → amongOf s origin first kept pages p i ≡ Word w → Among × (memory s origin (at p i) ≡ w)
+    unfolding amongOf
+    word-among w e = go (spansOf s origin first pages && (ltb i 512 && (leb (first + kept) p && ltb p (first + pages)))) refl e
+      where
+        go : (t : Bool) → (spansOf s origin first pages && (ltb i 512 && (leb (first + kept) p && ltb p (first + pages)))) ≡ t
+            → cond t (Word (memory s origin (at p i))) Outside ≡ Word w → Among × (memory s origin (at p i) ≡ w)
+        go true h x = (tested h, cc)
+        go false h x = let z : _≡_ {A = ℕ} 0 1 = cc in absurd (omega arith)
+
+    pub outside-among : amongOf s origin first kept pages p i ≡ Outside → Among → ⊥
+    outside-among e a = let x = among-word a ∙ e in let z : _≡_ {A = ℕ} 0 1 = cc x in absurd (omega arith)
