@@ -25,7 +25,6 @@ use Rattle.plan.specs.declared.finding.Sought.{Sought}
 use Rattle.plan.specs.declared.finding.Sought.the-variants as sought
 use Rattle.plan.specs.declared.maps.Asked.{Asked}
 use Rattle.plan.specs.declared.maps.Mapping.{Mapping}
-use Rattle.plan.specs.declared.maps.Placed.the-variants as placed
 use Rattle.plan.specs.declared.protects.Change.{Change}
 use Rattle.plan.specs.declared.protects.Changing.the-variants as changing
 use Rattle.plan.specs.declared.unmaps.Removal.{Removal}
@@ -87,7 +86,7 @@ module _ (s : List ℕ) (sp : Space) where
   pool-in-window e = fits-held (stands (holds s (sp .origin)) sp e .fits)
 
   module _ (m : ℕ → ℕ) where
-    pub map-in-window : (q : Asked) (p : Mapping) → map.decideOf (holds s (sp .origin)) m sp q ≡ placed.Go p
+    pub map-in-window : (q : Asked) (p : Mapping) → map.decideOf (holds s (sp .origin)) m sp q ≡ map.Go p
         → Every (λ x. holds s (sp .origin) x ≡ true) (map.writesOf sp p)
     map-in-window q p e = fits-held (map-went (holds s (sp .origin)) m sp q p e .fits) _ (map-in-pool (holds s (sp .origin)) m sp q p e)
 

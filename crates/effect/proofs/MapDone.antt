@@ -17,8 +17,8 @@ use Rattle.pool.specs.Booked.{settingOf}
 use Rattle.pool.specs.declared.Space.{Space}
 use Rattle.plan.specs.declared.maps.Asked.{Asked}
 use Rattle.plan.specs.declared.maps.Mapping.{Mapping}
-use Rattle.plan.specs.declared.maps.Placed.{Placed}
-use Rattle.plan.specs.declared.maps.Placed.the-variants.{Go}
+use Rattle.plan.specs.Map.{Placed}
+use Rattle.plan.specs.Map.{Go}
 use Rattle.plan.specs.Map.{decideOf, writesOf}
 use Rattle.effect.specs.MapDone.{MapDone}
 use Rattle.effect.specs.Whole.{Whole}

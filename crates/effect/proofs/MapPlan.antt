@@ -27,7 +27,7 @@ use Rattle.plan.specs.declared.Reason.the-variants.{Size, FrameInPool, NoRoom}
 use Rattle.plan.specs.declared.maps.Asked.{Asked}
 use Rattle.plan.specs.declared.maps.Fresh.{Fresh}
 use Rattle.plan.specs.declared.maps.Mapping.{Mapping}
-use Rattle.plan.specs.declared.maps.Placed.the-variants.{Go, Refused}
+use Rattle.plan.specs.Map.{Go, Refused}
 use Rattle.plan.specs.declared.maps.Shape.the-variants.{Level, Bad}
 use Rattle.plan.specs.declared.maps.Supply.the-variants.{Pages, Lacking}
 use Rattle.plan.specs.Descend.{wayOf}

@@ -9,8 +9,8 @@ use Rattle.pool.specs.declared.Space.{Space}
 use Rattle.plan.specs.declared.Reason.{Reason}
 use Rattle.plan.specs.declared.maps.Asked.{Asked}
 use Rattle.plan.specs.declared.maps.Mapping.{Mapping}
-use Rattle.plan.specs.declared.maps.Placed.{Placed}
-use Rattle.plan.specs.declared.maps.Placed.the-variants.{Go, Refused}
+use Rattle.plan.specs.Map.{Placed}
+use Rattle.plan.specs.Map.{Go, Refused}
 use Rattle.plan.specs.Map.{decideOf}
 use Rattle.effect.specs.MapDone.{MapDone}
 use Rattle.effect.specs.MapRefused.{Cause, Given, no-size, base-unaligned, frame-unaligned, base-high, frame-high, frame-in-pool, mapped, no-room}

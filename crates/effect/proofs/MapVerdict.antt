@@ -21,8 +21,8 @@ use Rattle.plan.specs.declared.Reason.the-variants.{Size, BaseUnaligned, FrameU
 use Rattle.plan.specs.declared.descent.Way.{Way}
 use Rattle.plan.specs.declared.maps.Asked.{Asked}
 use Rattle.plan.specs.declared.maps.Mapping.{Mapping}
-use Rattle.plan.specs.declared.maps.Placed.{Placed}
-use Rattle.plan.specs.declared.maps.Placed.the-variants.{Go, Refused}
+use Rattle.plan.specs.Map.{Placed}
+use Rattle.plan.specs.Map.{Go, Refused}
 use Rattle.plan.specs.Descend.{wayOf}
 use Rattle.plan.specs.Map.{fitsOf, supplyOf, placeOf, becauseOf, stoppedOf, shapedOf, decideOf}
 use Rattle.effect.specs.MapDone.{Fitted, Misses}

@@ -8,7 +8,7 @@ use native.Mathlib.Omega.{arith}
 use borrow.Author.Tests.{lt-ltb, le-ltb, le-leb, eq-eqb, ne-eqb}
 use Rattle.entry.specs.Entry.{sizeOf, says}
 use Rattle.entry.specs.declared.Rights.{Rights}
-use Rattle.walk.specs.Walk.{baseOf}
+use Rattle.walk.specs.Walk.{baseOf, indexOf}
 use Rattle.walk.specs.declared.Found.the-variants as found
 use Rattle.tables.specs.Roles.{Role}
 use Rattle.tables.specs.Meaning.{meaning, high-nothing, mean-nothing, mean-page}
@@ -74,7 +74,7 @@ module _ {h : ℕ → Bool} {sp : Space} {m : ℕ → ℕ} {role : ℕ → Role}
   decide y f t (at-page x g r l e) = go (ℕ-discrete (va % sizeOf (y .level)) 0)
     where
       go : Dec (va % sizeOf (y .level) ≡ 0) → Verdict
-      go (yes a) = found-there (record { way = y; frame = x; size = sizeOf (y .level) }) (f ∙ rw (r, eq-eqb (va % sizeOf (y .level)) 0 a, e))
+      go (yes a) = found-there (record { way = y; index = indexOf (y .level) va; frame = x; size = sizeOf (y .level) }) (f ∙ rw (r, eq-eqb (va % sizeOf (y .level)) 0 a, e))
       go (no a) =
           missing (f ∙ rw (r, ne-eqb (va % sizeOf (y .level)) 0 a))
           (other-starts (baseOf (y .level) va) (sizeOf (y .level)) x g (mean-page (w .sound .built) (t .comes) (ap (says (y .level)) (sym (t .word)) ∙ e))

@@ -24,8 +24,7 @@ use Rattle.pool.proofs.Pages.{root-page}
 use Rattle.plan.specs.declared.descent.Way.{Way}
 use Rattle.plan.specs.declared.descent.Why.{Why}
 use Rattle.plan.specs.declared.descent.Why.the-variants as why
-use Rattle.plan.specs.declared.descent.Trail.{Trail}
-use Rattle.plan.specs.declared.descent.Trail.the-variants.{At, Stopped}
+use Rattle.plan.specs.Descend.{Trail, At, Stopped}
 use Rattle.plan.specs.Descend.{pushOf, stopOf, toldOf, arriveOf, stepOf, downOf, endOf, noWay, wayOf}
 
 -- entry i of level l of page q names the table t, and the walk of va comes to q

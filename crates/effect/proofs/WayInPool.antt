@@ -16,8 +16,7 @@ use Rattle.pool.proofs.Counts.{InPool, pool-in}
 use Rattle.plan.specs.declared.descent.Way.{Way}
 use Rattle.plan.specs.declared.descent.Why.{Why}
 use Rattle.plan.specs.declared.descent.Why.the-variants as why
-use Rattle.plan.specs.declared.descent.Trail.{Trail}
-use Rattle.plan.specs.declared.descent.Trail.the-variants.{At, Stopped}
+use Rattle.plan.specs.Descend.{Trail, At, Stopped}
 use Rattle.plan.specs.declared.finding.Spot.{Spot}
 use Rattle.plan.specs.Descend.{pushOf, stopOf, toldOf, arriveOf, stepOf, downOf, endOf, noWay, wayOf}
 use Rattle.plan.proofs.Found.{FoundAt}

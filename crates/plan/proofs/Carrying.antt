@@ -80,11 +80,6 @@ build-carried m origin x0 x1 x2 x3 x4 s1 s2 s3 i u e1 e2 e3 f1 f2 f3 g f4 =
         d4 ∙ carried-then x3 x2 origin _ _ d3 ∙ carried-then x2 x1 origin _ _ d2 ∙ carried-then x1 x0 origin _ _ b1
 
 -- the page alone, where no table is missing
-pub build-here : (m : Mapping) (origin : ℕ) (x0 x1 : List ℕ) (i : ℕ) → m .level < 4 → m .level ≤ m .target
-    → (m .level < 4 → i ≡ indexOf (m .level) (m .base)) → x1 ≡ written x0 origin (m .table) i (m .word) → x1 ≡ carried x0 origin (buildOf m)
-unfolding buildOf growOf nextOf
-build-here m origin x0 x1 i u v g f =
-    f ∙ rw (g u) (simp (le-leb (m .level) (m .target) v) (carried-write x0 origin (m .table) (indexOf (m .level) (m .base)) (m .word)))
 
 -- Unmap -----------------------------------------------------------------------------------------------------------------------
 

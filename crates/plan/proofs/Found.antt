@@ -9,6 +9,7 @@ use Rattle.entry.specs.Entry.{sizeOf, says}
 use Rattle.entry.specs.declared.Rights.{Rights}
 use Rattle.entry.specs.declared.Entry.{Entry}
 use Rattle.entry.specs.declared.Entry.the-variants as entry
+use Rattle.walk.specs.Walk.{indexOf}
 use Rattle.pool.specs.Stands.{standsOf}
 use Rattle.pool.specs.declared.Space.{Space}
 use Rattle.pool.specs.declared.Fit.{Fit}
@@ -33,23 +34,24 @@ pub record FoundAt (h : ℕ → Bool) (m : ℕ → ℕ) (sp : Space) (va : ℕ) 
   pub rights : Rights
   pub entry : says (s .way .level) (s .way .word) ≡ entry.Page (s .frame) rights
   pub size : s .size ≡ sizeOf (s .way .level)
+  pub index : s .index ≡ indexOf (s .way .level) va
 
 module _ (h : ℕ → Bool) (m : ℕ → ℕ) (sp : Space) (va : ℕ) (s : Spot) where
   clash : _≡_ {A = ℕ} 0 1 → FoundAt h m sp va s
   clash z = absurd (omega arith)
 
   module _ (w : Way) (st : standsOf h sp ≡ fit.Fits) (u : va < 2 ^ 48) (ew : wayOf h m sp va 4 ≡ w) where
-    spotted : w .level < 4 → w .why ≡ why.Page → va % sizeOf (w .level) ≡ 0 → (x : Entry) → says (w .level) (w .word) ≡ x → spotOf w x ≡ Found s
+    spotted : w .level < 4 → w .why ≡ why.Page → va % sizeOf (w .level) ≡ 0 → (x : Entry) → says (w .level) (w .word) ≡ x → spotOf va w x ≡ Found s
         → FoundAt h m sp va s
     unfolding spotOf
     spotted l y a entry.Nothing ex k = clash cc
     spotted l y a (entry.Table t g) ex k = clash cc
     spotted l y a (entry.Page f g) ex k =
-        let same : record { way = w; frame = f; size = sizeOf (w .level) } ≡ s = cc in
-        subst (FoundAt h m sp va) same (record { stands = st; address = u; way = ew; low = l; page = y; starts = a; rights = g; entry = ex; size = refl })
+        let same : record { way = w; index = indexOf (w .level) va; frame = f; size = sizeOf (w .level) } ≡ s = cc in
+        subst (FoundAt h m sp va) same (record { stands = st; address = u; way = ew; low = l; page = y; starts = a; rights = g; entry = ex; size = refl; index = refl })
 
     starting : w .level < 4 → w .why ≡ why.Page → (b : Bool) → startsOf (w .level) va ≡ b
-        → cond b (spotOf w (says (w .level) (w .word))) (Refused NothingStarts) ≡ Found s → FoundAt h m sp va s
+        → cond b (spotOf va w (says (w .level) (w .word))) (Refused NothingStarts) ≡ Found s → FoundAt h m sp va s
     starting l y true eb k = spotted l y (unfold startsOf in eqb-true _ 0 eb) (says (w .level) (w .word)) refl k
     starting l y false eb k = clash cc
 

@@ -2,24 +2,35 @@
 -- It goes through pages of the pool only, and remembers the tables that it came through, the last one first.
 use Prim.Native.Nat.{ℕ, zero, suc}
 use mathlib.Core.Bool.{Bool, cond, _&&_}
+use mathlib.Core.Path.{_≡_}
 use lib.Dec.{eqb}
+use Rattle.entry.specs.declared.Rights.{Rights}
 use Rattle.entry.specs.Entry.{says}
 use Rattle.entry.specs.declared.Entry.{Entry}
 use Rattle.entry.specs.declared.Entry.the-variants as entry
-use Rattle.walk.specs.Walk.{entryOf}
+use Rattle.walk.specs.Walk.{indexOf, entryOf}
 use Rattle.pool.specs.Book.{inPool}
 use Rattle.pool.specs.declared.Space.{Space}
 use Rattle.plan.specs.declared.descent.Why.{Why}
 use Rattle.plan.specs.declared.descent.Why.the-variants.{Nothing, Page, Table, Stray}
 use Rattle.plan.specs.declared.descent.Way.{Way}
-use Rattle.plan.specs.declared.descent.Trail.{Trail}
-use Rattle.plan.specs.declared.descent.Trail.the-variants.{At, Stopped}
+use Rattle.plan.specs.declared.descent.Arrival.{Arrival}
+use Rattle.plan.specs.declared.descent.Track.{Track}
+use Rattle.plan.specs.declared.descent.Track.the-variants as track
+
+-- a way that goes on at the table in a page, or has stopped
+pub data Trail : Type 0 where
+  At : ℕ → Way → Trail
+  Stopped : Way → Trail
 
 unfoldable pub pushOf : Way → ℕ → Way
 pushOf w t = record { why = Stray; level = w .level; word = w .word; a = t; b = w .a; c = w .b; d = w .c }
 
+abbrev pub stopWay : Why → ℕ → ℕ → Way → Way
+stopWay y n x w = record { why = y; level = n; word = x; a = w .a; b = w .b; c = w .c; d = w .d }
+
 unfoldable pub stopOf : Why → ℕ → ℕ → Way → Trail
-stopOf y n x w = Stopped (record { why = y; level = n; word = x; a = w .a; b = w .b; c = w .c; d = w .d })
+stopOf y n x w = Stopped (stopWay y n x w)
 
 -- the entry of level n, whose word is x, says so
 unfoldable pub toldOf : ℕ → ℕ → ℕ → Way → Entry → Trail
@@ -56,3 +67,27 @@ startOf sp = At (sp .root) noWay
 -- THE WAY of an address to its entry at the target level
 unfoldable pub wayOf : (ℕ → Bool) → (ℕ → ℕ) → Space → ℕ → ℕ → Way
 wayOf h m sp va target = endOf (downOf h m sp target va 4 (startOf sp))
+
+-- What the code keeps of it, so as not to find it out again: the index of the entry where the way stopped, and its frame ---------
+
+abbrev pub framedOf : Entry → ℕ
+framedOf entry.Nothing = 0
+framedOf (entry.Page f g) = f
+framedOf (entry.Table t g) = 0
+
+-- the entry where the way stopped is a page's
+pub record Paged (w : Way) : Type 0 where
+  pub frame : ℕ
+  pub rights : Rights
+  pub entry : says (w .level) (w .word) ≡ entry.Page frame rights
+
+unfoldable pub stopAt : ℕ → Way → Arrival
+stopAt va w = record { way = w; index = indexOf (w .level) va; frame = framedOf (says (w .level) (w .word)) }
+
+unfoldable pub trackOf : ℕ → Trail → Track
+trackOf va (At t w) = track.At t w
+trackOf va (Stopped w) = track.Stopped (stopAt va w)
+
+abbrev pub levelOf : Trail → ℕ
+levelOf (At t w) = w .level
+levelOf (Stopped w) = w .level

@@ -5,6 +5,7 @@ use lib.Dec.{eqb, leb, ltb}
 use Rattle.entry.specs.Entry.{sizeOf, says}
 use Rattle.entry.specs.declared.Entry.{Entry}
 use Rattle.entry.specs.declared.Entry.the-variants as entry
+use Rattle.walk.specs.Walk.{indexOf}
 use Rattle.pool.specs.Stands.{standsOf}
 use Rattle.pool.specs.declared.Space.{Space}
 use Rattle.pool.specs.declared.Fit.{Fit}
@@ -24,16 +25,16 @@ unfoldable pub startsOf : ℕ → ℕ → Bool
 startsOf n va = eqb (va % sizeOf n) 0
 
 -- the way stopped at a page
-unfoldable pub spotOf : Way → Entry → Sought
-spotOf w entry.Nothing = Refused NothingStarts
-spotOf w (entry.Page f g) = Found (record { way = w; frame = f; size = sizeOf (w .level) })
-spotOf w (entry.Table t g) = Refused NothingStarts
+unfoldable pub spotOf : ℕ → Way → Entry → Sought
+spotOf va w entry.Nothing = Refused NothingStarts
+spotOf va w (entry.Page f g) = Found (record { way = w; index = indexOf (w .level) va; frame = f; size = sizeOf (w .level) })
+spotOf va w (entry.Table t g) = Refused NothingStarts
 
 unfoldable pub becauseOf : ℕ → Way → Why → Sought
 becauseOf va w why.Stray = Refused Stray
 becauseOf va w why.Nothing = Refused NothingStarts
 becauseOf va w why.Table = Refused NothingStarts
-becauseOf va w why.Page = cond (startsOf (w .level) va) (spotOf w (says (w .level) (w .word))) (Refused NothingStarts)
+becauseOf va w why.Page = cond (startsOf (w .level) va) (spotOf va w (says (w .level) (w .word))) (Refused NothingStarts)
 
 unfoldable pub stoppedOf : ℕ → Way → Sought
 stoppedOf va w = cond (leb (w .level) 3) (becauseOf va w (w .why)) (Refused Stray)

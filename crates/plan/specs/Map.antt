@@ -31,8 +31,9 @@ use Rattle.plan.specs.declared.maps.Fresh.{Fresh}
 use Rattle.plan.specs.declared.maps.Supply.{Supply}
 use Rattle.plan.specs.declared.maps.Supply.the-variants.{Pages, Lacking}
 use Rattle.plan.specs.declared.maps.Mapping.{Mapping}
-use Rattle.plan.specs.declared.maps.Placed.{Placed}
-use Rattle.plan.specs.declared.maps.Placed.the-variants.{Go, Refused}
+use Rattle.plan.specs.declared.maps.Leaf.{Leaf}
+use Rattle.plan.specs.declared.maps.Placing.{Placing}
+use Rattle.plan.specs.declared.maps.Placing.the-variants as placing
 use Rattle.plan.specs.declared.maps.Reached.{Reached}
 use Rattle.plan.specs.Descend.{wayOf}
 
@@ -89,6 +90,11 @@ supplyOf h m sp need =
     cond (eqb need 0) noneOf (stockOf h m sp need (openedOf h m sp))
 
 -- The decision -----------------------------------------------------------------------------------------------------------------------
+
+-- what is to be written, or why nothing is
+pub data Placed : Type 0 where
+  Go : Mapping → Placed
+  Refused : Reason → Placed
 
 unfoldable pub madeOf : Asked → ℕ → ℕ → ℕ → Fresh → Made → Placed
 madeOf q target level table f made.Refused = Refused FrameRange
@@ -158,3 +164,15 @@ buildOf p =
 -- WHAT MAP WRITES: the tables, the page, and in the book that pages were taken
 unfoldable pub writesOf : Space → Mapping → List Write
 writesOf sp p = buildOf p ++ cond (ltb 0 (p .fresh .need)) (tookWrites sp (p .fresh .book) (p .fresh .need)) []
+
+-- The same as the code hands it on: where no table is missing, the one entry and its word ------------------------------------------
+
+abbrev pub leafOf : Mapping → Leaf
+leafOf p = record { table = p .table; index = indexOf (p .level) (p .base); word = p .word }
+
+unfoldable pub placingOf : Placed → Placing
+placingOf (Go p) = cond (leb (p .level) (p .target) && eqb (p .fresh .need) 0) (placing.Here (leafOf p)) (placing.Built p)
+placingOf (Refused r) = placing.Refused r
+
+abbrev pub leafWrites : Leaf → List Write
+leafWrites c = write (c .table) (c .index) (c .word) ∷ []

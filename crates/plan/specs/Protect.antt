@@ -15,10 +15,6 @@ use Rattle.plan.specs.declared.protects.Changing.{Changing}
 use Rattle.plan.specs.declared.protects.Changing.the-variants.{Go, Refused}
 use Rattle.plan.specs.Find.{foundOf}
 
--- the spot's level is one of the four
-abbrev pub low : Spot → Type 0
-low s = s .way .level < 4
-
 unfoldable pub changeOf : ℕ → Spot → Rights → Change
 changeOf va s r = record {
   table = s .way .a;

@@ -1,9 +1,12 @@
 // The way from the root towards the entry of an address at a level: where it stops, why, and the tables that it came through.
 ghost use mathlib.Core.Path.{_≡_};
-ghost use Prim.Native.Nat.{_<_};
+ghost use Prim.Native.Nat.{ℕ, _<_};
 ghost use Rattle.word.specs.Memory.{memory, holds};
+ghost use Rattle.entry.specs.Entry.{says};
+ghost use Rattle.walk.specs.Walk.{indexOf};
 ghost use Rattle.pool.specs.Stands.{standsOf};
 ghost use Rattle.pool.specs.declared.Fit.the-variants.{Fits};
+ghost use Rattle.plan.specs.declared.descent.Track.the-variants.{Stopped};
 ghost use Rattle.plan.specs.Descend as the;
 use entry::Entry;
 use pool::Space;
@@ -29,9 +32,16 @@ pub struct Way {
     pub d: u64,
 }
 
-pub enum Trail {
+// The way, and what was found out on it: the entry's index in its table, and the frame where it is a page's.
+pub struct Arrival {
+    pub way: Way,
+    pub index: u64,
+    pub frame: u64,
+}
+
+pub enum Track {
     At(u64, Way),
-    Stopped(Way),
+    Stopped(Arrival),
 }
 
 // The way has come to the table t.
@@ -49,64 +59,69 @@ fn push(w: Way, t: u64) -> Way
     }
 }
 
-fn stop(y: Why, n: u64, x: u64, w: Way) -> Trail
-    ensures { λ r. ⌜ r ≡ the.stopOf y n x w ⌝ }
+fn stop(y: Why, n: u64, x: u64, w: Way, i: u64, f: u64) -> Track
+    ensures { λ r. ⌜ r ≡ Stopped (record { way = the.stopWay y n x w; index = i; frame = f }) ⌝ }
 {
-    Trail::Stopped(Way {
-        why: y,
-        level: n,
-        word: x,
-        a: w.a,
-        b: w.b,
-        c: w.c,
-        d: w.d,
+    Track::Stopped(Arrival {
+        way: Way {
+            why: y,
+            level: n,
+            word: x,
+            a: w.a,
+            b: w.b,
+            c: w.c,
+            d: w.d,
+        },
+        index: i,
+        frame: f,
     })
 }
 
-// The entry of level n, whose word is x, says e.
-fn told(target: u64, n: u64, x: u64, w: Way, e: Entry) -> Trail
-    ensures { λ r. ⌜ r ≡ the.toldOf target n x w e ⌝ }
+// The entry of level n, whose index is i and whose word is x, says e.
+fn told(target: u64, n: u64, x: u64, w: Way, i: u64, e: Entry) -> Track
+    ensures { λ r. ⌜ ((va : ℕ) → i ≡ indexOf n va → e ≡ says n x → r ≡ the.trackOf va (the.toldOf target n x w e)) ⌝ }
 {
     match e {
-        Entry::Nothing => stop(Why::Nothing, n, x, w),
-        Entry::Page(_, _) => stop(Why::Page, n, x, w),
+        Entry::Nothing => stop(Why::Nothing, n, x, w, i, 0),
+        Entry::Page(f, _) => stop(Why::Page, n, x, w, i, f),
         Entry::Table(t, _) => {
             if n == target {
-                stop(Why::Table, n, x, w)
+                stop(Why::Table, n, x, w, i, 0)
             } else {
-                Trail::At(t, w)
+                Track::At(t, w)
             }
         }
     }
 }
 
 // The way has come to the table in page t.
-fn arrive(mem: &[u8], space: Space, target: u64, va: u64, n: u64, t: u64, w: Way) -> Trail
+fn arrive(mem: &[u8], space: Space, target: u64, va: u64, n: u64, t: u64, w: Way) -> Track
     requires { ⌜ (n < 4) × (standsOf (holds (now mem) (space .origin)) space ≡ Fits) ⌝ }
-    ensures { λ r. ⌜ r ≡ the.arriveOf (holds (now (mem .entry)) (space .origin)) (memory (now (mem .entry)) (space .origin)) space target va n t w ⌝ }
+    ensures { λ r. ⌜ r ≡ the.trackOf va (the.arriveOf (holds (now (mem .entry)) (space .origin)) (memory (now (mem .entry)) (space .origin)) space target va n t w) ⌝ }
 {
-    let c = pool::entry(mem, space, t, walk::index(n, va));
+    let i = walk::index(n, va);
+    let c = pool::entry(mem, space, t, i);
     match c {
-        Cell::Word(x) => told(target, n, x, push(w, t), entry::decode(n, x)),
-        Cell::Outside => stop(Why::Stray, n, 0, w),
+        Cell::Word(x) => told(target, n, x, push(w, t), i, entry::decode(n, x)),
+        Cell::Outside => stop(Why::Stray, n, 0, w, i, 0),
     }
 }
 
-fn step(mem: &[u8], space: Space, target: u64, va: u64, n: u64, s: Trail) -> Trail
+fn step(mem: &[u8], space: Space, target: u64, va: u64, n: u64, s: Track) -> Track
     requires { ⌜ (n < 4) × (standsOf (holds (now mem) (space .origin)) space ≡ Fits) ⌝ }
-    ensures { λ r. ⌜ r ≡ the.stepOf (holds (now (mem .entry)) (space .origin)) (memory (now (mem .entry)) (space .origin)) space target va n s ⌝ }
+    ensures { λ r. ⌜ ((o : the.Trail) → s ≡ the.trackOf va o → r ≡ the.trackOf va (the.stepOf (holds (now (mem .entry)) (space .origin)) (memory (now (mem .entry)) (space .origin)) space target va n o)) ⌝ }
 {
     match s {
-        Trail::At(t, w) => arrive(mem, space, target, va, n, t, w),
-        Trail::Stopped(w) => Trail::Stopped(w),
+        Track::At(t, w) => arrive(mem, space, target, va, n, t, w),
+        Track::Stopped(x) => Track::Stopped(x),
     }
 }
 
 // Where the way begins.
-fn start(space: Space) -> Trail
-    ensures { λ r. ⌜ r ≡ the.startOf space ⌝ }
+fn start(space: Space) -> Track
+    ensures { λ r. ⌜ ((va : ℕ) → r ≡ the.trackOf va (the.startOf space)) ⌝ }
 {
-    Trail::At(
+    Track::At(
         space.root,
         Way {
             why: Why::Stray,
@@ -120,23 +135,38 @@ fn start(space: Space) -> Trail
     )
 }
 
-fn end(s: Trail) -> Way
-    ensures { λ r. ⌜ r ≡ the.endOf s ⌝ }
+// The frame that an entry gives.
+fn framed(e: Entry) -> u64
+    ensures { λ r. ⌜ r ≡ the.framedOf e ⌝ }
+{
+    match e {
+        Entry::Nothing => 0,
+        Entry::Page(f, _) => f,
+        Entry::Table(_, _) => 0,
+    }
+}
+
+fn end(va: u64, s: Track) -> Arrival
+    ensures { λ r. ⌜ ((o : the.Trail) → the.levelOf o < 4 → s ≡ the.trackOf va o → r ≡ the.stopAt va (the.endOf o)) ⌝ }
 {
     match s {
-        Trail::At(_, w) => w,
-        Trail::Stopped(w) => w,
+        Track::At(_, w) => Arrival {
+            way: w,
+            index: walk::index(w.level, va),
+            frame: framed(entry::decode(w.level, w.word)),
+        },
+        Track::Stopped(x) => x,
     }
 }
 
 // The way of an address to its entry at the target level.
-pub fn descend(mem: &[u8], space: Space, va: u64, target: u64) -> Way
+pub fn descend(mem: &[u8], space: Space, va: u64, target: u64) -> Arrival
     requires { ⌜ standsOf (holds (now mem) (space .origin)) space ≡ Fits ⌝ }
-    ensures { λ r. ⌜ r ≡ the.wayOf (holds (now (mem .entry)) (space .origin)) (memory (now (mem .entry)) (space .origin)) space va target ⌝ }
+    ensures { λ r. ⌜ r ≡ the.stopAt va (the.wayOf (holds (now (mem .entry)) (space .origin)) (memory (now (mem .entry)) (space .origin)) space va target) ⌝ }
 {
     let s3 = step(mem, space, target, va, 3, start(space));
     let s2 = step(mem, space, target, va, 2, s3);
     let s1 = step(mem, space, target, va, 1, s2);
     let s0 = step(mem, space, target, va, 0, s1);
-    end(s0)
+    end(va, s0)
 }

@@ -2,18 +2,22 @@
 ghost use mathlib.Core.Path.{_≡_};
 ghost use Prim.Native.Nat.{_<_};
 ghost use Rattle.word.specs.Memory.{memory, holds};
+ghost use Rattle.plan.specs.declared.descent.Way.{Way};
+ghost use Rattle.plan.specs.declared.descent.Why.the-variants.{Page};
+ghost use Rattle.plan.specs.Descend.{stopAt, Paged};
 ghost use Rattle.plan.specs.Find as the;
 use crate::Reason;
+use crate::descent::Arrival;
 use crate::descent::Way;
 use crate::descent::Why;
 use crate::descent::descend;
-use entry::Entry;
 use pool::Fit;
 use pool::Space;
 
 // Where the page's entry is, and what it says.
 pub struct Spot {
     pub way: Way,
+    pub index: u64,
     pub frame: u64,
     pub size: u64,
 }
@@ -30,24 +34,11 @@ fn starts(n: u64, va: u64) -> bool
     va % entry::size(n) == 0
 }
 
-// The way stopped at a page whose entry says e.
-fn page_spot(w: Way, e: Entry) -> Sought
-    ensures { λ r. ⌜ (w .level < 4 → r ≡ the.spotOf w e) ⌝ }
+// The way stopped there.
+fn stopped(va: u64, t: Arrival) -> Sought
+    ensures { λ r. ⌜ ((w : Way) → (w .why ≡ Page → Paged w) → t ≡ stopAt va w → r ≡ the.stoppedOf va w) ⌝ }
 {
-    match e {
-        Entry::Page(f, _) => Sought::Found(Spot {
-            way: w,
-            frame: f,
-            size: entry::size(w.level),
-        }),
-        Entry::Nothing => Sought::Refused(Reason::NothingStarts),
-        Entry::Table(_, _) => Sought::Refused(Reason::NothingStarts),
-    }
-}
-
-fn stopped(va: u64, w: Way) -> Sought
-    ensures { λ r. ⌜ r ≡ the.stoppedOf va w ⌝ }
-{
+    let w = t.way;
     if 3 < w.level {
         return Sought::Refused(Reason::Stray);
     }
@@ -58,7 +49,12 @@ fn stopped(va: u64, w: Way) -> Sought
         Why::Table => Sought::Refused(Reason::NothingStarts),
         Why::Page => {
             if starts(w.level, va) {
-                return page_spot(w, entry::decode(w.level, w.word));
+                return Sought::Found(Spot {
+                    way: w,
+                    index: t.index,
+                    frame: t.frame,
+                    size: entry::size(w.level),
+                });
             }
             Sought::Refused(Reason::NothingStarts)
         }

@@ -3,9 +3,13 @@ ghost use mathlib.Core.Path.{_≡_};
 ghost use Prim.Native.Nat.{_+_, _-_, _^_, _<_, _≤_};
 ghost use Rattle.word.specs.Memory.{memory, holds};
 ghost use Rattle.word.specs.Writes.{carried};
+ghost use Rattle.entry.specs.declared.Made.the-variants.{Word};
+ghost use Rattle.entry.specs.Words as made;
+ghost use Rattle.plan.specs.declared.descent.Way.{Way};
+ghost use Rattle.plan.specs.Descend.{stopAt};
 ghost use Rattle.plan.specs.Map as the;
 use crate::Reason;
-use crate::descent::Way;
+use crate::descent::Arrival;
 use crate::descent::Why;
 use crate::descent::descend;
 use entry::Made;
@@ -53,8 +57,16 @@ pub struct Mapping {
     pub fresh: Fresh,
 }
 
-pub enum Placed {
-    Go(Mapping),
+// Where no table is missing: the entry, and the page's word.
+pub struct Leaf {
+    pub table: u64,
+    pub index: u64,
+    pub word: u64,
+}
+
+pub enum Placing {
+    Here(Leaf),
+    Built(Mapping),
     Refused(Reason),
 }
 
@@ -97,7 +109,7 @@ pub fn shaped(size: u64, base: u64, frame: u64) -> Shape
 fn meets(space: Space, frame: u64, size: u64) -> bool
     ensures { λ r. ⌜ (frame + size ≤ 2 ^ 52 → space .pages ≤ 2 ^ 32 → r ≡ the.meetsOf space frame size) ⌝ }
 {
-    if 1099511627776 <= space.first {
+    if 1099511627776 < space.first {
         return false;
     }
     if 4294967296 < space.pages {
@@ -188,90 +200,99 @@ fn supplied(mem: &[u8], space: Space, need: u64) -> Supply
     }
 }
 
-// The page's word was made.
-fn worded(q: Asked, target: u64, level: u64, table: u64, f: Fresh, m: Made) -> Placed
-    ensures { λ r. ⌜ r ≡ the.madeOf q target level table f m ⌝ }
+// The pages for the missing tables were found.
+fn place(q: Asked, target: u64, level: u64, table: u64, x: u64, s: Supply) -> Placing
+    ensures { λ r. ⌜ (target < level → made.madePage target (q .frame) (q .rights) ≡ Word x → r ≡ the.placingOf (the.placeOf q target level table s)) ⌝ }
 {
-    match m {
-        Made::Refused => Placed::Refused(Reason::FrameRange),
-        Made::Word(w) => Placed::Go(Mapping {
+    match s {
+        Supply::Lacking(y) => Placing::Refused(y),
+        Supply::Pages(f) => Placing::Built(Mapping {
             base: q.base,
             target: target,
             level: level,
             table: table,
-            word: w,
+            word: x,
             fresh: f,
         }),
     }
 }
 
-// The way stopped at an entry that says nothing, at this level in this table.
-fn place(q: Asked, target: u64, level: u64, table: u64, s: Supply) -> Placed
-    ensures { λ r. ⌜ r ≡ the.placeOf q target level table s ⌝ }
+// The entry is free.
+fn vacant(mem: &[u8], space: Space, q: Asked, target: u64, x: u64, t: Arrival) -> Placing
+    requires { ⌜ made.madePage target (q .frame) (q .rights) ≡ Word x ⌝ }
+    ensures { λ r. ⌜ ((w : Way) → t ≡ stopAt (q .base) w → r ≡ the.placingOf (the.placeOf q target (w .level) (w .a) (the.supplyOf (holds (now (mem .entry)) (space .origin)) (memory (now (mem .entry)) (space .origin)) space (w .level - target)))) ⌝ }
 {
-    match s {
-        Supply::Lacking(y) => Placed::Refused(y),
-        Supply::Pages(f) => {
-            let rights = q.rights;
-            worded(
+    let w = t.way;
+    if w.level <= target {
+        return Placing::Here(Leaf {
+            table: w.a,
+            index: t.index,
+            word: x,
+        });
+    }
+    place(
+        q,
+        target,
+        w.level,
+        w.a,
+        x,
+        supplied(mem, space, w.level - target),
+    )
+}
+
+fn stopped(mem: &[u8], space: Space, q: Asked, target: u64, x: u64, t: Arrival) -> Placing
+    requires { ⌜ made.madePage target (q .frame) (q .rights) ≡ Word x ⌝ }
+    ensures { λ r. ⌜ ((w : Way) → t ≡ stopAt (q .base) w → r ≡ the.placingOf (the.stoppedOf (holds (now (mem .entry)) (space .origin)) (memory (now (mem .entry)) (space .origin)) space q target w)) ⌝ }
+{
+    let w = t.way;
+    let y = w.why;
+    match y {
+        Why::Nothing => vacant(mem, space, q, target, x, t),
+        Why::Page => Placing::Refused(Reason::Overlap),
+        Why::Table => Placing::Refused(Reason::Overlap),
+        Why::Stray => Placing::Refused(Reason::Stray),
+    }
+}
+
+// The pool is where it says, and the frame does not meet it.
+fn standing(mem: &[u8], space: Space, q: Asked, target: u64, x: u64) -> Placing
+    requires { ⌜ made.madePage target (q .frame) (q .rights) ≡ Word x ⌝ }
+    ensures { λ r. ⌜ (the.Sized q → r ≡ the.placingOf (the.standingOf (holds (now (mem .entry)) (space .origin)) (memory (now (mem .entry)) (space .origin)) space q target)) ⌝ }
+{
+    let fit = pool::stands(mem, space);
+    match fit {
+        Fit::Refused(r) => Placing::Refused(Reason::Pool(r)),
+        Fit::Fits => {
+            if meets(space, q.frame, q.size) {
+                return Placing::Refused(Reason::FrameInPool);
+            }
+            stopped(
+                mem,
+                space,
                 q,
                 target,
-                level,
-                table,
-                f,
-                entry::page_word(target, q.frame, rights),
+                x,
+                descend(mem, space, q.base, target),
             )
         }
     }
 }
 
-// The entry is free. Where no table is missing that is a way of its own: the same test tells them apart when the plan is carried out,
-// and the compiler then leaves the pages that are not needed out of both.
-fn vacant(mem: &[u8], space: Space, q: Asked, target: u64, level: u64, table: u64) -> Placed
-    ensures { λ r. ⌜ r ≡ the.placeOf q target level table (the.supplyOf (holds (now (mem .entry)) (space .origin)) (memory (now (mem .entry)) (space .origin)) space (level - target)) ⌝ }
-{
-    if level <= target {
-        return place(q, target, level, table, none());
-    }
-    place(q, target, level, table, supplied(mem, space, level - target))
-}
-
-fn stopped(mem: &[u8], space: Space, q: Asked, target: u64, w: Way) -> Placed
-    ensures { λ r. ⌜ r ≡ the.stoppedOf (holds (now (mem .entry)) (space .origin)) (memory (now (mem .entry)) (space .origin)) space q target w ⌝ }
-{
-    let y = w.why;
-    match y {
-        Why::Nothing => vacant(mem, space, q, target, w.level, w.a),
-        Why::Page => Placed::Refused(Reason::Overlap),
-        Why::Table => Placed::Refused(Reason::Overlap),
-        Why::Stray => Placed::Refused(Reason::Stray),
-    }
-}
-
-// The pool is where it says, and the frame does not meet it.
-fn standing(mem: &[u8], space: Space, q: Asked, target: u64) -> Placed
-    ensures { λ r. ⌜ (the.Sized q → r ≡ the.standingOf (holds (now (mem .entry)) (space .origin)) (memory (now (mem .entry)) (space .origin)) space q target) ⌝ }
-{
-    let fit = pool::stands(mem, space);
-    match fit {
-        Fit::Refused(r) => Placed::Refused(Reason::Pool(r)),
-        Fit::Fits => {
-            if meets(space, q.frame, q.size) {
-                return Placed::Refused(Reason::FrameInPool);
-            }
-            stopped(mem, space, q, target, descend(mem, space, q.base, target))
-        }
-    }
-}
-
-// What map would write.
-pub fn decide_map(mem: &[u8], space: Space, q: Asked) -> Placed
-    ensures { λ r. ⌜ r ≡ the.decideOf (holds (now (mem .entry)) (space .origin)) (memory (now (mem .entry)) (space .origin)) space q ⌝ }
+// What map would write. The word is made first, where the compiler has just seen that the frame fits.
+pub fn decide_map(mem: &[u8], space: Space, q: Asked) -> Placing
+    ensures { λ r. ⌜ r ≡ the.placingOf (the.decideOf (holds (now (mem .entry)) (space .origin)) (memory (now (mem .entry)) (space .origin)) space q) ⌝ }
 {
     let s = shaped(q.size, q.base, q.frame);
     match s {
-        Shape::Bad(r) => Placed::Refused(r),
-        Shape::Level(n) => standing(mem, space, q, n),
+        Shape::Bad(r) => Placing::Refused(r),
+        Shape::Level(n) => {
+            let rights = q.rights;
+            let m = entry::page_word(n, q.frame, rights);
+            match m {
+                Made::Refused => Placing::Refused(Reason::FrameRange),
+                Made::Word(x) => standing(mem, space, q, n, x),
+            }
+        }
     }
 }
 
@@ -311,11 +332,6 @@ fn grow(mem: &mut [u8], origin: u64, va: u64, target: u64, p: u64, s: Reached) -
 fn build(mem: &mut [u8], origin: u64, m: Mapping)
     ensures { λ _. ⌜ (m .level < 4 → now (mem .exit) ≡ carried (now (mem .entry)) origin (the.buildOf m)) ⌝ }
 {
-    // no table is missing
-    if m.level <= m.target {
-        word::write(mem, origin, m.table, walk::index(m.level, m.base), m.word);
-        return;
-    }
     let f = m.fresh;
     let s0 = Reached {
         level: m.level,
@@ -325,6 +341,13 @@ fn build(mem: &mut [u8], origin: u64, m: Mapping)
     let s2 = grow(mem, origin, m.base, m.target, f.b, s1);
     let s3 = grow(mem, origin, m.base, m.target, f.c, s2);
     word::write(mem, origin, s3.table, walk::index(s3.level, m.base), m.word);
+}
+
+// Where no table is missing: one write.
+pub fn carry_here(mem: &mut [u8], space: Space, c: Leaf)
+    ensures { λ _. ⌜ now (mem .exit) ≡ carried (now (mem .entry)) (space .origin) (the.leafWrites c) ⌝ }
+{
+    word::write(mem, space.origin, c.table, c.index, c.word)
 }
 
 pub fn carry_map(mem: &mut [u8], space: Space, m: Mapping)

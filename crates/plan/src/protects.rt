@@ -2,6 +2,7 @@
 ghost use mathlib.Core.Path.{_≡_};
 ghost use Rattle.word.specs.Memory.{memory, holds};
 ghost use Rattle.word.specs.Writes.{carried};
+ghost use Rattle.walk.specs.Walk.{indexOf};
 ghost use Rattle.plan.specs.Protect as the;
 use crate::Reason;
 use crate::finding::Sought;
@@ -25,12 +26,12 @@ pub enum Changing {
 }
 
 fn changed(va: u64, s: Spot, rights: Rights) -> Change
-    ensures { λ r. ⌜ (the.low s → r ≡ the.changeOf va s rights) ⌝ }
+    ensures { λ r. ⌜ (s .index ≡ indexOf (s .way .level) va → r ≡ the.changeOf va s rights) ⌝ }
 {
     let w = s.way;
     Change {
         table: w.a,
-        index: walk::index(w.level, va),
+        index: s.index,
         word: entry::with_rights(w.word, rights),
         frame: s.frame,
         size: s.size,

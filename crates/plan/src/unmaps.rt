@@ -28,13 +28,13 @@ pub enum Removing {
 }
 
 // How many tables become empty, from the one of the page's entry up; the root stays.
-fn emptied(mem: &[u8], origin: u64, va: u64, w: Way) -> u64
-    ensures { λ r. ⌜ r ≡ the.emptiedOf (holds (now (mem .entry)) origin) (memory (now (mem .entry)) origin) va w ⌝ }
+fn emptied(mem: &[u8], origin: u64, va: u64, i: u64, w: Way) -> u64
+    ensures { λ r. ⌜ (i ≡ indexOf (w .level) va → r ≡ the.emptiedOf (holds (now (mem .entry)) origin) (memory (now (mem .entry)) origin) va w) ⌝ }
 {
     if 3 <= w.level {
         return 0;
     }
-    if word::besides(mem, origin, w.a, walk::index(w.level, va)) {
+    if word::besides(mem, origin, w.a, i) {
         return 0;
     }
     if 2 <= w.level {
@@ -100,7 +100,7 @@ pub fn decide_unmap(mem: &[u8], space: Space, va: u64) -> Removing
         Sought::Refused(r) => Removing::Refused(r),
         Sought::Found(p) => {
             let w = p.way;
-            remove(mem, space, p, emptied(mem, space.origin, va, w))
+            remove(mem, space, p, emptied(mem, space.origin, va, p.index, w))
         }
     }
 }
@@ -129,8 +129,8 @@ fn cut(
 
 // Answers the book after it.
 pub fn carry_unmap(mem: &mut [u8], space: Space, va: u64, r: Removal) -> Book
-    ensures { λ b. ⌜ (the.low r → b ≡ the.bookAfter space r) ⌝ }
-    ensures { λ _. ⌜ (the.low r → now (mem .exit) ≡ carried (now (mem .entry)) (space .origin) (the.writesOf space va r)) ⌝ }
+    ensures { λ b. ⌜ (the.low r → r .spot .index ≡ indexOf (r .spot .way .level) va → b ≡ the.bookAfter space r) ⌝ }
+    ensures { λ _. ⌜ (the.low r → r .spot .index ≡ indexOf (r .spot .way .level) va → now (mem .exit) ≡ carried (now (mem .entry)) (space .origin) (the.writesOf space va r)) ⌝ }
 {
     let s = r.spot;
     let w = s.way;
@@ -140,7 +140,7 @@ pub fn carry_unmap(mem: &mut [u8], space: Space, va: u64, r: Removal) -> Book
     if 3 < l {
         return b0;
     }
-    word::write(mem, space.origin, w.a, walk::index(l, va), 0);
+    word::write(mem, space.origin, w.a, s.index, 0);
     if n == 0 {
         return b0;
     }

@@ -27,8 +27,7 @@ use Rattle.plan.specs.Map as map
 use Rattle.plan.specs.Unmap as unmap
 use Rattle.plan.specs.Protect as protect
 use Rattle.plan.specs.declared.maps.Asked.{Asked}
-use Rattle.plan.specs.declared.maps.Placed.{Placed}
-use Rattle.plan.specs.declared.maps.Placed.the-variants as placed
+use Rattle.plan.specs.Map.{Placed}
 use Rattle.plan.specs.declared.unmaps.Removing.{Removing}
 use Rattle.plan.specs.declared.unmaps.Removing.the-variants as removing
 use Rattle.plan.specs.declared.protects.Changing.{Changing}
@@ -44,8 +43,8 @@ use Rattle.tablepath.specs.Calls as calls
 module _ (h : ℕ → Bool) (m : ℕ → ℕ) (sp : Space) where
   did-map : (q : Asked) (x : Placed) → map.decideOf h m sp q ≡ x → Every (OfPool sp) (mapDid sp x)
   unfolding mapDid
-  did-map q (placed.Go p) e = map-in-pool h m sp q p e
-  did-map q (placed.Refused r) e = none
+  did-map q (map.Go p) e = map-in-pool h m sp q p e
+  did-map q (map.Refused r) e = none
 
   did-unmap : (va : ℕ) (x : Removing) → unmap.decideOf h m sp va ≡ x → Every (OfPool sp) (unmapDid sp va x)
   unfolding unmapDid

@@ -1,4 +1,5 @@
 pub mod Low
+pub mod Handed
 pub mod Marking
 pub mod Serving
 pub mod Running

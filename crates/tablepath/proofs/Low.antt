@@ -37,61 +37,16 @@ use Rattle.plan.specs.declared.maps.Supply.{Supply}
 use Rattle.plan.specs.declared.maps.Supply.the-variants as supply
 use Rattle.plan.specs.declared.maps.Shape.{Shape}
 use Rattle.plan.specs.declared.maps.Shape.the-variants as shape
-use Rattle.plan.specs.declared.maps.Placed.the-variants as placed
 use Rattle.plan.specs.declared.finding.Spot.{Spot}
 use Rattle.plan.specs.declared.finding.Sought.{Sought}
 use Rattle.plan.specs.declared.finding.Sought.the-variants as sought
 use Rattle.plan.specs.declared.unmaps.Removal.{Removal}
 use Rattle.plan.specs.declared.unmaps.Removing.the-variants as removing
-use Rattle.plan.specs.Descend.{pushOf, stopOf, toldOf, arriveOf, stepOf, downOf, endOf, noWay, wayOf}
+use Rattle.plan.specs.Descend.{wayOf}
 use Rattle.plan.specs.declared.descent.Way.{Way}
 use Rattle.plan.specs.declared.descent.Why.{Why}
 use Rattle.plan.specs.declared.descent.Why.the-variants as why
-use Rattle.plan.specs.declared.descent.Trail.{Trail}
-use Rattle.plan.specs.declared.descent.Trail.the-variants.{At, Stopped}
-
--- The way stops at one of the four levels ------------------------------------------------------------------------------------
-
-abbrev levelOf : Trail → ℕ
-levelOf (At t w) = w .level
-levelOf (Stopped w) = w .level
-
-end-level : (s : Trail) → endOf s .level ≡ levelOf s
-unfolding endOf
-end-level (At t w) = refl
-end-level (Stopped w) = refl
-
-told-low : (target n x : ℕ) (w : Way) (e : Entry) → n < 4 → w .level < 4 → levelOf (toldOf target n x w e) < 4
-unfolding toldOf stopOf
-told-low target n x w entry.Nothing u v = u
-told-low target n x w (entry.Page f g) u v = u
-told-low target n x w (entry.Table t g) u v = go (eqb n target)
-  where
-    go : (b : Bool) → levelOf (cond b (stopOf why.Table n x w) (At t w)) < 4
-    go true = u
-    go false = v
-
-step-low : (h : ℕ → Bool) (m : ℕ → ℕ) (sp : Space) (target va n : ℕ) (s : Trail) → n < 4 → levelOf s < 4 → levelOf (stepOf h m sp target va n s) < 4
-unfolding stepOf arriveOf stopOf pushOf
-step-low h m sp target va n (Stopped w) u v = v
-step-low h m sp target va n (At t w) u v = go (inPool sp t) (h t)
-  where
-    go : (a b : Bool)
-        → levelOf (cond a (cond b (toldOf target n (m (entryOf n va t)) (pushOf w t) (says n (m (entryOf n va t)))) (stopOf why.Stray n 0 w)) (stopOf why.Stray n 0 w)) < 4
-    go true true = told-low target n (m (entryOf n va t)) (pushOf w t) (says n (m (entryOf n va t))) u v
-    go true false = u
-    go false b = u
-
-down-low : (h : ℕ → Bool) (m : ℕ → ℕ) (sp : Space) (target va n : ℕ) (s : Trail) → n ≤ 4 → levelOf s < 4 → levelOf (downOf h m sp target va n s) < 4
-unfolding downOf
-down-low h m sp target va zero s u v = v
-down-low h m sp target va (suc n) s u v =
-    down-low h m sp target va n (stepOf h m sp target va n s) (omega arith) (step-low h m sp target va n s (omega arith) v)
-
-pub way-low : (h : ℕ → Bool) (m : ℕ → ℕ) (sp : Space) (va target : ℕ) → wayOf h m sp va target .level < 4
-unfolding wayOf
-way-low h m sp va target =
-    rw (end-level (downOf h m sp target va 4 (At (sp .root) noWay))) (down-low h m sp target va 4 (At (sp .root) noWay) (omega arith) (omega arith))
+use Rattle.plan.proofs.Ways.{way-low}
 
 -- Map --------------------------------------------------------------------------------------------------------------------------
 
@@ -99,40 +54,40 @@ module _ (h : ℕ → Bool) (m : ℕ → ℕ) (sp : Space) (q : Asked) (p : Mapp
   no-low : _≡_ {A = ℕ} 0 1 → p .level < 4
   no-low z = absurd (omega arith)
 
-  made-low : (target level table : ℕ) (f : Fresh) (x : Made) → level < 4 → map.madeOf q target level table f x ≡ placed.Go p → p .level < 4
+  made-low : (target level table : ℕ) (f : Fresh) (x : Made) → level < 4 → map.madeOf q target level table f x ≡ map.Go p → p .level < 4
   unfolding map.madeOf
   made-low target level table f made.Refused u e = no-low cc
   made-low target level table f (made.Word w) u e = let same : level ≡ p .level = cc in rw (← same) u
 
-  place-low : (target level table : ℕ) (s : Supply) → level < 4 → map.placeOf q target level table s ≡ placed.Go p → p .level < 4
+  place-low : (target level table : ℕ) (s : Supply) → level < 4 → map.placeOf q target level table s ≡ map.Go p → p .level < 4
   unfolding map.placeOf
   place-low target level table (supply.Lacking y) u e = no-low cc
   place-low target level table (supply.Pages f) u e = made-low target level table f (madePage target (q .frame) (q .rights)) u e
 
-  because-low : (target level table : ℕ) (y : Why) → level < 4 → map.becauseOf h m sp q target level table y ≡ placed.Go p → p .level < 4
+  because-low : (target level table : ℕ) (y : Why) → level < 4 → map.becauseOf h m sp q target level table y ≡ map.Go p → p .level < 4
   unfolding map.becauseOf
   because-low target level table why.Nothing u e = place-low target level table (map.supplyOf h m sp (level - target)) u e
   because-low target level table why.Page u e = no-low cc
   because-low target level table why.Table u e = no-low cc
   because-low target level table why.Stray u e = no-low cc
 
-  fitting-low : (target : ℕ) (x : Fit) → map.fittingOf h m sp q target x ≡ placed.Go p → p .level < 4
+  fitting-low : (target : ℕ) (x : Fit) → map.fittingOf h m sp q target x ≡ map.Go p → p .level < 4
   unfolding map.fittingOf map.stoppedOf
   fitting-low target (fit.Refused r) e = no-low cc
   fitting-low target fit.Fits e = go (map.meetsOf sp (q .frame) (q .size)) e
     where
-      go : (b : Bool) → cond b (placed.Refused FrameInPool) (map.stoppedOf h m sp q target (wayOf h m sp (q .base) target)) ≡ placed.Go p → p .level < 4
+      go : (b : Bool) → cond b (map.Refused FrameInPool) (map.stoppedOf h m sp q target (wayOf h m sp (q .base) target)) ≡ map.Go p → p .level < 4
       go true k = no-low cc
       go false k =
           let w : Way = wayOf h m sp (q .base) target in
           because-low target (w .level) (w .a) (w .why) (way-low h m sp (q .base) target) k
 
-  shaped-low : (x : Shape) → map.shapedOf h m sp q x ≡ placed.Go p → p .level < 4
+  shaped-low : (x : Shape) → map.shapedOf h m sp q x ≡ map.Go p → p .level < 4
   unfolding map.shapedOf map.standingOf
   shaped-low (shape.Bad r) e = no-low cc
   shaped-low (shape.Level n) e = fitting-low n (standsOf h sp) e
 
-  pub map-low : map.decideOf h m sp q ≡ placed.Go p → p .level < 4
+  pub map-low : map.decideOf h m sp q ≡ map.Go p → p .level < 4
   unfolding map.decideOf
   map-low e = shaped-low (map.shapeOf (q .size) (q .base) (q .frame)) e
 
@@ -155,9 +110,10 @@ emptied-low h m va w u =
     go false false false false false true ea eb ec = omega (arith, leb-false 1 (w .level) ec)
     go false false false false false false ea eb ec = omega (arith, leb-false 1 (w .level) ec)
 
--- what a decision to go shows: the levels, and that the ticket fits
-pub record Fitting (sp : Space) (r : Removal) : Type 0 where
+-- what a decision to go shows: the levels, the index, and that the ticket fits
+pub record Fitting (sp : Space) (va : ℕ) (r : Removal) : Type 0 where
   pub low : unmap.low r
+  pub index : r .spot .index ≡ indexOf (r .spot .way .level) va
   pub ticket : ticketOf (unmap.bookAfter sp r) < 2 ^ 64
 
 -- setting aside at most adds one
@@ -182,42 +138,43 @@ after-ticket sp r =
     omega (arith, cut-ticket sp 2 (r .empties) (unmap.book2 sp r), cut-ticket sp 1 (r .empties) (unmap.book1 sp r), cut-ticket sp 0 (r .empties) (r .book))
 
 module _ (h : ℕ → Bool) (m : ℕ → ℕ) (sp : Space) (va : ℕ) (r : Removal) where
-  clash : _≡_ {A = ℕ} 0 1 → Fitting sp r
+  clash : _≡_ {A = ℕ} 0 1 → Fitting sp va r
   clash z = absurd (omega arith)
 
-  booked-fits : (s : Spot) (n : ℕ) → s .way .level + n < 4 → (b : Book) → unmap.bookedOf sp s n b ≡ removing.Go r → Fitting sp r
+  booked-fits : (s : Spot) (n : ℕ) → s .way .level + n < 4 → s .index ≡ indexOf (s .way .level) va → (b : Book) → unmap.bookedOf sp s n b ≡ removing.Go r → Fitting sp va r
   unfolding unmap.bookedOf
-  booked-fits s n u b e = go (takesOf sp b n) refl e
+  booked-fits s n u i b e = go (takesOf sp b n) refl e
     where
       go : (t : Bool) → takesOf sp b n ≡ t → cond t (removing.Go (record { spot = s; empties = n; book = b })) (removing.Refused (Pool BadBook)) ≡ removing.Go r
-          → Fitting sp r
+          → Fitting sp va r
       go false et k = clash cc
       go true et k =
           let same : record { spot = s; empties = n; book = b } ≡ r = cc in
           let o = sound-is (sp .pages) b (unfold takesOf in and-both _ _ et .0) in
-          subst (Fitting sp) same (record { low = u; ticket = omega (arith, after-ticket sp (record { spot = s; empties = n; book = b }), o .early, o .small, o .room) })
+          subst (Fitting sp va) same (record { low = u; index = i; ticket = omega (arith, after-ticket sp (record { spot = s; empties = n; book = b }), o .early, o .small, o .room) })
 
-  opened-fits : (s : Spot) (n : ℕ) → s .way .level + n < 4 → (x : Opened) → unmap.openOf sp s n x ≡ removing.Go r → Fitting sp r
+  opened-fits : (s : Spot) (n : ℕ) → s .way .level + n < 4 → s .index ≡ indexOf (s .way .level) va → (x : Opened) → unmap.openOf sp s n x ≡ removing.Go r → Fitting sp va r
   unfolding unmap.openOf
-  opened-fits s n u (opened.Book b) e = booked-fits s n u b e
-  opened-fits s n u (opened.Refused y) e = clash cc
+  opened-fits s n u i (opened.Book b) e = booked-fits s n u i b e
+  opened-fits s n u i (opened.Refused y) e = clash cc
 
-  remove-fits : (s : Spot) (n : ℕ) → s .way .level + n < 4 → unmap.removeOf h m sp s n ≡ removing.Go r → Fitting sp r
+  remove-fits : (s : Spot) (n : ℕ) → s .way .level + n < 4 → s .index ≡ indexOf (s .way .level) va → unmap.removeOf h m sp s n ≡ removing.Go r → Fitting sp va r
   unfolding unmap.removeOf
-  remove-fits s n u e = go (eqb n 0) e
+  remove-fits s n u i e = go (eqb n 0) e
     where
-      go : (t : Bool) → cond t (removing.Go (record { spot = s; empties = 0; book = map.noBook })) (unmap.openOf sp s n (openedOf h m sp)) ≡ removing.Go r → Fitting sp r
+      go : (t : Bool) → cond t (removing.Go (record { spot = s; empties = 0; book = map.noBook })) (unmap.openOf sp s n (openedOf h m sp)) ≡ removing.Go r → Fitting sp va r
       go true k =
           let same : record { spot = s; empties = 0; book = map.noBook } ≡ r = cc in
-          subst (Fitting sp) same (record { low = omega arith; ticket = omega (arith, after-ticket sp (record { spot = s; empties = 0; book = map.noBook })) })
-      go false k = opened-fits s n u (openedOf h m sp) k
+          subst (Fitting sp va) same (record { low = omega arith; index = i; ticket = omega (arith, after-ticket sp (record { spot = s; empties = 0; book = map.noBook })) })
+      go false k = opened-fits s n u i (openedOf h m sp) k
 
-  sought-fits : (x : Sought) → foundOf h m sp va ≡ x → unmap.soughtOf h m sp va x ≡ removing.Go r → Fitting sp r
+  sought-fits : (x : Sought) → foundOf h m sp va ≡ x → unmap.soughtOf h m sp va x ≡ removing.Go r → Fitting sp va r
   unfolding unmap.soughtOf
   sought-fits (sought.Refused y) ex e = clash cc
   sought-fits (sought.Found s) ex e =
-      remove-fits s (unmap.emptiedOf h m va (s .way)) (emptied-low h m va (s .way) (found-at h m sp va s ex .low)) e
+      let k = found-at h m sp va s ex in
+      remove-fits s (unmap.emptiedOf h m va (s .way)) (emptied-low h m va (s .way) (k .low)) (k .index) e
 
-  pub unmap-fits : unmap.decideOf h m sp va ≡ removing.Go r → Fitting sp r
+  pub unmap-fits : unmap.decideOf h m sp va ≡ removing.Go r → Fitting sp va r
   unfolding unmap.decideOf
   unmap-fits e = sought-fits (foundOf h m sp va) refl e

@@ -17,8 +17,7 @@ use Rattle.pool.specs.declared.Space.{Space}
 use Rattle.plan.specs.Map as map
 use Rattle.plan.specs.Unmap as unmap
 use Rattle.plan.specs.declared.maps.Asked.{Asked}
-use Rattle.plan.specs.declared.maps.Placed.{Placed}
-use Rattle.plan.specs.declared.maps.Placed.the-variants as placed
+use Rattle.plan.specs.Map.{Placed}
 use Rattle.effect.specs.StartsAt.{StartsAt}
 use Rattle.effect.proofs.MapDone.{decided-done}
 use Rattle.effect.proofs.Exactly.{unmap-exactly}
@@ -47,8 +46,8 @@ module _ (s : List ℕ) (sp : Space) (role : ℕ → Role) (w : WholeBytes s sp 
   wide = go (map.decideOf (holds s (sp .origin)) (memory s (sp .origin)) sp q) refl done
     where
       go : (x : Placed) → map.decideOf (holds s (sp .origin)) (memory s (sp .origin)) sp q ≡ x → mapSaid x ≡ mapped.Done k → 0 < q .size
-      go (placed.Refused y) e f = let z : _≡_ {A = ℕ} 0 1 = cc in absurd (omega arith)
-      go (placed.Go p) e f = let d = decided-done w q p e in omega (arith, d .fitted .size-is, size-pos (p .target))
+      go (map.Refused y) e f = let z : _≡_ {A = ℕ} 0 1 = cc in absurd (omega arith)
+      go (map.Go p) e f = let d = decided-done w q p e in omega (arith, d .fitted .size-is, size-pos (p .target))
 
   at-base : lookUp mapped-window sp (q .base) ≡ Page (q .base) (q .size) (q .frame) (q .rights)
   at-base = look-up-after-map s sp role w q k done (q .base) (omega arith, omega (arith, wide))

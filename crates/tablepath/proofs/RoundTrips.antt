@@ -21,8 +21,7 @@ use Rattle.plan.specs.Map as map
 use Rattle.plan.specs.Unmap as unmap
 use Rattle.plan.specs.Protect as protect
 use Rattle.plan.specs.declared.maps.Asked.{Asked}
-use Rattle.plan.specs.declared.maps.Placed.{Placed}
-use Rattle.plan.specs.declared.maps.Placed.the-variants as placed
+use Rattle.plan.specs.Map.{Placed}
 use Rattle.plan.specs.declared.unmaps.Removing.{Removing}
 use Rattle.plan.specs.declared.unmaps.Removing.the-variants as removing
 use Rattle.plan.specs.declared.protects.Changing.{Changing}
@@ -68,8 +67,8 @@ module _ (s : List ℕ) (sp : Space) (role : ℕ → Role) (w : Whole (holds s (
         → (In (q .base) (q .size) va → lookUp (carried s (sp .origin) (mapDid sp x)) sp va ≡ Page (q .base) (q .size) (q .frame) (q .rights))
         × ((In (q .base) (q .size) va → ⊥) → lookUp (carried s (sp .origin) (mapDid sp x)) sp va ≡ lookUp s sp va)
     unfolding mapSaid mapDid
-    map-looks (placed.Refused r) e f va = let z : _≡_ {A = ℕ} 0 1 = cc in absurd (omega arith)
-    map-looks (placed.Go p) e f va =
+    map-looks (map.Refused r) e f va = let z : _≡_ {A = ℕ} 0 1 = cc in absurd (omega arith)
+    map-looks (map.Go p) e f va =
         let d = decided-done w q p e in
         let same = look-up-carried s sp (map.writesOf sp p) (every-map (λ x u. u .held) (map.writesOf sp p) (d .proper)) va in
         (λ i. same ∙ mapped-inside w q p d va (i .0) (i .1), λ n. same ∙ mapped-outside w q p d va (λ x y. n (x, y)))

@@ -28,8 +28,7 @@ use Rattle.plan.specs.Map as map
 use Rattle.plan.specs.Unmap as unmap
 use Rattle.plan.specs.Protect as protect
 use Rattle.plan.specs.declared.maps.Asked.{Asked}
-use Rattle.plan.specs.declared.maps.Placed.{Placed}
-use Rattle.plan.specs.declared.maps.Placed.the-variants as placed
+use Rattle.plan.specs.Map.{Placed}
 use Rattle.plan.specs.declared.unmaps.Removing.{Removing}
 use Rattle.plan.specs.declared.unmaps.Removing.the-variants as removing
 use Rattle.plan.specs.declared.protects.Changing.{Changing}
@@ -57,8 +56,8 @@ module _ (h : ℕ → Bool) (sp : Space) (n : ℕ) (m : ℕ → ℕ) (role : ℕ
 
   map-served : (q : Asked) (x : Placed) → map.decideOf h m sp q ≡ x → Served h sp n m (mapDid sp x)
   unfolding mapDid
-  map-served q (placed.Refused r) e = none-served
-  map-served q (placed.Go p) e = let d = decided-done w q p e in changed-serves w u (d .changed) (d .whole) (d .numbers)
+  map-served q (map.Refused r) e = none-served
+  map-served q (map.Go p) e = let d = decided-done w q p e in changed-serves w u (d .changed) (d .whole) (d .numbers)
 
   unmap-served : (va : ℕ) (x : Removing) → unmap.decideOf h m sp va ≡ x → Served h sp n m (unmapDid sp va x)
   unfolding unmapDid

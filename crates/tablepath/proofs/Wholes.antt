@@ -29,8 +29,7 @@ use Rattle.plan.specs.Map as map
 use Rattle.plan.specs.Unmap as unmap
 use Rattle.plan.specs.Protect as protect
 use Rattle.plan.specs.declared.maps.Asked.{Asked}
-use Rattle.plan.specs.declared.maps.Placed.{Placed}
-use Rattle.plan.specs.declared.maps.Placed.the-variants as placed
+use Rattle.plan.specs.Map.{Placed}
 use Rattle.plan.specs.declared.unmaps.Removing.{Removing}
 use Rattle.plan.specs.declared.unmaps.Removing.the-variants as removing
 use Rattle.plan.specs.declared.protects.Changing.{Changing}
@@ -100,8 +99,8 @@ module _ (h : ℕ → Bool) (sp : Space) (m : ℕ → ℕ) (role : ℕ → Role)
 
   map-leaves : (q : Asked) (x : Placed) → map.decideOf h m sp q ≡ x → Leaves (mapDid sp x)
   unfolding mapDid
-  map-leaves q (placed.Refused r) e = none-leaves
-  map-leaves q (placed.Go p) e = let d = decided-done w q p e in ((d .role', d .whole), every-map (λ x u. u .held) (map.writesOf sp p) (d .proper))
+  map-leaves q (map.Refused r) e = none-leaves
+  map-leaves q (map.Go p) e = let d = decided-done w q p e in ((d .role', d .whole), every-map (λ x u. u .held) (map.writesOf sp p) (d .proper))
 
   unmap-leaves : (va : ℕ) (x : Removing) → unmap.decideOf h m sp va ≡ x → Leaves (unmapDid sp va x)
   unfolding unmapDid

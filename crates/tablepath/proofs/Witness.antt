@@ -31,7 +31,6 @@ use Rattle.plan.specs.Map as map
 use Rattle.plan.specs.declared.Reason.{Reason}
 use Rattle.plan.specs.declared.maps.Asked.{Asked}
 use Rattle.plan.specs.declared.maps.Mapping.{Mapping}
-use Rattle.plan.specs.declared.maps.Placed.the-variants as placed
 use Rattle.effect.specs.Whole.{Whole}
 use Rattle.effect.specs.MapDone.{MapDone}
 use Rattle.effect.specs.MapRefused.{Cause, no-size, base-unaligned, frame-unaligned, base-high, frame-high, frame-in-pool, mapped, no-room}
@@ -131,7 +130,7 @@ module _ (s : List ℕ) (e : length s ≡ 20480) where
   fine r (no-room l n g c x k u) = omega (arith, enough, only-root start (k .comes))
 
   -- map goes on
-  pub goes : (p : Mapping) × (map.decideOf (holds bytes 0) (memory bytes 0) five page ≡ placed.Go p) × MapDone (holds bytes 0) five (memory bytes 0) (newRole five) page p
+  pub goes : (p : Mapping) × (map.decideOf (holds bytes 0) (memory bytes 0) five page ≡ map.Go p) × MapDone (holds bytes 0) five (memory bytes 0) (newRole five) page p
   goes = map-succeeds start page .1 fine
 
   -- THE WITNESS: the space is whole; the three free pages are tables; address 0 means the page

@@ -16,8 +16,7 @@ use Rattle.plan.specs.Map as map
 use Rattle.plan.specs.Unmap as unmap
 use Rattle.plan.specs.Protect as protect
 use Rattle.plan.specs.declared.maps.Asked.{Asked}
-use Rattle.plan.specs.declared.maps.Placed.{Placed}
-use Rattle.plan.specs.declared.maps.Placed.the-variants as placed
+use Rattle.plan.specs.Map.{Placed}
 use Rattle.plan.specs.declared.unmaps.Removing.{Removing}
 use Rattle.plan.specs.declared.unmaps.Removing.the-variants as removing
 use Rattle.plan.specs.declared.unmaps.Removal.{Removal}
@@ -36,12 +35,12 @@ use Rattle.tablepath.specs.declared.Report.the-variants as told
 -- Map --------------------------------------------------------------------------------------------------------------------------
 
 unfoldable pub mapSaid : Placed → Mapped
-mapSaid (placed.Go p) = mapped.Done (p .fresh .need)
-mapSaid (placed.Refused r) = mapped.Refused r
+mapSaid (map.Go p) = mapped.Done (p .fresh .need)
+mapSaid (map.Refused r) = mapped.Refused r
 
 unfoldable pub mapDid : Space → Placed → List Write
-mapDid sp (placed.Go p) = map.writesOf sp p
-mapDid sp (placed.Refused r) = []
+mapDid sp (map.Go p) = map.writesOf sp p
+mapDid sp (map.Refused r) = []
 
 unfoldable pub mapAnswer : (ℕ → Bool) → (ℕ → ℕ) → Space → Asked → Mapped
 mapAnswer h m sp q = mapSaid (map.decideOf h m sp q)

@@ -9,7 +9,7 @@ ghost use Rattle.pool.specs.Create as made;
 ghost use Rattle.tablepath.specs.Answers as the;
 use plan::Asked;
 use plan::Changing;
-use plan::Placed;
+use plan::Placing;
 use plan::Reason;
 use plan::Removing;
 use pool::Created;
@@ -73,8 +73,12 @@ pub fn map(mem: &mut [u8], space: Space, q: Asked) -> Mapped
 {
     let d = plan::decide_map(mem, space, q);
     match d {
-        Placed::Refused(r) => Mapped::Refused(r),
-        Placed::Go(p) => {
+        Placing::Refused(r) => Mapped::Refused(r),
+        Placing::Here(c) => {
+            plan::carry_here(mem, space, c);
+            Mapped::Done(0)
+        }
+        Placing::Built(p) => {
             plan::carry_map(mem, space, p);
             let f = p.fresh;
             Mapped::Done(f.need)

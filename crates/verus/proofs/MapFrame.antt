@@ -25,8 +25,7 @@ use Rattle.plan.specs.Map as map
 use Rattle.plan.specs.declared.Reason.{Reason}
 use Rattle.plan.specs.declared.maps.Asked.{Asked}
 use Rattle.plan.specs.declared.maps.Mapping.{Mapping}
-use Rattle.plan.specs.declared.maps.Placed.{Placed}
-use Rattle.plan.specs.declared.maps.Placed.the-variants as placed
+use Rattle.plan.specs.Map.{Placed}
 use Rattle.effect.specs.Whole.{Whole}
 use Rattle.effect.specs.MapDone.{MapDone, Fitted, Misses}
 use Rattle.effect.specs.MapRefused.{Cause, FrameApart, Mapped, no-size, base-unaligned, frame-unaligned, base-high, frame-high, frame-in-pool, mapped, no-room}
@@ -91,7 +90,7 @@ accepted-fits q a = record {
 }
 
 module _ {h : ℕ → Bool} {sp : Space} {m : ℕ → ℕ} {role : ℕ → Role} (w : Whole h sp m role) (q : Asked) where
-  map-made : (p : Mapping) → map.decideOf h m sp q ≡ placed.Go p → MapOk h sp m (map.writesOf sp p) (q .base) (asked q)
+  map-made : (p : Mapping) → map.decideOf h m sp q ≡ map.Go p → MapOk h sp m (map.writesOf sp p) (q .base) (asked q)
   unfolding pteOf
   map-made p e = record {
     made = record {
@@ -137,8 +136,8 @@ module _ {h : ℕ → Bool} {sp : Space} {m : ℕ → ℕ} {role : ℕ → Role}
   map-ok k done = go (map.decideOf h m sp q) refl done
     where
       go : (x : Placed) → map.decideOf h m sp q ≡ x → mapSaid x ≡ mapped′.Done k → MapOk h sp m (mapDid sp x) (q .base) (asked q)
-      go (placed.Refused r) e f = let z : _≡_ {A = ℕ} 0 1 = cc in absurd (omega arith)
-      go (placed.Go p) e f = map-made p e
+      go (map.Refused r) e f = let z : _≡_ {A = ℕ} 0 1 = cc in absurd (omega arith)
+      go (map.Go p) e f = map-made p e
 
   -- MAP_FRAME, ERR, where the source's demands hold (accepted_mapping; table memory and frames lie apart; there always is a page): nothing
   -- was written, and the candidate overlaps.
@@ -168,7 +167,7 @@ module _ {h : ℕ → Bool} {sp : Space} {m : ℕ → ℕ} {role : ℕ → Role}
       because r (no-room l n g c x k u) = absurd (omega (arith, comes-top (k .comes)))
 
       go : (x : Placed) → map.decideOf h m sp q ≡ x → mapSaid x ≡ mapped′.Refused y → MapErr sp m (mapDid sp x) (q .base) (asked q)
-      go (placed.Go p) e g = let z : _≡_ {A = ℕ} 0 1 = cc in absurd (omega arith)
-      go (placed.Refused r) e g =
+      go (map.Go p) e g = let z : _≡_ {A = ℕ} 0 1 = cc in absurd (omega arith)
+      go (map.Refused r) e g =
           let same : r ≡ y = cc in
-          record { unchanged = refl; overlaps = because y (map-refused w q y .0 (e ∙ ap placed.Refused same)) }
+          record { unchanged = refl; overlaps = because y (map-refused w q y .0 (e ∙ ap map.Refused same)) }

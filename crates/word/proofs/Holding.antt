@@ -31,7 +31,7 @@ unfolding holds
 within s origin p a b c = simp (lt-ltb p (2 ^ 40) a, le-leb origin (4096 * p) b, le-leb (4096 * p + 4096) (origin + length s) c)
 
 -- no page lies in a window that begins where no page is, or is shorter than one
-pub high-origin : (s : List ℕ) (origin p : ℕ) → 2 ^ 52 ≤ origin → holds s origin p ≡ false
+pub high-origin : (s : List ℕ) (origin p : ℕ) → 2 ^ 63 ≤ origin → holds s origin p ≡ false
 high-origin s origin p h = go (decLe (2 ^ 40) p)
   where
     go : Dec (2 ^ 40 ≤ p) → holds s origin p ≡ false
@@ -46,7 +46,7 @@ short s origin p h = go (decLe origin (4096 * p))
     go (no u) = below s origin p (omega arith)
 
 -- d is how far the page begins behind the origin, modulo 2 ^ 64; b is how far a page may
-pub wraps : (s : List ℕ) (origin p d b : ℕ) → origin < 2 ^ 52 → p < 2 ^ 40 → length s < 2 ^ 63 → d < 2 ^ 64 → (d + origin) % 2 ^ 64 ≡ p * 4096 → b + 4096 ≡ length s
+pub wraps : (s : List ℕ) (origin p d b : ℕ) → origin < 2 ^ 63 → p < 2 ^ 40 → length s < 2 ^ 63 → d < 2 ^ 64 → (d + origin) % 2 ^ 64 ≡ p * 4096 → b + 4096 ≡ length s
     → leb d b ≡ holds s origin p
 wraps s origin p d b low small room fits e u = go (decLe d b) (decLe (2 ^ 64) (d + origin))
   where

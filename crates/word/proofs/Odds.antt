@@ -1,12 +1,35 @@
 -- Odd entries in parts of a page: the entries before one and those behind it are all others.
-use Prim.Native.Nat.{ℕ, zero, suc, _+_, _-_, _*_, _/_, _<_, _≤_}
+use Prim.Native.Nat.{ℕ, zero, suc, _+_, _-_, _*_, _/_, _%_, _<_, _≤_, max}
 use mathlib.Core.Bool.{Bool, true, false, cond, _||_, or-false, or-assoc, or-comm}
 use mathlib.Core.Path.{_≡_, refl, sym, ap, _∙_}
 use native.Mathlib.Omega.{arith}
 use borrow.Author.Tests.{eq-eqb, ne-eqb}
+use lib.Bits.{bitOr, or-step}
 use lib.Dec.{eqb}
 use Rattle.word.specs.Memory.{at}
 use Rattle.word.specs.Scan.{odd, oddOf, otherOf, besidesOf}
+
+-- a word of two is odd where one of them is
+digit-or : (x r s : ℕ) → r < 2 → s < 2 → eqb ((x * 2 + max r s) % 2) 1 ≡ (eqb r 1 || eqb s 1)
+digit-or x zero zero u v = let z : (x * 2 + 0) % 2 ≡ 0 = omega arith in rw z
+digit-or x zero (suc zero) u v = let z : (x * 2 + 1) % 2 ≡ 1 = omega arith in rw z
+digit-or x zero (suc (suc s)) u v = absurd (omega arith)
+digit-or x (suc zero) zero u v = let z : (x * 2 + 1) % 2 ≡ 1 = omega arith in rw z
+digit-or x (suc zero) (suc zero) u v = let z : (x * 2 + 1) % 2 ≡ 1 = omega arith in rw z
+digit-or x (suc zero) (suc (suc s)) u v = absurd (omega arith)
+digit-or x (suc (suc r)) s u v = absurd (omega arith)
+
+pub odd-or : (a b : ℕ) → odd (bitOr a b) ≡ (odd a || odd b)
+unfolding odd
+odd-or a b = rw (or-step a b) (digit-or (bitOr (a / 2) (b / 2)) (a % 2) (b % 2) (omega arith) (omega arith))
+
+pub odd-test : (w : ℕ) (r : Bool) → eqb (w % 2) 1 ≡ r → odd w ≡ r
+unfolding odd
+odd-test w r e = e
+
+pub odd-zero : (w : ℕ) → w ≡ 0 → odd w ≡ false
+unfolding odd
+odd-zero w e = rw e
 
 module _ (m : ℕ → ℕ) (p : ℕ) where
   pub odd-none : (k : ℕ) → oddOf m p k 0 ≡ false
@@ -16,10 +39,6 @@ module _ (m : ℕ → ℕ) (p : ℕ) where
   pub odd-one : (k : ℕ) → oddOf m p k 1 ≡ odd (m (at p k))
   unfolding oddOf
   odd-one k = or-false (odd (m (at p k)))
-
-  -- by the test that is made of an entry
-  pub odd-here : (k : ℕ) (r : Bool) → r ≡ odd (m (512 * p + k)) → oddOf m p k 1 ≡ r
-  odd-here k r e = odd-one k ∙ sym e
 
   -- a entries, and then b
   pub odd-join : (k a b : ℕ) → oddOf m p k (a + b) ≡ (oddOf m p k a || oddOf m p (k + a) b)
@@ -32,9 +51,6 @@ module _ (m : ℕ → ℕ) (p : ℕ) where
       let z : suc a + b ≡ suc (a + b) = omega arith in
       let y : suc k + a ≡ k + suc a = omega arith in
       rw z (ap (_||_ (odd (m (at p k)))) (rw y at (odd-join (suc k) a b)) ∙ sym (or-assoc (odd (m (at p k))) (oddOf m p (suc k) a) (oddOf m p (k + suc a) b)))
-
-  pub odd-two : (k : ℕ) (a b : Bool) → a ≡ odd (m (512 * p + k)) → b ≡ odd (m (512 * p + (k + 1))) → (a || b) ≡ oddOf m p k 2
-  odd-two k a b e f = sym (odd-join k 1 1 ∙ rw (odd-here k a e, odd-here (k + 1) b f))
 
   -- the next n of the entries up to one
   pub odd-part : (k to n : ℕ) → n ≤ to - k → oddOf m p k (to - k) ≡ (oddOf m p k n || oddOf m p (k + n) (to - (k + n)))

@@ -17,22 +17,20 @@ use Rattle.word.proofs.Holding.{within}
 
 module _ (s : List ℕ) (origin first pages : ℕ) where
   pub record Run : Type 0 where
-    pub low : first < 2 ^ 40
     pub end : first + pages ≤ 2 ^ 40
     pub from : origin ≤ 4096 * first
     pub upto : 4096 * (first + pages) ≤ origin + length s
 
   pub run-spans : Run → spansOf s origin first pages ≡ true
   unfolding spansOf
-  run-spans r = simp (lt-ltb first (2 ^ 40) (r .low), le-leb (first + pages) (2 ^ 40) (r .end), le-leb origin (4096 * first) (r .from), le-leb (4096 * (first + pages)) (origin + length s) (r .upto))
+  run-spans r = simp (le-leb (first + pages) (2 ^ 40) (r .end), le-leb origin (4096 * first) (r .from), le-leb (4096 * (first + pages)) (origin + length s) (r .upto))
 
   pub spans-run : spansOf s origin first pages ≡ true → Run
   unfolding spansOf
   spans-run h =
       let a = and-both _ _ h in
-      let b = and-both _ _ (a .0) in
       let c = and-both _ _ (a .1) in
-      record { low = ltb-true _ _ (b .0); end = leb-true _ _ (b .1); from = leb-true _ _ (c .0); upto = leb-true _ _ (c .1) }
+      record { end = leb-true _ _ (a .0); from = leb-true _ _ (c .0); upto = leb-true _ _ (c .1) }
 
   pub no-run : (Run → ⊥) → spansOf s origin first pages ≡ false
   no-run n = go (spansOf s origin first pages) refl
@@ -42,11 +40,11 @@ module _ (s : List ℕ) (origin first pages : ℕ) where
       go false e = refl
 
   -- the last of the tests
-  pub spans-last : first < 2 ^ 40 → first + pages ≤ 2 ^ 40 → origin ≤ 4096 * first → leb ((first + pages) * 4096 - origin) (length s) ≡ spansOf s origin first pages
-  spans-last a b c = go (decLe ((first + pages) * 4096 - origin) (length s))
+  pub spans-last : first + pages ≤ 2 ^ 40 → origin ≤ 4096 * first → leb ((first + pages) * 4096 - origin) (length s) ≡ spansOf s origin first pages
+  spans-last b c = go (decLe ((first + pages) * 4096 - origin) (length s))
     where
       go : Dec ((first + pages) * 4096 - origin ≤ length s) → leb ((first + pages) * 4096 - origin) (length s) ≡ spansOf s origin first pages
-      go (yes u) = le-leb _ _ u ∙ sym (run-spans (record { low = a; end = b; from = c; upto = omega arith }))
+      go (yes u) = le-leb _ _ u ∙ sym (run-spans (record { end = b; from = c; upto = omega arith }))
       go (no u) = lt-leb ((first + pages) * 4096 - origin) (length s) (omega arith) ∙ sym (no-run (λ r. u (omega (arith, r .upto))))
 
   -- a page of the run lies in the window
@@ -61,7 +59,7 @@ module _ (s : List ℕ) (origin first pages : ℕ) where
       go true true f l =
           let x = held s origin first f in
           let y = held s origin (first + pages - 1) l in
-          run-spans (record { low = x .small; end = omega (arith, y .small); from = x .from; upto = omega (arith, y .upto) })
+          run-spans (record { end = omega (arith, y .small); from = x .from; upto = omega (arith, y .upto) })
       go true false f l = no-run (λ r. false≢true (sym l ∙ run-holds r (first + pages - 1) (omega arith) (omega arith)))
       go false b f l = no-run (λ r. false≢true (sym f ∙ run-holds r first (omega arith) (omega arith)))
 

@@ -11,7 +11,7 @@ use Rattle.word.specs.declared.Cell.the-variants.{Word, Outside}
 -- so many pages from the first one on lie in the window
 unfoldable pub spansOf : List ℕ → ℕ → ℕ → ℕ → Bool
 spansOf s origin first pages =
-    (ltb first (2 ^ 40) && leb (first + pages) (2 ^ 40)) && (leb origin (4096 * first) && leb (4096 * (first + pages)) (origin + length s))
+    leb (first + pages) (2 ^ 40) && (leb origin (4096 * first) && leb (4096 * (first + pages)) (origin + length s))
 
 -- what reading entry i of page p answers, where p is one of that run's pages, but for so many at its beginning
 unfoldable pub amongOf : List ℕ → ℕ → ℕ → ℕ → ℕ → ℕ → ℕ → Cell

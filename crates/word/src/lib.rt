@@ -66,7 +66,7 @@ fn store(mem: &mut [u8], at: usize, w: u64)
 pub fn inside(mem: &[u8], origin: u64, p: u64) -> bool
     ensures { λ r. ⌜ r ≡ holds (now (mem .entry)) origin p ⌝ }
 {
-    if 4503599627370496 <= origin {
+    if 9223372036854775808 <= origin {
         return false;
     }
     let len = mem.len() as u64;

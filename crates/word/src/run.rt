@@ -12,10 +12,7 @@ pub fn spans(mem: &[u8], origin: u64, first: u64, pages: u64) -> bool
     if 1099511627776 < pages {
         return false;
     }
-    if 1099511627776 <= first {
-        return false;
-    }
-    if 1099511627776 < first + pages {
+    if 1099511627776 - pages < first {
         return false;
     }
     if first * 4096 < origin {
@@ -25,7 +22,15 @@ pub fn spans(mem: &[u8], origin: u64, first: u64, pages: u64) -> bool
 }
 
 // Entry i of page p, where p is one of that run's pages, but for so many at its beginning.
-pub fn read_among(mem: &[u8], origin: u64, first: u64, kept: u64, pages: u64, p: u64, i: u64) -> Cell
+pub fn read_among(
+    mem: &[u8],
+    origin: u64,
+    first: u64,
+    kept: u64,
+    pages: u64,
+    p: u64,
+    i: u64,
+) -> Cell
     ensures { λ r. ⌜ r ≡ the.amongOf (now (mem .entry)) origin first kept pages p i ⌝ }
 {
     if 512 <= i {

@@ -1,39 +1,48 @@
-// Which entries of a page are odd. Each entry is read by its first byte alone, so that the reads of many stay one to an entry.
+// Which entries of a page are odd.
 ghost use mathlib.Core.Path.{_≡_};
 ghost use mathlib.Core.Bool.{true};
 ghost use Prim.Native.Nat.{_+_, _-_, _*_, _<_, _≤_};
 ghost use Rattle.word.specs.Memory.{memory, holds};
 ghost use Rattle.word.specs.Scan as the;
 use crate::inside;
+use crate::load;
 
-// Is entry i of page p odd?
-fn odd(mem: &[u8], origin: u64, p: u64, i: u64) -> bool
+// Words that are 0 are told apart only so that the compiler reads whole words: it would read a byte of each, and be slower.
+fn is_odd(w: u64) -> bool
+    ensures { λ r. ⌜ r ≡ the.odd w ⌝ }
+{
+    if w == 0 {
+        return false;
+    }
+    w % 2 == 1
+}
+
+// Entry i of page p.
+fn word(mem: &[u8], origin: u64, p: u64, i: u64) -> u64
     requires { ⌜ (holds (now mem) origin p ≡ true) × (i < 512) ⌝ }
-    ensures { λ r. ⌜ r ≡ the.odd (memory (now (mem .entry)) origin (512 * p + i)) ⌝ }
+    ensures { λ r. ⌜ r ≡ memory (now (mem .entry)) origin (512 * p + i) ⌝ }
 {
-    let at = (p * 4096 - origin + i * 8) as usize;
-    mem[at] % 2 == 1
+    load(mem, (p * 4096 - origin + i * 8) as usize)
 }
 
-// Is entry k of page p odd, or the next one?
-fn two(mem: &[u8], origin: u64, p: u64, k: u64) -> bool
+// Entry k of page p and the next one, by one word that is odd where one of them is.
+fn two(mem: &[u8], origin: u64, p: u64, k: u64) -> u64
     requires { ⌜ (holds (now mem) origin p ≡ true) × (k + 2 ≤ 512) ⌝ }
-    ensures { λ r. ⌜ r ≡ the.oddOf (memory (now (mem .entry)) origin) p k 2 ⌝ }
+    ensures { λ r. ⌜ the.odd r ≡ the.oddOf (memory (now (mem .entry)) origin) p k 2 ⌝ }
 {
-    odd(mem, origin, p, k) | odd(mem, origin, p, k + 1)
+    word(mem, origin, p, k) | word(mem, origin, p, k + 1)
 }
 
-fn four(mem: &[u8], origin: u64, p: u64, k: u64) -> bool
+fn four(mem: &[u8], origin: u64, p: u64, k: u64) -> u64
     requires { ⌜ (holds (now mem) origin p ≡ true) × (k + 4 ≤ 512) ⌝ }
-    ensures { λ r. ⌜ r ≡ the.oddOf (memory (now (mem .entry)) origin) p k 4 ⌝ }
+    ensures { λ r. ⌜ the.odd r ≡ the.oddOf (memory (now (mem .entry)) origin) p k 4 ⌝ }
 {
     two(mem, origin, p, k) | two(mem, origin, p, k + 2)
 }
 
-// Is one of eight entries odd? All are read before anything is tested.
-fn eight(mem: &[u8], origin: u64, p: u64, k: u64) -> bool
+fn eight(mem: &[u8], origin: u64, p: u64, k: u64) -> u64
     requires { ⌜ (holds (now mem) origin p ≡ true) × (k + 8 ≤ 512) ⌝ }
-    ensures { λ r. ⌜ r ≡ the.oddOf (memory (now (mem .entry)) origin) p k 8 ⌝ }
+    ensures { λ r. ⌜ the.odd r ≡ the.oddOf (memory (now (mem .entry)) origin) p k 8 ⌝ }
 {
     four(mem, origin, p, k) | four(mem, origin, p, k + 4)
 }
@@ -45,7 +54,7 @@ fn each(mem: &[u8], origin: u64, p: u64, from: u64, to: u64) -> bool
 {
     let mut k: u64 = from;
     while k < to {
-        if odd(mem, origin, p, k) {
+        if is_odd(word(mem, origin, p, k)) {
             return true;
         }
         k += 1;
@@ -60,7 +69,7 @@ fn eights(mem: &[u8], origin: u64, p: u64, from: u64, to: u64) -> bool
 {
     let mut k: u64 = from;
     while k < to {
-        if eight(mem, origin, p, 8 * k) {
+        if is_odd(eight(mem, origin, p, 8 * k)) {
             return true;
         }
         k += 1;

@@ -49,7 +49,7 @@ same-length-2 c = search needs
 -- src/lib.rt:86:1
 returns-2 : tie.Need-returns-2
 unfolding unmapAnswer unmapWrites unmapSaid unmapDid goneOf
-returns-2 c = let e = sym (c .before .before .before .before .before .before .before .before .before .decide-unmap .ensures) ∙ c .before .before .before .before .before .before .before .d2 .given .1 in let f = unmap-fits _ _ _ _ _ e in let b = c .before .before .before .before .carry-unmap .ensures .0 (f .low) in let t = c .ticket .ensures (rw b (f .ticket)) ∙ ap ticketOf b in (rw (e, t), rw e (c .before .before .before .before .carry-unmap .ensures .1 (f .low)))
+returns-2 c = let e = sym (c .before .before .before .before .before .before .before .before .before .decide-unmap .ensures) ∙ c .before .before .before .before .before .before .before .d2 .given .1 in let f = unmap-fits _ _ _ _ _ e in let b = c .before .before .before .before .carry-unmap .ensures .0 (f .low) (f .index) in let t = c .ticket .ensures (rw b (f .ticket)) ∙ ap ticketOf b in (rw (e, t), rw e (c .before .before .before .before .carry-unmap .ensures .1 (f .low) (f .index)))
 
 pub unmap-spec : {M : Type 1} → statement M
 unmap-spec =

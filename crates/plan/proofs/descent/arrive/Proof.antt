@@ -1,5 +1,7 @@
-use mathlib.Core.Path.{sym, _∙_}
+use Rattle.plan.proofs.Ways.{told-stop, nothing-framed}
 use Rattle.plan.proofs.Reading.{arrive-word, arrive-outside}
+use Rattle.plan.specs.Descend.{trackOf}
+use mathlib.Core.Path.{refl, sym, ap, _∙_}
 use borrow.Author.Needs.{needs}
 use Rattle.plan.proofs.descent.arrive.Statement.{statement}
 use Rattle.plan.proofs.descent.arrive.Tie as tie
@@ -12,45 +14,45 @@ use Rattle.plan.proofs.descent.told.Reads as told-reads
 use Rattle.pool.proofs.entry.Reads as entry-reads
 use Rattle.walk.proofs.index.Reads as index-reads
 
--- src/descent.rt:88:40
+-- src/descent.rt:102:9
 index-requires : tie.Need-index-requires
 index-requires c κs = search needs
 
--- src/descent.rt:88:9
+-- src/descent.rt:103:9
 entry-requires : tie.Need-entry-requires
 entry-requires c κs = search needs
 
--- src/descent.rt:90:20
+-- src/descent.rt:105:20
 enum-known-c : tie.Need-enum-known-c
 enum-known-c c = search needs
 
--- src/descent.rt:90:45
+-- src/descent.rt:105:45
 push-requires : tie.Need-push-requires
 push-requires c κs = search needs
 
--- src/descent.rt:90:57
+-- src/descent.rt:105:60
 decode-requires : tie.Need-decode-requires
 decode-requires c κs = search needs
 
--- src/descent.rt:90:26
+-- src/descent.rt:105:26
 told-requires : tie.Need-told-requires
 told-requires c κs = search needs
 
--- src/descent.rt:91:31
+-- src/descent.rt:106:31
 enum-told : tie.Need-enum-told
 enum-told c = search needs
 
--- src/descent.rt:91:26
+-- src/descent.rt:106:26
 stop-requires : tie.Need-stop-requires
 stop-requires c κs = search needs
 
--- src/descent.rt:84:1
+-- src/descent.rt:98:1
 returns : tie.Need-returns
-returns c = rw (c .told .ensures, c .before .decode .ensures, c .before .before .push .ensures) (sym (arrive-word _ _ (c .before .before .before .before .before .before .before .before .before .pre .1) _ _ _ _ _ _ (rw (c .before .before .before .before .before .before .before .index .ensures (c .before .before .before .before .before .before .before .before .before .pre .0)) at (sym (c .before .before .before .before .before .before .«entry» .ensures) ∙ c .before .before .before .before .c .given .1))))
+returns c = rw (c .told .ensures _ (c .before .before .before .before .before .before .before .index .ensures (c .before .before .before .before .before .before .before .before .before .pre .0)) (c .before .decode .ensures), c .before .decode .ensures, c .before .before .push .ensures) (ap (trackOf _) (sym (arrive-word _ _ (c .before .before .before .before .before .before .before .before .before .pre .1) _ _ _ _ _ _ (rw (c .before .before .before .before .before .before .before .index .ensures (c .before .before .before .before .before .before .before .before .before .pre .0)) at (sym (c .before .before .before .before .before .before .«entry» .ensures) ∙ c .before .before .before .before .c .given .1)))))
 
--- src/descent.rt:84:1
+-- src/descent.rt:98:1
 returns-2 : tie.Need-returns-2
-returns-2 c = c .stop .ensures ∙ sym (arrive-outside _ _ (c .before .before .before .before .before .before .pre .1) _ _ _ _ _ (rw (c .before .before .before .before .index .ensures (c .before .before .before .before .before .before .pre .0)) at (sym (c .before .before .before .«entry» .ensures) ∙ c .before .enum-told .given .1)))
+returns-2 c = c .stop .ensures ∙ (told-stop _ _ _ _ _ _ _ (c .before .before .before .before .index .ensures (c .before .before .before .before .before .before .pre .0)) (nothing-framed _) ∙ ap (trackOf _) (sym (arrive-outside _ _ (c .before .before .before .before .before .before .pre .1) _ _ _ _ _ (rw (c .before .before .before .before .index .ensures (c .before .before .before .before .before .before .pre .0)) at (sym (c .before .before .before .«entry» .ensures) ∙ c .before .enum-told .given .1)))))
 
 pub arrive-spec : {M : Type 1} → statement M
 arrive-spec =

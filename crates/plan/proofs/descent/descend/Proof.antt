@@ -1,4 +1,6 @@
+use Rattle.plan.proofs.Ways.{down-low}
 use Rattle.plan.specs.Descend.{wayOf, downOf}
+use native.Mathlib.Omega.{arith}
 use borrow.Author.Needs.{needs}
 use Rattle.plan.proofs.descent.descend.Statement.{statement}
 use Rattle.plan.proofs.descent.descend.Tie as tie
@@ -8,34 +10,43 @@ use Rattle.plan.proofs.descent.end.Reads as end-reads
 use Rattle.plan.proofs.descent.start.Reads as start-reads
 use Rattle.plan.proofs.descent.step.Reads as step-reads
 
+-- src/descent.rt:167:46
 start-requires : tie.Need-start-requires
 start-requires c κs = search needs
 
+-- src/descent.rt:167:9
 step-requires : tie.Need-step-requires
 step-requires c κs = search needs
 
--- src/descent.rt:129:9
+-- src/descent.rt:168:9
 step-requires-2 : tie.Need-step-requires-2
 step-requires-2 c κs = search needs
 
--- src/descent.rt:130:9
+-- src/descent.rt:169:9
 step-requires-3 : tie.Need-step-requires-3
 step-requires-3 c κs = search needs
 
--- src/descent.rt:131:9
+-- src/descent.rt:170:9
 step-requires-4 : tie.Need-step-requires-4
 step-requires-4 c κs = search needs
 
--- src/descent.rt:132:5
+-- src/descent.rt:171:5
 end-requires : tie.Need-end-requires
 end-requires c κs = search needs
 
--- src/descent.rt:116:1
+-- src/descent.rt:163:1
 returns : tie.Need-returns
 unfolding wayOf downOf
-returns c = rw (c .end .ensures, c .before .step4 .ensures, c .before .before .step3 .ensures, c .before .before .before .step2 .ensures, c .before .before .before .before .step .ensures, c .before .before .before .before .before .start .ensures)
+returns c = c .end .ensures _ (down-low _ _ _ _ _ 4 _ (omega arith) (omega arith)) (c .before .step4 .ensures _ (c .before .before .step3 .ensures _ (c .before .before .before .step2 .ensures _ (c .before .before .before .before .step .ensures _ (c .before .before .before .before .before .start .ensures _)))))
 
 pub descend-spec : {M : Type 1} → statement M
 descend-spec =
     tie.close
-    (tie.spec start-requires step-requires step-requires-2 step-requires-3 step-requires-4 end-requires returns)
+    (tie.spec
+    start-requires
+    step-requires
+    step-requires-2
+    step-requires-3
+    step-requires-4
+    end-requires
+    returns)

@@ -1,4 +1,6 @@
+use Rattle.plan.proofs.Ways.{track-at, track-stopped, step-kept}
 use Rattle.plan.specs.Descend.{stepOf}
+use mathlib.Core.Path.{sym, _∙_}
 use borrow.Author.Needs.{needs}
 use Rattle.plan.proofs.descent.step.Statement.{statement}
 use Rattle.plan.proofs.descent.step.Tie as tie
@@ -6,27 +8,26 @@ use Rattle.plan.proofs.descent.step.Reads as reads
 use Rattle.plan.proofs.descent.step.Lts as lts
 use Rattle.plan.proofs.descent.arrive.Reads as arrive-reads
 
--- src/descent.rt:101:19
+-- src/descent.rt:115:19
 enum-known-s : tie.Need-enum-known-s
 enum-known-s c = search needs
 
--- src/descent.rt:101:28
+-- src/descent.rt:115:28
 arrive-requires : tie.Need-arrive-requires
 arrive-requires c κs = search needs
 
--- src/descent.rt:102:24
+-- src/descent.rt:116:24
 enum-known-s-2 : tie.Need-enum-known-s-2
 enum-known-s-2 c = search needs
 
--- src/descent.rt:96:1
+-- src/descent.rt:110:1
 returns : tie.Need-returns
 unfolding stepOf
-returns c = rw (c .arrive .ensures, c .before .before .s .given .1)
+returns c = λ o e. let k = track-at _ o _ _ (sym (c .before .before .s .given .1) ∙ e) in rw k (c .arrive .ensures)
 
--- src/descent.rt:96:1
+-- src/descent.rt:110:1
 returns-2 : tie.Need-returns-2
-unfolding stepOf
-returns-2 c = rw (c .before .s2 .given .1)
+returns-2 c = λ o e. let k = track-stopped _ o _ (sym (c .before .s2 .given .1) ∙ e) in step-kept _ _ _ _ _ _ o _ k
 
 pub step-spec : {M : Type 1} → statement M
 step-spec = tie.close (tie.spec enum-known-s arrive-requires enum-known-s-2 returns returns-2)

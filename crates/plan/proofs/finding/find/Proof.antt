@@ -1,3 +1,4 @@
+use Rattle.plan.proofs.Ways.{way-paged}
 use Rattle.plan.specs.Find.{foundOf, soughtOf}
 use mathlib.Core.Path.{_≡_, sym, _∙_}
 use borrow.Author.Tests.{lt-ltb, le-ltb}
@@ -43,7 +44,7 @@ returns-2 c = simp (sym (c .before .before .before .stands .ensures) ∙ c .befo
 -- src/finding.rt:69:1
 returns-3 : tie.Need-returns-3
 unfolding foundOf soughtOf
-returns-3 c = simp (sym (c .before .before .before .before .before .stands .ensures) ∙ c .before .before .before .enum-told .given .1, lt-ltb _ _ (c .before .before .if1 .left), c .stopped .ensures, c .before .descend .ensures)
+returns-3 c = simp (sym (c .before .before .before .before .before .stands .ensures) ∙ c .before .before .before .enum-told .given .1, lt-ltb _ _ (c .before .before .if1 .left), c .stopped .ensures _ (way-paged _ _ _ _ _) (c .before .descend .ensures))
 
 pub find-spec : {M : Type 1} → statement M
 find-spec =

@@ -1,6 +1,6 @@
 use Rattle.plan.proofs.Standing.{stands}
-use Rattle.plan.specs.Map.{standingOf, fittingOf, Sized}
-use mathlib.Core.Path.{_≡_, sym, _∙_}
+use Rattle.plan.specs.Map.{standingOf, fittingOf, placingOf}
+use mathlib.Core.Path.{sym, _∙_}
 use borrow.Author.Needs.{needs}
 use Rattle.plan.proofs.maps.standing.Statement.{statement}
 use Rattle.plan.proofs.maps.standing.Tie as tie
@@ -11,44 +11,44 @@ use Rattle.plan.proofs.maps.meets.Reads as meets-reads
 use Rattle.plan.proofs.maps.stopped.Reads as stopped-reads
 use Rattle.pool.proofs.stands.Reads as stands-reads
 
--- src/maps.rt:238:9
+-- src/maps.rt:255:9
 stands-requires : tie.Need-stands-requires
 stands-requires c κs = search needs
 
--- src/maps.rt:240:22
+-- src/maps.rt:257:22
 enum-known-fit : tie.Need-enum-known-fit
 enum-known-fit c = search needs
 
--- src/maps.rt:242:16
+-- src/maps.rt:259:16
 enum-told : tie.Need-enum-told
 enum-told c = search needs
 
--- src/maps.rt:242:16
+-- src/maps.rt:259:16
 meets-requires : tie.Need-meets-requires
 meets-requires c κs = search needs
 
--- src/maps.rt:243:17
+-- src/maps.rt:260:17
 returns : tie.Need-returns
-unfolding standingOf fittingOf
+unfolding standingOf fittingOf placingOf
 returns c = λ u. let e = sym (c .before .before .before .before .stands .ensures) ∙ c .before .before .enum-told .given .1 in simp (e, sym (c .before .meets .ensures u (stands _ _ e .fits .small)) ∙ c .if1 .taken)
 
--- src/maps.rt:245:44
+-- src/maps.rt:262:47
 descend-requires : tie.Need-descend-requires
 descend-requires c κs = sym (c .before .before .before .before .stands .ensures) ∙ c .before .before .enum-told .given .1
 
--- src/maps.rt:245:13
+-- src/maps.rt:262:13
 stopped-requires : tie.Need-stopped-requires
 stopped-requires c κs = search needs
 
--- src/maps.rt:235:1
+-- src/maps.rt:251:1
 returns-2 : tie.Need-returns-2
-unfolding standingOf fittingOf
+unfolding standingOf fittingOf placingOf
 returns-2 c = λ u. simp (sym (c .before .before .before .stands .ensures) ∙ c .before .fit .given .1)
 
--- src/maps.rt:235:1
+-- src/maps.rt:251:1
 returns-3 : tie.Need-returns-3
 unfolding standingOf fittingOf
-returns-3 c = λ u. let e = sym (c .before .before .before .before .before .before .stands .ensures) ∙ c .before .before .before .before .enum-told .given .1 in simp (e, sym (c .before .before .before .meets .ensures u (stands _ _ e .fits .small)) ∙ c .before .before .if1 .left, c .stopped .ensures, c .before .descend .ensures)
+returns-3 c = λ u. let e = sym (c .before .before .before .before .before .before .stands .ensures) ∙ c .before .before .before .before .enum-told .given .1 in simp (e, sym (c .before .before .before .meets .ensures u (stands _ _ e .fits .small)) ∙ c .before .before .if1 .left) (c .stopped .ensures _ (c .before .descend .ensures))
 
 pub standing-spec : {M : Type 1} → statement M
 standing-spec =

@@ -1,4 +1,4 @@
-use Rattle.plan.specs.Map.{stoppedOf, becauseOf}
+use Rattle.plan.proofs.Arrivals.{stopped-vacant, stopped-overlap, stopped-over-table, stopped-astray}
 use borrow.Author.Needs.{needs}
 use Rattle.plan.proofs.maps.stopped.Statement.{statement}
 use Rattle.plan.proofs.maps.stopped.Tie as tie
@@ -6,45 +6,41 @@ use Rattle.plan.proofs.maps.stopped.Reads as reads
 use Rattle.plan.proofs.maps.stopped.Lts as lts
 use Rattle.plan.proofs.maps.vacant.Reads as vacant-reads
 
--- src/maps.rt:244:25
+-- src/maps.rt:243:25
 enum-told : tie.Need-enum-told
 enum-told c = search needs
 
--- src/maps.rt:244:25
+-- src/maps.rt:243:25
 vacant-requires : tie.Need-vacant-requires
 vacant-requires c κs = search needs
 
--- src/maps.rt:245:38
+-- src/maps.rt:244:39
 enum-told-2 : tie.Need-enum-told-2
 enum-told-2 c = search needs
 
--- src/maps.rt:246:39
+-- src/maps.rt:245:40
 enum-told-3 : tie.Need-enum-told-3
 enum-told-3 c = search needs
 
--- src/maps.rt:247:39
+-- src/maps.rt:246:40
 enum-told-4 : tie.Need-enum-told-4
 enum-told-4 c = search needs
 
--- src/maps.rt:239:1
+-- src/maps.rt:236:1
 returns : tie.Need-returns
-unfolding stoppedOf becauseOf
-returns c = rw (c .before .enum-told .given .1, c .vacant .ensures)
+returns c = λ w e. stopped-vacant _ _ 0 _ _ _ _ w e (c .before .enum-told .given .1) _ (c .vacant .ensures w e)
 
--- src/maps.rt:239:1
+-- src/maps.rt:236:1
 returns-2 : tie.Need-returns-2
-unfolding stoppedOf becauseOf
-returns-2 c = rw (c .enum-told2 .given .1)
+returns-2 c = λ w e. stopped-overlap _ _ 0 _ _ _ _ w e (c .enum-told2 .given .1)
 
--- src/maps.rt:239:1
+-- src/maps.rt:236:1
 returns-3 : tie.Need-returns-3
-unfolding stoppedOf becauseOf
-returns-3 c = rw (c .enum-told3 .given .1)
+returns-3 c = λ w e. stopped-over-table _ _ 0 _ _ _ _ w e (c .enum-told3 .given .1)
 
--- src/maps.rt:239:1
+-- src/maps.rt:236:1
 returns-4 : tie.Need-returns-4
-unfolding stoppedOf becauseOf
-returns-4 c = rw (c .enum-told4 .given .1)
+returns-4 c = λ w e. stopped-astray _ _ 0 _ _ _ _ w e (c .enum-told4 .given .1)
 
 pub stopped-spec : {M : Type 1} → statement M
 stopped-spec =

@@ -5,11 +5,6 @@ use Rattle.plan.proofs.protects.changed.Tie as tie
 use Rattle.plan.proofs.protects.changed.Reads as reads
 use Rattle.plan.proofs.protects.changed.Lts as lts
 use Rattle.entry.proofs.with_rights.Reads as with-rights-reads
-use Rattle.walk.proofs.index.Reads as index-reads
-
--- src/protects.rt:33:16
-index-requires : tie.Need-index-requires
-index-requires c κs = search needs
 
 -- src/protects.rt:34:15
 with-rights-requires : tie.Need-with-rights-requires
@@ -18,7 +13,7 @@ with-rights-requires c κs = search needs
 -- src/protects.rt:27:1
 returns : tie.Need-returns
 unfolding changeOf
-returns c = λ u. rw (c .before .index .ensures u, c .with-rights .ensures)
+returns c = λ u. rw (u, c .with-rights .ensures)
 
 pub changed-spec : {M : Type 1} → statement M
-changed-spec = tie.close (tie.spec index-requires with-rights-requires returns)
+changed-spec = tie.close (tie.spec with-rights-requires returns)

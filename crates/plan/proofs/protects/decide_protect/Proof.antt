@@ -33,7 +33,7 @@ returns c = rw (sym (c .before .before .before .find .ensures) ∙ c .before .s 
 -- src/protects.rt:41:1
 returns-2 : tie.Need-returns-2
 unfolding decideOf changingOf
-returns-2 c = let e = sym (c .before .before .before .before .find .ensures) ∙ c .before .before .s2 .given .1 in rw (e, c .changed .ensures (found-at _ _ _ _ _ e .low))
+returns-2 c = let e = sym (c .before .before .before .before .find .ensures) ∙ c .before .before .s2 .given .1 in rw (e, c .changed .ensures (found-at _ _ _ _ _ e .index))
 
 pub decide-protect-spec : {M : Type 1} → statement M
 decide-protect-spec =

@@ -6,16 +6,11 @@ use Rattle.plan.proofs.unmaps.carry_unmap.Tie as tie
 use Rattle.plan.proofs.unmaps.carry_unmap.Reads as reads
 use Rattle.plan.proofs.unmaps.carry_unmap.Lts as lts
 use Rattle.plan.proofs.unmaps.cut.Reads as cut-reads
-use Rattle.walk.proofs.index.Reads as index-reads
 use Rattle.word.proofs.write.Reads as write-reads
 
 -- src/unmaps.rt:201:9
 returns : tie.Need-returns
-returns c = (λ u. absurd (omega (arith, u)), λ u. absurd (omega (arith, u)))
-
--- src/unmaps.rt:203:41
-index-requires : tie.Need-index-requires
-index-requires c κs = search needs
+returns c = (λ u v. absurd (omega (arith, u)), λ u v. absurd (omega (arith, u)))
 
 -- src/unmaps.rt:203:5
 write-requires : tie.Need-write-requires
@@ -27,7 +22,7 @@ same-length c = search needs
 
 -- src/unmaps.rt:205:9
 returns-2 : tie.Need-returns-2
-returns-2 c = (λ u. cuts-none _ _ (c .before .before .before .before .before .before .before .before .before .before .before .args .r) _ _ _ u (c .if2 .taken) (c .before .before .before .before .index .ensures) (c .before .before .before .write .ensures) .0, λ u. cuts-none _ _ (c .before .before .before .before .before .before .before .before .before .before .before .args .r) _ _ _ u (c .if2 .taken) (c .before .before .before .before .index .ensures) (c .before .before .before .write .ensures) .1)
+returns-2 c = (λ u v. cuts-none _ _ (c .before .before .before .before .before .before .before .before .before .before .args .r) _ _ _ u (c .if2 .taken) (λ _. v) (c .before .before .before .write .ensures) .0, λ u v. cuts-none _ _ (c .before .before .before .before .before .before .before .before .before .before .args .r) _ _ _ u (c .if2 .taken) (λ _. v) (c .before .before .before .write .ensures) .1)
 
 -- src/unmaps.rt:209:42
 add-cut : tie.Need-add-cut
@@ -59,14 +54,13 @@ same-length-2 c = search needs
 
 -- src/unmaps.rt:191:1
 returns-3 : tie.Need-returns-3
-returns-3 c = (λ u. cuts-carried _ _ (c .before .before .before .before .before .before .before .before .before .before .before .before .before .before .before .before .before .before .before .before .before .before .before .args .r) _ _ _ _ _ _ _ _ _ u (c .before .before .before .before .before .before .before .before .before .before .before .before .before .before .before .before .index .ensures) (c .before .before .before .before .before .before .before .before .before .before .before .before .before .before .before .write .ensures) (c .before .before .before .before .before .before .before .before .before .before .cut .ensures .0) (c .before .before .before .before .before .before .cut2 .ensures .0) (c .before .before .cut3 .ensures .0) (c .before .before .before .before .before .before .before .before .before .before .cut .ensures .1) (c .before .before .before .before .before .before .cut2 .ensures .1) (c .before .before .cut3 .ensures .1) .0, λ u. cuts-carried _ _ (c .before .before .before .before .before .before .before .before .before .before .before .before .before .before .before .before .before .before .before .before .before .before .before .args .r) _ _ _ _ _ _ _ _ _ u (c .before .before .before .before .before .before .before .before .before .before .before .before .before .before .before .before .index .ensures) (c .before .before .before .before .before .before .before .before .before .before .before .before .before .before .before .write .ensures) (c .before .before .before .before .before .before .before .before .before .before .cut .ensures .0) (c .before .before .before .before .before .before .cut2 .ensures .0) (c .before .before .cut3 .ensures .0) (c .before .before .before .before .before .before .before .before .before .before .cut .ensures .1) (c .before .before .before .before .before .before .cut2 .ensures .1) (c .before .before .cut3 .ensures .1) .1)
+returns-3 c = (λ u v. cuts-carried _ _ (c .before .before .before .before .before .before .before .before .before .before .before .before .before .before .before .before .before .before .before .before .before .before .args .r) _ _ _ _ _ _ _ _ _ u (λ _. v) (c .before .before .before .before .before .before .before .before .before .before .before .before .before .before .before .write .ensures) (c .before .before .before .before .before .before .before .before .before .before .cut .ensures .0) (c .before .before .before .before .before .before .cut2 .ensures .0) (c .before .before .cut3 .ensures .0) (c .before .before .before .before .before .before .before .before .before .before .cut .ensures .1) (c .before .before .before .before .before .before .cut2 .ensures .1) (c .before .before .cut3 .ensures .1) .0, λ u v. cuts-carried _ _ (c .before .before .before .before .before .before .before .before .before .before .before .before .before .before .before .before .before .before .before .before .before .before .args .r) _ _ _ _ _ _ _ _ _ u (λ _. v) (c .before .before .before .before .before .before .before .before .before .before .before .before .before .before .before .write .ensures) (c .before .before .before .before .before .before .before .before .before .before .cut .ensures .0) (c .before .before .before .before .before .before .cut2 .ensures .0) (c .before .before .cut3 .ensures .0) (c .before .before .before .before .before .before .before .before .before .before .cut .ensures .1) (c .before .before .before .before .before .before .cut2 .ensures .1) (c .before .before .cut3 .ensures .1) .1)
 
 pub carry-unmap-spec : {M : Type 1} → statement M
 carry-unmap-spec =
     tie.close
     (tie.spec
     returns
-    index-requires
     write-requires
     same-length
     returns-2

@@ -13,7 +13,7 @@ use Rattle.walk.proofs.index.Reads as index-reads
 -- src/unmaps.rt:63:9
 returns : tie.Need-returns
 unfolding emptiedOf
-returns c = simp (le-leb _ _ (c .if1 .taken))
+returns c = λ e. simp (le-leb _ _ (c .if1 .taken))
 
 -- src/unmaps.rt:65:32
 index-requires : tie.Need-index-requires
@@ -26,12 +26,12 @@ besides-requires c κs = search needs
 -- src/unmaps.rt:66:9
 returns-2 : tie.Need-returns-2
 unfolding emptiedOf
-returns-2 c = simp (lt-leb _ _ (c .before .before .before .if1 .left), rw (c .before .before .index .ensures (omega arith)) at (sym (c .before .besides .ensures) ∙ c .if2 .taken))
+returns-2 c = λ e. simp (lt-leb _ _ (c .before .before .if1 .left), rw e at (sym (c .before .besides .ensures) ∙ c .if2 .taken))
 
 -- src/unmaps.rt:69:9
 returns-3 : tie.Need-returns-3
 unfolding emptiedOf
-returns-3 c = simp (lt-leb _ _ (c .before .before .before .before .before .if1 .left), rw (c .before .before .before .before .index .ensures (omega arith)) at (sym (c .before .before .before .besides .ensures) ∙ c .before .before .if2 .left), le-leb _ _ (c .if3 .taken))
+returns-3 c = λ e. simp (lt-leb _ _ (c .before .before .before .before .if1 .left), rw e at (sym (c .before .before .before .besides .ensures) ∙ c .before .before .if2 .left), le-leb _ _ (c .if3 .taken))
 
 -- src/unmaps.rt:71:44
 add-index : tie.Need-add-index
@@ -48,16 +48,12 @@ besides-requires-2 c κs = search needs
 -- src/unmaps.rt:72:9
 returns-4 : tie.Need-returns-4
 unfolding emptiedOf
-returns-4 c = simp (lt-leb _ _ (c .before .before .before .before .before .before .before .before .before .if1 .left), rw (c .before .before .before .before .before .before .before .before .index .ensures (omega arith)) at (sym (c .before .before .before .before .before .before .before .besides .ensures) ∙ c .before .before .before .before .before .before .if2 .left), lt-leb _ _ (c .before .before .before .before .if3 .left), rw (c .before .before .index2 .ensures (omega arith)) at (sym (c .before .besides2 .ensures) ∙ c .if4 .taken))
+returns-4 c = λ e. simp (lt-leb _ _ (c .before .before .before .before .before .before .before .before .if1 .left), rw e at (sym (c .before .before .before .before .before .before .before .besides .ensures) ∙ c .before .before .before .before .before .before .if2 .left), lt-leb _ _ (c .before .before .before .before .if3 .left), rw (c .before .before .index .ensures (omega arith)) at (sym (c .before .besides2 .ensures) ∙ c .if4 .taken))
 
 -- src/unmaps.rt:75:9
 returns-5 : tie.Need-returns-5
 unfolding emptiedOf
-returns-5 c = simp (lt-leb _ _ (c .before .before .before .before .before .before .before .before .before .before .before .if1 .left), rw (c .before .before .before .before .before .before .before .before .before .before .index .ensures (omega arith)) at (sym (c .before .before .before .before .before .before .before .before .before .besides .ensures) ∙ c .before .before .before .before .before .before .before .before .if2 .left), lt-leb _ _ (c .before .before .before .before .before .before .if3 .left), rw (c .before .before .before .before .index2 .ensures (omega arith)) at (sym (c .before .before .before .besides2 .ensures) ∙ c .before .before .if4 .left), le-leb _ _ (c .if5 .taken))
-
--- src/unmaps.rt:77:32
-index-requires-3 : tie.Need-index-requires-3
-index-requires-3 c κs = search needs
+returns-5 c = λ e. simp (lt-leb _ _ (c .before .before .before .before .before .before .before .before .before .before .if1 .left), rw e at (sym (c .before .before .before .before .before .before .before .before .before .besides .ensures) ∙ c .before .before .before .before .before .before .before .before .if2 .left), lt-leb _ _ (c .before .before .before .before .before .before .if3 .left), rw (c .before .before .before .before .index .ensures (omega arith)) at (sym (c .before .before .before .besides2 .ensures) ∙ c .before .before .if4 .left), le-leb _ _ (c .if5 .taken))
 
 -- src/unmaps.rt:77:8
 besides-requires-3 : tie.Need-besides-requires-3
@@ -66,28 +62,27 @@ besides-requires-3 c κs = search needs
 -- src/unmaps.rt:78:9
 returns-6 : tie.Need-returns-6
 unfolding emptiedOf
-returns-6 c = simp (lt-leb _ _ (c .before .before .before .before .before .before .before .before .before .before .before .before .before .before .if1 .left), rw (c .before .before .before .before .before .before .before .before .before .before .before .before .before .index .ensures (omega arith)) at (sym (c .before .before .before .before .before .before .before .before .before .before .before .before .besides .ensures) ∙ c .before .before .before .before .before .before .before .before .before .before .before .if2 .left), lt-leb _ _ (c .before .before .before .before .before .before .before .before .before .if3 .left), rw (c .before .before .before .before .before .before .before .index2 .ensures (omega arith)) at (sym (c .before .before .before .before .before .before .besides2 .ensures) ∙ c .before .before .before .before .before .if4 .left), lt-leb _ _ (c .before .before .before .if5 .left), rw (c .before .before .index3 .ensures (omega arith)) at (sym (c .before .besides3 .ensures) ∙ c .if6 .taken))
+returns-6 c = λ e. simp (lt-leb _ _ (c .before .before .before .before .before .before .before .before .before .before .before .before .before .if1 .left), rw e at (sym (c .before .before .before .before .before .before .before .before .before .before .before .before .besides .ensures) ∙ c .before .before .before .before .before .before .before .before .before .before .before .if2 .left), lt-leb _ _ (c .before .before .before .before .before .before .before .before .before .if3 .left), rw (c .before .before .before .before .before .before .before .index .ensures (omega arith)) at (sym (c .before .before .before .before .before .before .besides2 .ensures) ∙ c .before .before .before .before .before .if4 .left), lt-leb _ _ (c .before .before .before .if5 .left), rw (c .before .before .index2 .ensures (omega arith)) at (sym (c .before .besides3 .ensures) ∙ c .if6 .taken))
 
 -- src/unmaps.rt:59:1
 returns-7 : tie.Need-returns-7
 unfolding emptiedOf
-returns-7 c = simp (lt-leb _ _ (c .before .before .before .before .before .before .before .before .before .before .before .before .before .before .if1 .left), rw (c .before .before .before .before .before .before .before .before .before .before .before .before .before .index .ensures (omega arith)) at (sym (c .before .before .before .before .before .before .before .before .before .before .before .before .besides .ensures) ∙ c .before .before .before .before .before .before .before .before .before .before .before .if2 .left), lt-leb _ _ (c .before .before .before .before .before .before .before .before .before .if3 .left), rw (c .before .before .before .before .before .before .before .index2 .ensures (omega arith)) at (sym (c .before .before .before .before .before .before .besides2 .ensures) ∙ c .before .before .before .before .before .if4 .left), lt-leb _ _ (c .before .before .before .if5 .left), rw (c .before .before .index3 .ensures (omega arith)) at (sym (c .before .besides3 .ensures) ∙ c .if6 .left))
+returns-7 c = λ e. simp (lt-leb _ _ (c .before .before .before .before .before .before .before .before .before .before .before .before .before .if1 .left), rw e at (sym (c .before .before .before .before .before .before .before .before .before .before .before .before .besides .ensures) ∙ c .before .before .before .before .before .before .before .before .before .before .before .if2 .left), lt-leb _ _ (c .before .before .before .before .before .before .before .before .before .if3 .left), rw (c .before .before .before .before .before .before .before .index .ensures (omega arith)) at (sym (c .before .before .before .before .before .before .besides2 .ensures) ∙ c .before .before .before .before .before .if4 .left), lt-leb _ _ (c .before .before .before .if5 .left), rw (c .before .before .index2 .ensures (omega arith)) at (sym (c .before .besides3 .ensures) ∙ c .if6 .left))
 
 pub emptied-spec : {M : Type 1} → statement M
 emptied-spec =
     tie.close
     (tie.spec
     returns
-    index-requires
     besides-requires
     returns-2
     returns-3
     add-index
-    index-requires-2
+    index-requires
     besides-requires-2
     returns-4
     returns-5
-    index-requires-3
+    index-requires-2
     besides-requires-3
     returns-6
     returns-7)

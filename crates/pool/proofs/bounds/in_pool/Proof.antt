@@ -35,6 +35,9 @@ returns-2 : tie.Need-returns-2
 returns-2 c = search needs
 
 -- src/bounds.rt:82:9
+sub-if3 : tie.Need-sub-if3
+sub-if3 c = search needs
+
 among-requires-3 : tie.Need-among-requires-3
 among-requires-3 c κs = search needs
 
@@ -44,7 +47,7 @@ returns-3 c = search needs
 
 -- src/bounds.rt:84:5
 lies-requires : tie.Need-lies-requires
-lies-requires c κs = record { low = c .if3 .left; small = c .before .before .before .before .before .if1 .left; enough = omega (arith, c .before .before .if2 .left, c .before .before .before .before .book-of .ensures) }
+lies-requires c κs = record { low = omega (arith, c .if3 .left, c .before .before .before .if2 .left, c .before .before .before .before .before .book-of .ensures); small = c .before .before .before .before .before .before .if1 .left; enough = omega (arith, c .before .before .before .if2 .left, c .before .before .before .before .before .book-of .ensures) }
 
 -- src/bounds.rt:72:1
 returns-4 : tie.Need-returns-4
@@ -60,6 +63,7 @@ in-pool-spec =
     add-if2
     among-requires-2
     returns-2
+    sub-if3
     among-requires-3
     returns-3
     lies-requires

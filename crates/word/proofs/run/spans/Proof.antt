@@ -13,51 +13,33 @@ returns c = sym (no-run _ _ _ _ (λ r. omega (arith, r .end, c .if1 .taken)))
 
 -- src/run.rt:16:9
 returns-2 : tie.Need-returns-2
-returns-2 c = sym (no-run _ _ _ _ (λ r. omega (arith, r .low, c .if2 .taken)))
+returns-2 c = sym (no-run _ _ _ _ (λ r. omega (arith, r .end, c .if2 .taken)))
 
--- src/run.rt:18:24
-add-if3 : tie.Need-add-if3
-add-if3 c = search needs
+-- src/run.rt:18:8
+mul-if3 : tie.Need-mul-if3
+mul-if3 c = search needs
 
 -- src/run.rt:19:9
 returns-3 : tie.Need-returns-3
-returns-3 c = sym (no-run _ _ _ _ (λ r. omega (arith, r .end, c .if3 .taken)))
+returns-3 c = sym (no-run _ _ _ _ (λ r. omega (arith, r .from, c .if3 .taken)))
 
--- src/run.rt:21:8
-mul-if4 : tie.Need-mul-if4
-mul-if4 c = search needs
-
--- src/run.rt:22:9
-returns-4 : tie.Need-returns-4
-returns-4 c = sym (no-run _ _ _ _ (λ r. omega (arith, r .from, c .if4 .taken)))
-
--- src/run.rt:24:6
+-- src/run.rt:21:6
 add-result : tie.Need-add-result
 add-result c = search needs
 
--- src/run.rt:24:5
+-- src/run.rt:21:5
 mul-result : tie.Need-mul-result
 mul-result c = search needs
 
--- src/run.rt:24:5
+-- src/run.rt:21:5
 sub-result : tie.Need-sub-result
 sub-result c = search needs
 
 -- src/run.rt:9:1
-returns-5 : tie.Need-returns-5
-returns-5 c = spans-last _ _ _ _ (c .before .before .if2 .left) (c .before .if3 .left) (omega (arith, c .if4 .left))
+returns-4 : tie.Need-returns-4
+returns-4 c = spans-last _ _ _ _ (omega (arith, c .before .if2 .left)) (omega (arith, c .if3 .left))
 
 pub spans-spec : {M : Type 1} → statement M
 spans-spec =
     tie.close
-    (tie.spec
-    returns
-    returns-2
-    add-if3
-    returns-3
-    mul-if4
-    returns-4
-    add-result
-    mul-result
-    sub-result
-    returns-5)
+    (tie.spec returns returns-2 mul-if3 returns-3 add-result mul-result sub-result returns-4)

@@ -1,27 +1,27 @@
-use mathlib.Core.Path.{_≡_, sym, ap, _∙_}
-use Rattle.word.proofs.Odds.{odd-two}
+use mathlib.Core.Path.{_≡_, sym, _∙_}
+use Rattle.word.proofs.Odds.{odd-or, odd-one, odd-join}
 use borrow.Author.Needs.{needs}
 use Rattle.word.proofs.scan.two.Statement.{statement}
 use Rattle.word.proofs.scan.two.Tie as tie
 use Rattle.word.proofs.scan.two.Reads as reads
 use Rattle.word.proofs.scan.two.Lts as lts
-use Rattle.word.proofs.scan.odd.Reads as odd-reads
+use Rattle.word.proofs.scan.word.Reads as word-reads
 
--- src/unmaps.rt:36:5
-odd-requires : tie.Need-odd-requires
-odd-requires c κs = search needs
+-- src/scan.rt:23:5
+word-requires : tie.Need-word-requires
+word-requires c κs = search needs
 
--- src/unmaps.rt:36:62
-add-odd : tie.Need-add-odd
-add-odd c = search needs
+-- src/scan.rt:23:52
+add-word : tie.Need-add-word
+add-word c = search needs
 
--- src/unmaps.rt:36:36
-odd-requires-2 : tie.Need-odd-requires-2
-odd-requires-2 c κs = search needs
+-- src/scan.rt:23:31
+word-requires-2 : tie.Need-word-requires-2
+word-requires-2 c κs = search needs
 
--- src/unmaps.rt:32:1
+-- src/scan.rt:19:1
 returns : tie.Need-returns
-returns c = odd-two _ _ _ _ _ (c .before .odd .ensures) (c .odd2 .ensures)
+returns c = odd-or (c .before .word .result) (c .word2 .result) ∙ (rw (c .before .word .ensures, c .word2 .ensures) (sym (odd-join _ _ _ 1 1 ∙ rw (odd-one, odd-one))))
 
 pub two-spec : {M : Type 1} → statement M
-two-spec = tie.close (tie.spec odd-requires add-odd odd-requires-2 returns)
+two-spec = tie.close (tie.spec word-requires add-word word-requires-2 returns)

@@ -1,0 +1,14 @@
+use Rattle.plan.specs.Descend.{trackOf}
+use mathlib.Core.Path.{refl}
+use Rattle.plan.proofs.descent.start.Statement.{statement}
+use Rattle.plan.proofs.descent.start.Tie as tie
+use Rattle.plan.proofs.descent.start.Reads as reads
+use Rattle.plan.proofs.descent.start.Lts as lts
+
+-- src/descent.rt:121:1
+returns : tie.Need-returns
+unfolding trackOf
+returns c = λ va. refl
+
+pub start-spec : {M : Type 1} → statement M
+start-spec = tie.close (tie.spec returns)

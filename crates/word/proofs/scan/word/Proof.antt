@@ -1,0 +1,36 @@
+use mathlib.Core.Path.{_≡_, _∙_}
+use native.Mathlib.Omega.{arith}
+use Rattle.word.proofs.Memory.{offset, memory-in, held, held-lies}
+use borrow.Author.Needs.{needs}
+use Rattle.word.proofs.scan.word.Statement.{statement}
+use Rattle.word.proofs.scan.word.Tie as tie
+use Rattle.word.proofs.scan.word.Reads as reads
+use Rattle.word.proofs.scan.word.Lts as lts
+use Rattle.word.proofs.load.Reads as load-reads
+
+-- src/lib.rt:84:16
+mul-load : tie.Need-mul-load
+mul-load c = omega (arith, offset _ _ _ _ (c .before .pre .0) (c .before .pre .1) .product)
+
+-- src/lib.rt:84:16
+sub-load : tie.Need-sub-load
+sub-load c = offset _ _ _ _ (c .before .pre .0) (c .before .pre .1) .above
+
+-- src/lib.rt:84:36
+mul-load-2 : tie.Need-mul-load-2
+mul-load-2 c = search needs
+
+-- src/lib.rt:84:16
+add-load : tie.Need-add-load
+add-load c = omega (arith, offset _ _ _ _ (c .before .pre .0) (c .before .pre .1) .fits)
+
+-- src/lib.rt:84:5
+load-requires : tie.Need-load-requires
+load-requires c κs = offset _ _ _ _ (c .before .pre .0) (c .before .pre .1) .fits
+
+-- src/lib.rt:80:1
+returns : tie.Need-returns
+returns c = simp (c .load .ensures, offset _ _ _ _ (c .before .before .pre .0) (c .before .before .pre .1) .same, memory-in _ _ _ (held-lies _ _ _ _ (held _ _ _ (c .before .before .pre .0)) (c .before .before .pre .1)))
+
+pub word-spec : {M : Type 1} → statement M
+word-spec = tie.close (tie.spec mul-load sub-load mul-load-2 add-load load-requires returns)
