@@ -31,7 +31,7 @@ use Rattle.pool.specs.Booked.{settingOf, Booked, Taken}
 use Rattle.pool.specs.declared.Space.{Space}
 use Rattle.plan.specs.declared.maps.Asked.{Asked}
 use Rattle.plan.specs.declared.maps.Mapping.{Mapping}
-use Rattle.plan.specs.declared.maps.Reached.{Reached}
+use Rattle.plan.specs.declared.building.Reached.{Reached}
 use Rattle.plan.specs.Map.{nextOf, growOf, reached0, reached1, reached2, reached3, buildOf, writesOf}
 use Rattle.effect.specs.MapDone.{Misses, MapDone}
 use Rattle.effect.specs.Whole.{Whole}

@@ -36,7 +36,7 @@ use Rattle.plan.specs.declared.maps.Asked.{Asked}
 use Rattle.plan.specs.declared.maps.Fresh.{Fresh}
 use Rattle.plan.specs.declared.maps.Mapping.{Mapping}
 use Rattle.plan.specs.Map.{Go, Refused}
-use Rattle.plan.specs.declared.maps.Reached.{Reached}
+use Rattle.plan.specs.declared.building.Reached.{Reached}
 use Rattle.plan.specs.declared.maps.Shape.{Shape}
 use Rattle.plan.specs.declared.maps.Shape.the-variants as shape
 use Rattle.plan.specs.declared.maps.Supply.{Supply}

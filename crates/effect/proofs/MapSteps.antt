@@ -27,7 +27,7 @@ use Rattle.pool.proofs.Counts.{pool-in}
 use Rattle.pool.proofs.Lists.{taken-none, taken-more}
 use Rattle.pool.proofs.Listing.{free-usable}
 use Rattle.pool.proofs.Taking.{next-free}
-use Rattle.plan.specs.declared.maps.Reached.{Reached}
+use Rattle.plan.specs.declared.building.Reached.{Reached}
 use Rattle.plan.specs.Map.{linkOf, nextOf, growOf}
 use Rattle.effect.specs.Whole.{Whole}
 use Rattle.effect.proofs.MapPlan.{owned}

@@ -11,7 +11,7 @@ use Rattle.word.specs.Writes.{Write, write, carried, zeros}
 use Rattle.word.proofs.Writes.{carried-append}
 use Rattle.walk.specs.Walk.{indexOf}
 use Rattle.plan.specs.declared.maps.Mapping.{Mapping}
-use Rattle.plan.specs.declared.maps.Reached.{Reached}
+use Rattle.plan.specs.declared.building.Reached.{Reached}
 use Rattle.pool.specs.declared.Space.{Space}
 use Rattle.pool.specs.declared.Book.{Book}
 use Rattle.plan.specs.declared.unmaps.Removal.{Removal}

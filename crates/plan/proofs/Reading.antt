@@ -9,7 +9,7 @@ use Rattle.word.specs.Memory.{memory, holds}
 use Rattle.word.specs.Runs.{amongOf}
 use Rattle.word.specs.declared.Cell.{Cell}
 use Rattle.word.specs.declared.Cell.the-variants.{Word, Outside}
-use Rattle.word.proofs.Runs.{Run, spans-run, spans-ends, run-holds, Among, word-among, outside-among}
+use Rattle.word.proofs.Runs.{run-holds, Among, word-among, outside-among}
 use Rattle.entry.specs.Entry.{says}
 use Rattle.walk.specs.Walk.{indexOf}
 use Rattle.walk.proofs.Digits.{index-lt}
@@ -18,18 +18,13 @@ use Rattle.pool.specs.Stands.{standsOf, entryOf}
 use Rattle.pool.specs.declared.Space.{Space}
 use Rattle.pool.specs.declared.Fit.the-variants.{Fits}
 use Rattle.pool.proofs.Counts.{in-pool, pool-in}
+use Rattle.pool.proofs.Opening.{fit-runs}
 use Rattle.plan.specs.declared.descent.Way.{Way}
 use Rattle.plan.specs.declared.descent.Why.the-variants.{Stray}
 use Rattle.plan.specs.Descend.{pushOf, stopOf, toldOf, arriveOf}
 use Rattle.plan.proofs.Standing.{stands}
 
 module _ (s : List ℕ) (sp : Space) (e : standsOf (holds s (sp .origin)) sp ≡ Fits) where
-  -- a pool that stands is a run of pages in the window
-  pool-runs : Run s (sp .origin) (sp .first) (sp .pages)
-  pool-runs =
-      let f = stands (holds s (sp .origin)) sp e .fits in
-      spans-run _ _ _ _ (spans-ends s (sp .origin) (sp .first) (sp .pages) (omega (arith, f .enough)) ∙ rw (f .from, f .upto))
-
   entry-among : (p i : ℕ) (x : Cell) → entryOf s sp p i ≡ x → amongOf s (sp .origin) (sp .first) (bookPages (sp .pages)) (sp .pages) p i ≡ x
   unfolding entryOf
   entry-among p i x r = simp (le-leb _ _ (stands (holds s (sp .origin)) sp e .fits .small)) at r
@@ -51,5 +46,5 @@ module _ (s : List ℕ) (sp : Space) (e : standsOf (holds s (sp .origin)) sp ≡
         go : (b : Bool) → inPool sp t ≡ b → arriveOf (holds s (sp .origin)) (memory s (sp .origin)) sp target va n t w ≡ stopOf Stray n 0 w
         go true here =
             let k = pool-in sp t here in
-            absurd (outside-among _ _ _ _ _ _ _ (entry-among t (indexOf n va) Outside r) (record { run = pool-runs; small = index-lt n va; behind = k .behind; before-end = k .before-end }))
+            absurd (outside-among _ _ _ _ _ _ _ (entry-among t (indexOf n va) Outside r) (record { run = fit-runs _ _ _ _ (stands (holds s (sp .origin)) sp e .fits); small = index-lt n va; behind = k .behind; before-end = k .before-end }))
         go false here = rw here

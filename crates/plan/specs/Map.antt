@@ -34,7 +34,7 @@ use Rattle.plan.specs.declared.maps.Mapping.{Mapping}
 use Rattle.plan.specs.declared.maps.Leaf.{Leaf}
 use Rattle.plan.specs.declared.maps.Placing.{Placing}
 use Rattle.plan.specs.declared.maps.Placing.the-variants as placing
-use Rattle.plan.specs.declared.maps.Reached.{Reached}
+use Rattle.plan.specs.declared.building.Reached.{Reached}
 use Rattle.plan.specs.Descend.{wayOf}
 
 -- Sizes, alignment, range --------------------------------------------------------------------------------------------------------

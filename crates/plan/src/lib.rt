@@ -1,10 +1,13 @@
 // What map, unmap and protect would write: decisions, which only read, and plans, in which every word is computed already.
+mod building;
 mod descent;
 mod finding;
 mod maps;
 mod protects;
 mod unmaps;
 
+pub use building::carry_here;
+pub use building::carry_map;
 pub use descent::Way;
 pub use descent::Why;
 pub use maps::Asked;
@@ -12,8 +15,6 @@ pub use maps::Leaf;
 pub use maps::Mapping;
 pub use maps::Placing;
 pub use maps::Shape;
-pub use maps::carry_here;
-pub use maps::carry_map;
 pub use maps::decide_map;
 pub use maps::shaped;
 pub use protects::Change;

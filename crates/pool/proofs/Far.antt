@@ -1,4 +1,4 @@
--- A page from 2 ^ 40 on lies in no window: nothing is read or written there.
+-- A page from 2 ^ 40 on is not written; and what was read of a page that is held.
 use Prim.Native.Nat.{ℕ, _+_, _-_, _*_, _/_, _%_, _^_, _<_, _≤_}
 use mathlib.Core.Bool.{Bool, true, false, false≢true, cond, _&&_}
 use mathlib.Core.List.{List}

@@ -8,6 +8,7 @@ use lib.Dec.{leb, eqb}
 use Rattle.word.specs.Memory.{memory, holds, readOf}
 use Rattle.word.specs.declared.Cell.the-variants as cell
 use Rattle.word.proofs.Memory.{read-word, read-outside, held}
+use Rattle.word.proofs.Runs.{Run, spans-run, spans-ends, run-holds}
 use Rattle.word.proofs.Tests.{and-both}
 use Rattle.pool.specs.declared.Space.{Space}
 use Rattle.pool.specs.declared.Fit.{Fit}
@@ -16,10 +17,8 @@ use Rattle.pool.specs.declared.Reason.{Reason}
 use Rattle.pool.specs.declared.Listed.the-variants.{Bad}
 use Rattle.pool.specs.Book.{bookPages, wordOf, mark, bookOf, roomOf, inPool, soundOf, Sound, openedOf, openedIn, headerOf, checkedOf, namedOf, usableOf}
 use Rattle.pool.specs.Create.{mayCreate, newSpace, Roomy}
-use Rattle.pool.specs.Stands.{Counted}
 use Rattle.pool.proofs.Far.{word-at}
 use borrow.Author.Tests.{leb-true, le-leb, lt-ltb, eqb-true, eq-eqb}
-use lib.ListN.{length}
 use Rattle.pool.specs.declared.Book.{Book}
 use Rattle.pool.specs.declared.Opened.{Opened}
 use Rattle.pool.specs.declared.Opened.the-variants as opened
@@ -70,16 +69,12 @@ may-fit len h origin first pages e =
 pub roomy : (s : List ℕ) (origin first pages : ℕ) → Fitting (holds s origin) first pages → Roomy (newSpace origin first pages)
 roomy s origin first pages f = record { small = f .small; enough = f .enough; low = omega (arith, fit-small s origin first pages f, f .enough) }
 
--- every page of a pool that fits lies in the window
-pub fit-inside : (s : List ℕ) (origin first pages : ℕ) → Fitting (holds s origin) first pages → (p : ℕ) → first ≤ p → p < first + pages → holds s origin p ≡ true
-unfolding holds
-fit-inside s origin first pages f p u v =
-    let a = held s origin first (f .from) in
-    let z = held s origin (first + pages - 1) (f .upto) in
-    simp (lt-ltb p (2 ^ 40) (omega (arith, z .small)), le-leb origin (4096 * p) (omega (arith, a .from)), le-leb (4096 * p + 4096) (origin + length s) (omega (arith, z .upto)))
+-- a pool that fits is a run of pages in the window, and every page of it lies there
+pub fit-runs : (s : List ℕ) (origin first pages : ℕ) → Fitting (holds s origin) first pages → Run s origin first pages
+fit-runs s origin first pages f = spans-run s origin first pages (spans-ends s origin first pages (omega (arith, f .enough)) ∙ rw (f .from, f .upto))
 
-pub fit-counted : (s : List ℕ) (sp : Space) → Fitting (holds s (sp .origin)) (sp .first) (sp .pages) → Counted sp
-fit-counted s sp f = record { low = held s (sp .origin) (sp .first) (f .from) .small; small = f .small; enough = omega (arith, f .enough) }
+pub fit-inside : (s : List ℕ) (origin first pages : ℕ) → Fitting (holds s origin) first pages → (p : ℕ) → first ≤ p → p < first + pages → holds s origin p ≡ true
+fit-inside s origin first pages f = run-holds s origin first pages (fit-runs s origin first pages f)
 
 -- WHAT AN OPENED BOOK SHOWS, for any bytes
 pub record Open (h : ℕ → Bool) (m : ℕ → ℕ) (sp : Space) (b : Book) : Type 0 where

@@ -1,6 +1,6 @@
 use mathlib.Core.Path.{sym, _∙_}
 use Rattle.pool.specs.Book.{openedOf, openedIn}
-use Rattle.pool.proofs.Opening.{fitting, fit-counted}
+use Rattle.pool.proofs.Opening.{fitting}
 use borrow.Author.Needs.{needs}
 use Rattle.pool.proofs.open.Statement.{statement}
 use Rattle.pool.proofs.open.Tie as tie

@@ -1,10 +1,10 @@
 use Rattle.plan.proofs.Carrying.{build-carried}
 use borrow.Author.Needs.{needs}
-use Rattle.plan.proofs.maps.build.Statement.{statement}
-use Rattle.plan.proofs.maps.build.Tie as tie
-use Rattle.plan.proofs.maps.build.Reads as reads
-use Rattle.plan.proofs.maps.build.Lts as lts
-use Rattle.plan.proofs.maps.grow.Reads as grow-reads
+use Rattle.plan.proofs.building.build.Statement.{statement}
+use Rattle.plan.proofs.building.build.Tie as tie
+use Rattle.plan.proofs.building.build.Reads as reads
+use Rattle.plan.proofs.building.build.Lts as lts
+use Rattle.plan.proofs.building.grow.Reads as grow-reads
 use Rattle.walk.proofs.index.Reads as index-reads
 use Rattle.word.proofs.write.Reads as write-reads
 

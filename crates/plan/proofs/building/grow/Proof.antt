@@ -5,11 +5,11 @@ use mathlib.Core.Path.{_≡_, sym, ap, _∙_}
 use native.Mathlib.Omega.{arith}
 use borrow.Author.Tests.{eq-eqb, ne-eqb, le-leb, lt-leb, lt-ltb, le-ltb}
 use borrow.Author.Needs.{needs}
-use Rattle.plan.proofs.maps.grow.Statement.{statement}
-use Rattle.plan.proofs.maps.grow.Tie as tie
-use Rattle.plan.proofs.maps.grow.Reads as reads
-use Rattle.plan.proofs.maps.grow.Lts as lts
-use Rattle.plan.proofs.maps.link.Reads as link-reads
+use Rattle.plan.proofs.building.grow.Statement.{statement}
+use Rattle.plan.proofs.building.grow.Tie as tie
+use Rattle.plan.proofs.building.grow.Reads as reads
+use Rattle.plan.proofs.building.grow.Lts as lts
+use Rattle.plan.proofs.building.link.Reads as link-reads
 use Rattle.walk.proofs.index.Reads as index-reads
 use Rattle.word.proofs.clear.Reads as clear-reads
 use Rattle.word.proofs.write.Reads as write-reads

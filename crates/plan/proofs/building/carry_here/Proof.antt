@@ -1,9 +1,9 @@
 use Rattle.word.specs.Writes.{carried}
 use borrow.Author.Needs.{needs}
-use Rattle.plan.proofs.maps.carry_here.Statement.{statement}
-use Rattle.plan.proofs.maps.carry_here.Tie as tie
-use Rattle.plan.proofs.maps.carry_here.Reads as reads
-use Rattle.plan.proofs.maps.carry_here.Lts as lts
+use Rattle.plan.proofs.building.carry_here.Statement.{statement}
+use Rattle.plan.proofs.building.carry_here.Tie as tie
+use Rattle.plan.proofs.building.carry_here.Reads as reads
+use Rattle.plan.proofs.building.carry_here.Lts as lts
 use Rattle.word.proofs.write.Reads as write-reads
 
 -- src/maps.rt:336:5

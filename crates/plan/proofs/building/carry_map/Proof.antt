@@ -4,11 +4,11 @@ use mathlib.Core.Path.{_≡_, sym, _∙_}
 use borrow.Author.Tests.{lt-ltb, le-ltb}
 use Rattle.plan.proofs.Carrying.{carried-then}
 use borrow.Author.Needs.{needs}
-use Rattle.plan.proofs.maps.carry_map.Statement.{statement}
-use Rattle.plan.proofs.maps.carry_map.Tie as tie
-use Rattle.plan.proofs.maps.carry_map.Reads as reads
-use Rattle.plan.proofs.maps.carry_map.Lts as lts
-use Rattle.plan.proofs.maps.build.Reads as build-reads
+use Rattle.plan.proofs.building.carry_map.Statement.{statement}
+use Rattle.plan.proofs.building.carry_map.Tie as tie
+use Rattle.plan.proofs.building.carry_map.Reads as reads
+use Rattle.plan.proofs.building.carry_map.Lts as lts
+use Rattle.plan.proofs.building.build.Reads as build-reads
 use Rattle.pool.proofs.took.Reads as took-reads
 
 -- src/maps.rt:311:5

@@ -2,10 +2,10 @@ use Rattle.plan.specs.Map.{linkOf}
 use Rattle.entry.specs.Words.{tableWord}
 use borrow.Author.Tests.{eq-eqb, ne-eqb, le-leb, lt-leb, lt-ltb, le-ltb}
 use borrow.Author.Needs.{needs}
-use Rattle.plan.proofs.maps.link.Statement.{statement}
-use Rattle.plan.proofs.maps.link.Tie as tie
-use Rattle.plan.proofs.maps.link.Reads as reads
-use Rattle.plan.proofs.maps.link.Lts as lts
+use Rattle.plan.proofs.building.link.Statement.{statement}
+use Rattle.plan.proofs.building.link.Tie as tie
+use Rattle.plan.proofs.building.link.Reads as reads
+use Rattle.plan.proofs.building.link.Lts as lts
 
 -- src/maps.rt:273:9
 returns : tie.Need-returns
