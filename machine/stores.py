@@ -12,8 +12,8 @@ from emulated import WINDOW, Code, Wrong
 from model import SIZES, Tables
 
 ORIGIN = 0x40_0000
-# an entry is loaded whole; or its first byte, where the compiler saw that only bit 0 is looked at
-WHOLE = (8, 1)
+# an entry is loaded whole; or its first half or byte, where the compiler saw that only bit 0 is looked at
+PARTS = (8, 4, 1)
 SLACK = 2  # pages of the window that are not of the pool
 
 
@@ -99,7 +99,7 @@ class Night:
             if at < 0 or at + size > code.size:
                 raise Wrong(f'{what} loads {size} bytes at {at:#x}, beyond the window')
             if tables.start + (at >> 12) in before:
-                if at % 8 or size not in WHOLE:
+                if at % 8 or size not in PARTS:
                     raise Wrong(f'{what} loads {size} bytes at {at:#x}')
                 if at in entries:
                     raise Wrong(f'{what} loads the entry at {at:#x} twice')
