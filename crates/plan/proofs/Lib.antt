@@ -4,5 +4,7 @@ pub mod Found
 pub mod Shapes
 pub mod Placings
 pub mod Arrivals
+pub mod Leads
+pub mod Directly
 pub mod Standing
 pub mod Carrying

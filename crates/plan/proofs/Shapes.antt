@@ -1,5 +1,5 @@
 -- What it shows that sizes, alignment and range are right.
-use Prim.Native.Nat.{ℕ, _+_, _-_, _%_, _^_, _<_, _≤_}
+use Prim.Native.Nat.{ℕ, zero, suc, _+_, _-_, _%_, _^_, _<_, _≤_}
 use mathlib.Core.Bool.{Bool, true, false, cond}
 use mathlib.Core.Path.{_≡_, refl, subst}
 use native.Mathlib.Omega.{arith}
@@ -19,6 +19,49 @@ pub record Shaped (n size base frame : ℕ) : Type 0 where
   pub frame-aligned : frame % size ≡ 0
   pub base-fits : base + size ≤ 2 ^ 48
   pub frame-fits : frame + size ≤ 2 ^ 52
+
+-- the three sizes
+pub size-small : (n size : ℕ) → n ≤ 2 → size ≡ sizeOf n → (0 < size) × (size ≤ 1073741824)
+unfolding sizeOf
+size-small zero size u e = (omega arith, omega arith)
+size-small (suc zero) size u e = (omega arith, omega arith)
+size-small (suc (suc zero)) size u e = (omega arith, omega arith)
+size-small (suc (suc (suc n))) size u e = absurd (omega arith)
+
+-- what is aligned and begins below 2 ^ 48 or 2 ^ 52 also ends there
+pub base-ends : (n size base : ℕ) → n ≤ 2 → size ≡ sizeOf n → base % size ≡ 0 → base < 2 ^ 48 → base ≤ 2 ^ 48 - size
+unfolding sizeOf
+base-ends zero size base u e a b = let k : base % 4096 ≡ 0 = rw (← e) a in omega arith
+base-ends (suc zero) size base u e a b = let k : base % 2097152 ≡ 0 = rw (← e) a in omega arith
+base-ends (suc (suc zero)) size base u e a b = let k : base % 1073741824 ≡ 0 = rw (← e) a in omega arith
+base-ends (suc (suc (suc n))) size base u e a b = absurd (omega arith)
+
+pub frame-ends : (n size frame : ℕ) → n ≤ 2 → size ≡ sizeOf n → frame % size ≡ 0 → frame < 2 ^ 52 → frame ≤ 2 ^ 52 - size
+unfolding sizeOf
+frame-ends zero size frame u e a b = let k : frame % 4096 ≡ 0 = rw (← e) a in omega arith
+frame-ends (suc zero) size frame u e a b = let k : frame % 2097152 ≡ 0 = rw (← e) a in omega arith
+frame-ends (suc (suc zero)) size frame u e a b = let k : frame % 1073741824 ≡ 0 = rw (← e) a in omega arith
+frame-ends (suc (suc (suc n))) size frame u e a b = absurd (omega arith)
+
+-- what is asked in the size of level n
+pub shape-fits : (n size base frame : ℕ) → n ≤ 2 → size ≡ sizeOf n → shapeOf size base frame ≡ fitsOf n size base frame
+unfolding shapeOf sizeOf
+shape-fits zero size base frame u e = rw e refl
+shape-fits (suc zero) size base frame u e = rw e refl
+shape-fits (suc (suc zero)) size base frame u e = rw e refl
+shape-fits (suc (suc (suc n))) size base frame u e = absurd (omega arith)
+
+-- what fits has the level that was asked about
+pub fits-level : (n k size base frame : ℕ) → fitsOf n size base frame ≡ Level k → k ≡ n
+unfolding fitsOf
+fits-level n k size base frame e = go (eqb (base % size) 0) (eqb (frame % size) 0) (leb base (2 ^ 48 - size)) (leb frame (2 ^ 52 - size)) e
+  where
+    go : (a b c d : Bool) → cond a (cond b (cond c (cond d (Level n) (Bad FrameRange)) (Bad BaseRange)) (Bad FrameUnaligned)) (Bad BaseUnaligned) ≡ Level k → k ≡ n
+    go true true true true e = cc
+    go true true true false e = let z : _≡_ {A = ℕ} 0 1 = cc in absurd (omega arith)
+    go true true false d e = let z : _≡_ {A = ℕ} 0 1 = cc in absurd (omega arith)
+    go true false c d e = let z : _≡_ {A = ℕ} 0 1 = cc in absurd (omega arith)
+    go false b c d e = let z : _≡_ {A = ℕ} 0 1 = cc in absurd (omega arith)
 
 module _ (base frame n : ℕ) where
   fitted : (k size : ℕ) → k ≤ 2 → size ≡ sizeOf k → size ≤ 1073741824 → (a b c d : Bool) → eqb (base % size) 0 ≡ a → eqb (frame % size) 0 ≡ b

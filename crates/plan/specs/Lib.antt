@@ -2,4 +2,5 @@ pub mod Descend
 pub mod Find
 pub mod Protect
 pub mod Map
+pub mod AtOnce
 pub mod Unmap

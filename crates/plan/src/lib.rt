@@ -1,6 +1,7 @@
 // What map, unmap and protect would write: decisions, which only read, and plans, in which every word is computed already.
 mod building;
 mod descent;
+mod direct;
 mod finding;
 mod maps;
 mod protects;
@@ -10,6 +11,8 @@ pub use building::carry_here;
 pub use building::carry_map;
 pub use descent::Way;
 pub use descent::Why;
+pub use direct::Once;
+pub use direct::at_once;
 pub use maps::Asked;
 pub use maps::Leaf;
 pub use maps::Mapping;

@@ -3,6 +3,7 @@ ghost use mathlib.Core.Path.{_≡_};
 ghost use Prim.Native.Nat.{_+_, _-_, _^_, _<_, _≤_};
 ghost use Rattle.word.specs.Memory.{memory, holds};
 ghost use Rattle.entry.specs.declared.Made.the-variants.{Word};
+ghost use Rattle.entry.specs.Entry.{sizeOf};
 ghost use Rattle.entry.specs.Words as made;
 ghost use Rattle.plan.specs.declared.descent.Way.{Way};
 ghost use Rattle.plan.specs.Descend.{stopAt};
@@ -69,8 +70,8 @@ pub enum Placing {
     Refused(Reason),
 }
 
-// The asked range and frame, for pages of level n.
-fn fits(n: u64, size: u64, base: u64, frame: u64) -> Shape
+// The asked range and frame, for pages of level n: one test for each reason.
+fn tested(n: u64, size: u64, base: u64, frame: u64) -> Shape
     requires { ⌜ (0 < size) × (size ≤ 1073741824) ⌝ }
     ensures { λ r. ⌜ r ≡ the.fitsOf n size base frame ⌝ }
 {
@@ -89,6 +90,23 @@ fn fits(n: u64, size: u64, base: u64, frame: u64) -> Shape
     Shape::Level(n)
 }
 
+// What fits is found first, in a form in which alignment and range are one test to the compiler.
+pub fn fits(n: u64, size: u64, base: u64, frame: u64) -> Shape
+    requires { ⌜ (n ≤ 2) × (size ≡ sizeOf n) ⌝ }
+    ensures { λ r. ⌜ r ≡ the.fitsOf n size base frame ⌝ }
+{
+    if base % size == 0 {
+        if base < 281474976710656 {
+            if frame % size == 0 {
+                if frame < 4503599627370496 {
+                    return Shape::Level(n);
+                }
+            }
+        }
+    }
+    tested(n, size, base, frame)
+}
+
 pub fn shaped(size: u64, base: u64, frame: u64) -> Shape
     ensures { λ r. ⌜ r ≡ the.shapeOf size base frame ⌝ }
 {
@@ -105,7 +123,7 @@ pub fn shaped(size: u64, base: u64, frame: u64) -> Shape
 }
 
 // Do the frame and the pool share a byte?
-fn meets(space: Space, frame: u64, size: u64) -> bool
+pub fn meets(space: Space, frame: u64, size: u64) -> bool
     ensures { λ r. ⌜ (frame + size ≤ 2 ^ 52 → space .pages ≤ 2 ^ 32 → r ≡ the.meetsOf space frame size) ⌝ }
 {
     if 1099511627776 < space.first {

@@ -3,7 +3,7 @@ use Prim.Native.Nat.{ℕ, _+_, _^_, _<_, _≤_}
 use mathlib.Core.Bool.{Bool, cond, _&&_}
 use mathlib.Core.List.{List}
 use lib.Dec.{leb}
-use Rattle.word.specs.Runs.{amongOf}
+use Rattle.word.specs.Runs.{amongOf, amongWritten}
 use Rattle.word.specs.declared.Cell.{Cell}
 use Rattle.word.specs.declared.Cell.the-variants.{Outside}
 use Rattle.pool.specs.declared.Space.{Space}
@@ -24,6 +24,10 @@ standsOf h sp = standsIn sp (roomOf h (sp .first) (sp .pages))
 -- what reading entry i of page p answers, where the pool lies in the window and p is a page of it, and not the book's
 unfoldable pub entryOf : List ℕ → Space → ℕ → ℕ → Cell
 entryOf s sp p i = cond (leb (sp .pages) (2 ^ 32)) (amongOf s (sp .origin) (sp .first) (bookPages (sp .pages)) (sp .pages) p i) Outside
+
+-- the window with that entry set to w; as it is where there is none
+unfoldable pub entryWritten : List ℕ → Space → ℕ → ℕ → ℕ → List ℕ
+entryWritten s sp p i w = cond (leb (sp .pages) (2 ^ 32)) (amongWritten s (sp .origin) (sp .first) (bookPages (sp .pages)) (sp .pages) p i w) s
 
 -- n pages more can be set aside
 unfoldable pub takesOf : Space → Book → ℕ → Bool

@@ -16,6 +16,7 @@ mod making;
 use bounds::book_of;
 pub use bounds::entry;
 pub use bounds::in_pool;
+pub use bounds::set_entry;
 pub use making::create;
 
 // "the book" in ASCII.

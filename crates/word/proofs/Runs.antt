@@ -8,8 +8,8 @@ use native.Mathlib.Omega.{arith}
 use borrow.Author.Tests.{le-leb, lt-leb, lt-ltb, leb-true, ltb-true}
 use lib.Dec.{leb, ltb}
 use lib.ListN.{length}
-use Rattle.word.specs.Memory.{at, memory, holds}
-use Rattle.word.specs.Runs.{spansOf, amongOf}
+use Rattle.word.specs.Memory.{at, memory, holds, written}
+use Rattle.word.specs.Runs.{spansOf, isAmong, amongOf, amongWritten}
 use Rattle.word.specs.declared.Cell.the-variants.{Word, Outside}
 use Rattle.word.proofs.Tests.{and-both}
 use Rattle.word.proofs.Memory.{held}
@@ -70,34 +70,48 @@ module _ (s : List ℕ) (origin first pages : ℕ) where
       pub behind : first + kept ≤ p
       pub before-end : p < first + pages
 
-    pub among-word : Among → Word (memory s origin (at p i)) ≡ amongOf s origin first kept pages p i
-    unfolding amongOf
-    among-word a = simp (run-spans (a .run), lt-ltb i 512 (a .small), le-leb (first + kept) p (a .behind), lt-ltb p (first + pages) (a .before-end))
+    pub among-is : Among → isAmong s origin first kept pages p i ≡ true
+    unfolding isAmong
+    among-is a = simp (run-spans (a .run), lt-ltb i 512 (a .small), le-leb (first + kept) p (a .behind), lt-ltb p (first + pages) (a .before-end))
 
-    tested : (spansOf s origin first pages && (ltb i 512 && (leb (first + kept) p && ltb p (first + pages)))) ≡ true → Among
-    tested e =
+    pub is-among : isAmong s origin first kept pages p i ≡ true → Among
+    unfolding isAmong
+    is-among e =
         let a = and-both _ _ e in
         let b = and-both _ _ (a .1) in
         let c = and-both _ _ (b .1) in
         record { run = spans-run (a .0); small = ltb-true _ _ (b .0); behind = leb-true _ _ (c .0); before-end = ltb-true _ _ (c .1) }
 
+    pub not-among : (Among → ⊥) → isAmong s origin first kept pages p i ≡ false
+    not-among n = go (isAmong s origin first kept pages p i) refl
+      where
+        go : (t : Bool) → isAmong s origin first kept pages p i ≡ t → t ≡ false
+        go true e = absurd (n (is-among e))
+        go false e = refl
+
+    pub among-word : Among → Word (memory s origin (at p i)) ≡ amongOf s origin first kept pages p i
+    unfolding amongOf
+    among-word a = rw (among-is a)
+
     pub among-outside : (Among → ⊥) → Outside ≡ amongOf s origin first kept pages p i
     unfolding amongOf
-    among-outside n = go (spansOf s origin first pages && (ltb i 512 && (leb (first + kept) p && ltb p (first + pages)))) refl
-      where
-        go : (t : Bool) → (spansOf s origin first pages && (ltb i 512 && (leb (first + kept) p && ltb p (first + pages)))) ≡ t
-            → Outside ≡ cond t (Word (memory s origin (at p i))) Outside
-        go true e = absurd (n (tested e))
-        go false e = refl
+    among-outside n = rw (not-among n)
+
+    pub among-written : (w : ℕ) → Among → amongWritten s origin first kept pages p i w ≡ written s origin p i w
+    unfolding amongWritten
+    among-written w a = rw (among-is a)
+
+    pub among-kept : (w : ℕ) → (Among → ⊥) → amongWritten s origin first kept pages p i w ≡ s
+    unfolding amongWritten
+    among-kept w n = rw (not-among n)
 
     -- what it answered
     pub word-among : (w : ℕ) → amongOf s origin first kept pages p i ≡ Word w → Among × (memory s origin (at p i) ≡ w)
     unfolding amongOf
-    word-among w e = go (spansOf s origin first pages && (ltb i 512 && (leb (first + kept) p && ltb p (first + pages)))) refl e
+    word-among w e = go (isAmong s origin first kept pages p i) refl e
       where
-        go : (t : Bool) → (spansOf s origin first pages && (ltb i 512 && (leb (first + kept) p && ltb p (first + pages)))) ≡ t
-            → cond t (Word (memory s origin (at p i))) Outside ≡ Word w → Among × (memory s origin (at p i) ≡ w)
-        go true h x = (tested h, cc)
+        go : (t : Bool) → isAmong s origin first kept pages p i ≡ t → cond t (Word (memory s origin (at p i))) Outside ≡ Word w → Among × (memory s origin (at p i) ≡ w)
+        go true h x = (is-among h, cc)
         go false h x = let z : _≡_ {A = ℕ} 0 1 = cc in absurd (omega arith)
 
     pub outside-among : amongOf s origin first kept pages p i ≡ Outside → Among → ⊥

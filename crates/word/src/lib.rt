@@ -11,6 +11,7 @@ mod scan;
 
 pub use run::read_among;
 pub use run::spans;
+pub use run::write_among;
 pub use scan::besides;
 
 // What reading an entry answers.
@@ -62,21 +63,21 @@ fn store(mem: &mut [u8], at: usize, w: u64)
 }
 
 // Does page p lie wholly in the window? One comparison finds both ends of the page: where it begins before the window the difference
-// wraps, and is more than any length.
+// wraps, and is more than any length. In a window shorter than a page the room wraps too; so both tests are of a sign.
 pub fn inside(mem: &[u8], origin: u64, p: u64) -> bool
     ensures { λ r. ⌜ r ≡ holds (now (mem .entry)) origin p ⌝ }
 {
     if 9223372036854775808 <= origin {
         return false;
     }
-    let len = mem.len() as u64;
-    if len < 4096 {
+    let room = std::num::wrapping_sub_u64(mem.len() as u64, 4096);
+    if 9223372036854775808 <= room {
         return false;
     }
     if 1099511627776 <= p {
         return false;
     }
-    std::num::wrapping_sub_u64(p * 4096, origin) <= len - 4096
+    std::num::wrapping_sub_u64(p * 4096, origin) <= room
 }
 
 // Entry i of page p, where that page lies in the window.

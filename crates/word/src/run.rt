@@ -4,6 +4,7 @@ ghost use mathlib.Core.Path.{_≡_};
 ghost use Rattle.word.specs.Runs as the;
 use crate::Cell;
 use crate::load;
+use crate::store;
 
 // Do so many pages from the first one on lie in the window?
 pub fn spans(mem: &[u8], origin: u64, first: u64, pages: u64) -> bool
@@ -44,4 +45,29 @@ pub fn read_among(
         }
     }
     Cell::Outside
+}
+
+// Sets entry i of page p, where p is one of that run's pages, but for so many at its beginning; and else nothing.
+pub fn write_among(
+    mem: &mut [u8],
+    origin: u64,
+    first: u64,
+    kept: u64,
+    pages: u64,
+    p: u64,
+    i: u64,
+    w: u64,
+)
+    ensures { λ _. ⌜ now (mem .exit) ≡ the.amongWritten (now (mem .entry)) origin first kept pages p i w ⌝ }
+{
+    if 512 <= i {
+        return;
+    }
+    if spans(mem, origin, first, pages) {
+        if kept < pages {
+            if std::num::wrapping_sub_u64(p, first + kept) < pages - kept {
+                store(mem, (p * 4096 - origin + i * 8) as usize, w);
+            }
+        }
+    }
 }

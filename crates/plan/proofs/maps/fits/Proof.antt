@@ -1,53 +1,34 @@
+use native.Mathlib.Omega.{arith}
+use borrow.Author.Tests.{eq-eqb, le-leb}
 use Rattle.plan.specs.Map.{fitsOf}
-use borrow.Author.Tests.{eq-eqb, ne-eqb, le-leb, lt-leb, lt-ltb, le-ltb}
+use Rattle.plan.proofs.Shapes.{size-small, base-ends, frame-ends}
 use borrow.Author.Needs.{needs}
 use Rattle.plan.proofs.maps.fits.Statement.{statement}
 use Rattle.plan.proofs.maps.fits.Tie as tie
 use Rattle.plan.proofs.maps.fits.Reads as reads
 use Rattle.plan.proofs.maps.fits.Lts as lts
+use Rattle.plan.proofs.maps.tested.Reads as tested-reads
 
--- src/maps.rt:66:8
+-- src/maps.rt:98:8
 rem-if1 : tie.Need-rem-if1
-rem-if1 c = search needs
+rem-if1 c = omega (arith, size-small _ _ (c .pre .0) (c .pre .1) .0)
 
--- src/maps.rt:67:9
+-- src/maps.rt:100:16
+rem-if3 : tie.Need-rem-if3
+rem-if3 c = omega (arith, size-small _ _ (c .before .before .pre .0) (c .before .before .pre .1) .0)
+
+-- src/maps.rt:102:21
 returns : tie.Need-returns
 unfolding fitsOf
-returns c = simp (ne-eqb _ _ (c .if1 .taken))
+returns c = simp (eq-eqb _ _ (c .before .before .before .if1 .taken), eq-eqb _ _ (c .before .if3 .taken), le-leb _ _ (base-ends _ _ _ (c .before .before .before .before .pre .0) (c .before .before .before .before .pre .1) (c .before .before .before .if1 .taken) (c .before .before .if2 .taken)), le-leb _ _ (frame-ends _ _ _ (c .before .before .before .before .pre .0) (c .before .before .before .before .pre .1) (c .before .if3 .taken) (c .if4 .taken)))
 
--- src/maps.rt:69:8
-rem-if2 : tie.Need-rem-if2
-rem-if2 c = search needs
+-- src/maps.rt:107:5
+tested-requires : tie.Need-tested-requires
+tested-requires c κs = size-small _ _ (c .before .pre .0) (c .before .pre .1)
 
--- src/maps.rt:70:9
+-- src/maps.rt:94:1
 returns-2 : tie.Need-returns-2
-unfolding fitsOf
-returns-2 c = simp (eq-eqb _ _ (c .before .if1 .left), ne-eqb _ _ (c .if2 .taken))
-
--- src/maps.rt:72:8
-sub-if3 : tie.Need-sub-if3
-sub-if3 c = search needs
-
--- src/maps.rt:73:9
-returns-3 : tie.Need-returns-3
-unfolding fitsOf
-returns-3 c = simp (eq-eqb _ _ (c .before .before .if1 .left), eq-eqb _ _ (c .before .if2 .left), lt-leb _ _ (c .if3 .taken))
-
--- src/maps.rt:75:8
-sub-if4 : tie.Need-sub-if4
-sub-if4 c = search needs
-
--- src/maps.rt:76:9
-returns-4 : tie.Need-returns-4
-unfolding fitsOf
-returns-4 c = simp (eq-eqb _ _ (c .before .before .before .if1 .left), eq-eqb _ _ (c .before .before .if2 .left), le-leb _ _ (c .before .if3 .left), lt-leb _ _ (c .if4 .taken))
-
--- src/maps.rt:62:1
-returns-5 : tie.Need-returns-5
-unfolding fitsOf
-returns-5 c = simp (eq-eqb _ _ (c .before .before .before .if1 .left), eq-eqb _ _ (c .before .before .if2 .left), le-leb _ _ (c .before .if3 .left), le-leb _ _ (c .if4 .left))
+returns-2 c = search needs
 
 pub fits-spec : {M : Type 1} → statement M
-fits-spec =
-    tie.close
-    (tie.spec rem-if1 returns rem-if2 returns-2 sub-if3 returns-3 sub-if4 returns-4 returns-5)
+fits-spec = tie.close (tie.spec rem-if1 rem-if3 returns tested-requires returns-2)

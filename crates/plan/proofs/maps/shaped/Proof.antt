@@ -1,3 +1,7 @@
+use Prim.Native.Nat.{_≤_}
+use mathlib.Core.Path.{refl}
+use native.Mathlib.Omega.{arith}
+use Rattle.entry.specs.Entry.{sizeOf}
 use Rattle.plan.specs.Map.{shapeOf}
 use borrow.Author.Tests.{eq-eqb, ne-eqb, le-leb, lt-leb, lt-ltb, le-ltb}
 use borrow.Author.Needs.{needs}
@@ -9,7 +13,8 @@ use Rattle.plan.proofs.maps.fits.Reads as fits-reads
 
 -- src/maps.rt:85:9
 fits-requires : tie.Need-fits-requires
-fits-requires c κs = search needs
+unfolding sizeOf
+fits-requires c κs = (omega arith, refl)
 
 -- src/maps.rt:85:9
 returns : tie.Need-returns
@@ -18,7 +23,8 @@ returns c = simp (eq-eqb _ _ (c .before .if1 .taken), c .fits2 .ensures)
 
 -- src/maps.rt:88:9
 fits-requires-2 : tie.Need-fits-requires-2
-fits-requires-2 c κs = search needs
+unfolding sizeOf
+fits-requires-2 c κs = (omega arith, refl)
 
 -- src/maps.rt:88:9
 returns-2 : tie.Need-returns-2
@@ -27,7 +33,8 @@ returns-2 c = simp (ne-eqb _ _ (c .before .before .if1 .left), eq-eqb _ _ (c .be
 
 -- src/maps.rt:91:9
 fits-requires-3 : tie.Need-fits-requires-3
-fits-requires-3 c κs = search needs
+unfolding sizeOf
+fits-requires-3 c κs = (omega arith, refl)
 
 -- src/maps.rt:91:9
 returns-3 : tie.Need-returns-3

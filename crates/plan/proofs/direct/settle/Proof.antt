@@ -1,0 +1,96 @@
+use mathlib.Core.Path.{sym, ap, _∙_}
+use Rattle.word.specs.Writes.{carried}
+use Rattle.plan.specs.AtOnce.{onceOf, onceWrites}
+use Rattle.plan.proofs.Reading.{lead-written}
+use borrow.Author.Needs.{needs}
+use Rattle.plan.proofs.direct.settle.Statement.{statement}
+use Rattle.plan.proofs.direct.settle.Tie as tie
+use Rattle.plan.proofs.direct.settle.Reads as reads
+use Rattle.plan.proofs.direct.settle.Lts as lts
+use Rattle.plan.proofs.direct.follow.Reads as follow-reads
+use Rattle.pool.proofs.set_entry.Reads as set-entry-reads
+use Rattle.walk.proofs.index.Reads as index-reads
+
+-- src/direct.rt:100:9
+follow-requires : tie.Need-follow-requires
+follow-requires c κs = search needs
+
+-- src/direct.rt:103:29
+enum-told : tie.Need-enum-told
+enum-told c = search needs
+
+-- src/direct.rt:103:44
+index-requires : tie.Need-index-requires
+index-requires c κs = search needs
+
+-- src/direct.rt:103:13
+set-entry-requires : tie.Need-set-entry-requires
+set-entry-requires c κs = search needs
+
+-- src/direct.rt:106:23
+enum-told-2 : tie.Need-enum-told-2
+enum-told-2 c = search needs
+
+-- src/direct.rt:107:27
+enum-told-3 : tie.Need-enum-told-3
+enum-told-3 c = search needs
+
+-- src/direct.rt:108:24
+enum-told-4 : tie.Need-enum-told-4
+enum-told-4 c = search needs
+
+-- src/direct.rt:95:1
+same-length : tie.Need-same-length
+same-length c = search needs
+
+-- src/direct.rt:95:1
+returns : tie.Need-returns
+unfolding onceOf onceWrites carried
+returns c = let e = sym (c .before .before .before .before .before .before .before .follow .ensures) ∙ c .before .before .before .before .before .enum-told .given .1 in (rw e, rw (e, c .before .before .set-entry .ensures, c .before .before .before .index .ensures (c .before .before .before .before .before .before .before .before .before .before .pre .0)) (lead-written _ _ (c .before .before .before .before .before .before .before .before .before .before .pre .1) _ _ _ _ e))
+
+-- src/direct.rt:95:1
+same-length-2 : tie.Need-same-length-2
+same-length-2 c = search needs
+
+-- src/direct.rt:95:1
+returns-2 : tie.Need-returns-2
+unfolding onceOf onceWrites carried
+returns-2 c = let e = sym (c .before .before .follow .ensures) ∙ c .enum-told2 .given .1 in (rw e, rw e)
+
+-- src/direct.rt:95:1
+same-length-3 : tie.Need-same-length-3
+same-length-3 c = search needs
+
+-- src/direct.rt:95:1
+returns-3 : tie.Need-returns-3
+unfolding onceOf onceWrites carried
+returns-3 c = let e = sym (c .before .before .follow .ensures) ∙ c .enum-told3 .given .1 in (rw e, rw e)
+
+-- src/direct.rt:95:1
+same-length-4 : tie.Need-same-length-4
+same-length-4 c = search needs
+
+-- src/direct.rt:95:1
+returns-4 : tie.Need-returns-4
+unfolding onceOf onceWrites carried
+returns-4 c = let e = sym (c .before .before .follow .ensures) ∙ c .enum-told4 .given .1 in (rw e, rw e)
+
+pub settle-spec : {M : Type 1} → statement M
+settle-spec =
+    tie.close
+    (tie.spec
+    follow-requires
+    enum-told
+    index-requires
+    set-entry-requires
+    enum-told-2
+    enum-told-3
+    enum-told-4
+    same-length
+    returns
+    same-length-2
+    returns-2
+    same-length-3
+    returns-3
+    same-length-4
+    returns-4)
