@@ -1,3 +1,4 @@
 pub mod Rooted
 pub mod Walked
 pub mod Asked
+pub mod Shortcut

@@ -3,6 +3,7 @@
 use Prim.Native.Nat.{ℕ, _/_, _%_}
 use mathlib.Core.Bool.{cond}
 use mathlib.Core.List.{List}
+use mathlib.Core.Path.{_≡_}
 use lib.Dec.{eqb}
 use lib.ListN.{length}
 use Rattle.word.specs.Memory.{memory, holds}
@@ -10,7 +11,10 @@ use Rattle.word.specs.Writes.{carried}
 use Rattle.entry.specs.declared.Rights.{Rights}
 use Rattle.pool.specs.Create.{createdOf, createWrites}
 use Rattle.pool.specs.declared.Space.{Space}
-use Rattle.plan.specs.Map.{shapeOf}
+use Rattle.plan.specs.Map.{shapeOf, decideOf}
+use Rattle.plan.specs.AtOnce as plan
+use Rattle.plan.specs.declared.direct.Once.{Once}
+use Rattle.plan.specs.declared.direct.Once.the-variants.{Unsaid}
 use Rattle.plan.specs.declared.maps.Asked.{Asked}
 use Rattle.plan.specs.declared.maps.Shape.{Shape}
 use Rattle.plan.specs.declared.maps.Shape.the-variants.{Level, Bad}
@@ -82,6 +86,11 @@ mapAnswer s q (Refused y) = record { reason = y; tables = 0 }
 unfoldable pub mapBytes : List ℕ → Asked → Sited → List ℕ
 mapBytes s q (At sp) = carried s (sp .origin) (the.mapWrites (holds s (sp .origin)) (memory s (sp .origin)) sp q)
 mapBytes s q (Refused y) = s
+
+-- what is done at once in a space is what was decided; where there is none, it changes nothing and says nothing
+abbrev pub AtOnce : List ℕ → List ℕ → Asked → Sited → Once → Type 0
+AtOnce s after q (At sp) o = plan.AtOnce s after sp (decideOf (holds s (sp .origin)) (memory s (sp .origin)) sp q) o
+AtOnce s after q (Refused y) o = (o ≡ Unsaid) × (after ≡ s)
 
 -- Unmap -------------------------------------------------------------------------------------------------------------------------
 

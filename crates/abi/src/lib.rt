@@ -8,6 +8,7 @@ ghost use Rattle.abi.specs.Answers as the;
 ghost use Rattle.abi.specs.Calls as call;
 ghost use Rattle.abi.specs.Entries as one;
 use plan::Asked;
+use plan::Once;
 use plan::Shape;
 use pool::Space;
 use word::Cell;
@@ -86,9 +87,8 @@ pub extern "C" fn tp_create(mem: &mut [u8], origin: u64, pool: u64, pages: u64) 
     answers::of_create(tablepath::create(mem, origin, pool / 4096, pages))
 }
 
-// Maps the frame at the base, with these rights.
-#[no_mangle]
-pub extern "C" fn tp_map(
+// Map, whatever is asked.
+fn whole(
     mem: &mut [u8],
     origin: u64,
     pool: u64,
@@ -116,6 +116,103 @@ pub extern "C" fn tp_map(
         },
         Sited::At(space) => answers::of_map(tablepath::map(mem, space, q)),
     }
+}
+
+// A page of level n, where no table is missing.
+fn at_once(mem: &mut [u8], origin: u64, pool: u64, pages: u64, root: u64, q: Asked, n: u64) -> Once
+    ensures { λ r. ⌜ call.AtOnce (now (mem .entry)) (now (mem .exit)) q (call.siteOf origin pool pages root) r ⌝ }
+{
+    let s = site(origin, pool, pages, root);
+    match s {
+        Sited::Refused(_) => Once::Unsaid,
+        Sited::At(space) => plan::at_once(mem, space, q, n),
+    }
+}
+
+// Map, for pages of level n: what is asked is made anew for the whole, so that the compiler need not keep it in memory.
+fn sized(
+    mem: &mut [u8],
+    origin: u64,
+    pool: u64,
+    pages: u64,
+    root: u64,
+    base: u64,
+    frame: u64,
+    size: u64,
+    rights: u64,
+    n: u64,
+) -> Mapped
+    ensures answer { λ r. ⌜ r ≡ call.mapAnswer (now (mem .entry)) (call.ask base frame size rights) (call.askedSite origin pool pages root (call.ask base frame size rights)) ⌝ }
+    ensures bytes { λ _. ⌜ now (mem .exit) ≡ call.mapBytes (now (mem .entry)) (call.ask base frame size rights) (call.askedSite origin pool pages root (call.ask base frame size rights)) ⌝ }
+{
+    let q = Asked {
+        base: base,
+        frame: frame,
+        size: size,
+        rights: answers::rights(rights),
+    };
+    let o = at_once(mem, origin, pool, pages, root, q, n);
+    match o {
+        Once::Done => Mapped {
+            reason: 0,
+            tables: 0,
+        },
+        Once::Overlap => Mapped {
+            reason: 7,
+            tables: 0,
+        },
+        Once::Unsaid => whole(mem, origin, pool, pages, root, base, frame, size, rights),
+    }
+}
+
+// Maps the frame at the base, with these rights. Each size has a piece of its own.
+#[no_mangle]
+pub extern "C" fn tp_map(
+    mem: &mut [u8],
+    origin: u64,
+    pool: u64,
+    pages: u64,
+    root: u64,
+    base: u64,
+    frame: u64,
+    size: u64,
+    rights: u64,
+) -> Mapped
+    ensures answer { λ r. ⌜ r ≡ call.mapAnswer (now (mem .entry)) (call.ask base frame size rights) (call.askedSite origin pool pages root (call.ask base frame size rights)) ⌝ }
+    ensures bytes { λ _. ⌜ now (mem .exit) ≡ call.mapBytes (now (mem .entry)) (call.ask base frame size rights) (call.askedSite origin pool pages root (call.ask base frame size rights)) ⌝ }
+{
+    if size == 4096 {
+        return sized(mem, origin, pool, pages, root, base, frame, 4096, rights, 0);
+    }
+    if size == 2097152 {
+        return sized(
+            mem,
+            origin,
+            pool,
+            pages,
+            root,
+            base,
+            frame,
+            2097152,
+            rights,
+            1,
+        );
+    }
+    if size == 1073741824 {
+        return sized(
+            mem,
+            origin,
+            pool,
+            pages,
+            root,
+            base,
+            frame,
+            1073741824,
+            rights,
+            2,
+        );
+    }
+    whole(mem, origin, pool, pages, root, base, frame, size, rights)
 }
 
 // Unmaps the page that starts exactly at the base, and sets aside the tables that become empty.
