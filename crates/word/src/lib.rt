@@ -63,8 +63,26 @@ fn store(mem: &mut [u8], at: usize, w: u64)
 }
 
 // Does page p lie wholly in the window? One comparison finds both ends of the page: where it begins before the window the difference
-// wraps, and is more than any length. In a window shorter than a page the room wraps too; so both tests are of a sign.
+// wraps, and is more than any length.
 pub fn inside(mem: &[u8], origin: u64, p: u64) -> bool
+    ensures { λ r. ⌜ r ≡ holds (now (mem .entry)) origin p ⌝ }
+{
+    if 9223372036854775808 <= origin {
+        return false;
+    }
+    let len = mem.len() as u64;
+    if len < 4096 {
+        return false;
+    }
+    if 1099511627776 <= p {
+        return false;
+    }
+    std::num::wrapping_sub_u64(p * 4096, origin) <= len - 4096
+}
+
+// The same for one who only reads: in a window shorter than a page the room wraps too, and both first tests are of a sign. A look-up
+// is shorter by it, and a loop over a page that was tested so is longer.
+fn covers(mem: &[u8], origin: u64, p: u64) -> bool
     ensures { λ r. ⌜ r ≡ holds (now (mem .entry)) origin p ⌝ }
 {
     if 9223372036854775808 <= origin {
@@ -87,7 +105,7 @@ pub fn read(mem: &[u8], origin: u64, p: u64, i: u64) -> Cell
     if 512 <= i {
         return Cell::Outside;
     }
-    if inside(mem, origin, p) {
+    if covers(mem, origin, p) {
         return Cell::Word(load(mem, (p * 4096 - origin + i * 8) as usize));
     }
     Cell::Outside

@@ -8,7 +8,7 @@ use Rattle.word.proofs.read.Statement.{statement}
 use Rattle.word.proofs.read.Tie as tie
 use Rattle.word.proofs.read.Reads as reads
 use Rattle.word.proofs.read.Lts as lts
-use Rattle.word.proofs.inside.Reads as inside-reads
+use Rattle.word.proofs.covers.Reads as covers-reads
 use Rattle.word.proofs.load.Reads as load-reads
 
 -- src/lib.rt:82:9
@@ -17,16 +17,16 @@ unfolding readOf
 returns c = simp (le-ltb _ _ (c .if1 .taken))
 
 -- src/lib.rt:84:8
-inside-requires : tie.Need-inside-requires
-inside-requires c κs = search needs
+covers-requires : tie.Need-covers-requires
+covers-requires c κs = search needs
 
 -- src/lib.rt:85:38
 mul-load : tie.Need-mul-load
-mul-load c = omega (arith, offset _ _ _ _ (sym (c .before .inside .ensures) ∙ c .if2 .taken) (c .before .before .if1 .left) .product)
+mul-load c = omega (arith, offset _ _ _ _ (sym (c .before .covers .ensures) ∙ c .if2 .taken) (c .before .before .if1 .left) .product)
 
 -- src/lib.rt:85:38
 sub-load : tie.Need-sub-load
-sub-load c = offset _ _ _ _ (sym (c .before .inside .ensures) ∙ c .if2 .taken) (c .before .before .if1 .left) .above
+sub-load c = offset _ _ _ _ (sym (c .before .covers .ensures) ∙ c .if2 .taken) (c .before .before .if1 .left) .above
 
 -- src/lib.rt:85:58
 mul-load-2 : tie.Need-mul-load-2
@@ -34,28 +34,28 @@ mul-load-2 c = search needs
 
 -- src/lib.rt:85:38
 add-load : tie.Need-add-load
-add-load c = omega (arith, offset _ _ _ _ (sym (c .before .inside .ensures) ∙ c .if2 .taken) (c .before .before .if1 .left) .fits)
+add-load c = omega (arith, offset _ _ _ _ (sym (c .before .covers .ensures) ∙ c .if2 .taken) (c .before .before .if1 .left) .fits)
 
 -- src/lib.rt:85:27
 load-requires : tie.Need-load-requires
-load-requires c κs = offset _ _ _ _ (sym (c .before .inside .ensures) ∙ c .if2 .taken) (c .before .before .if1 .left) .fits
+load-requires c κs = offset _ _ _ _ (sym (c .before .covers .ensures) ∙ c .if2 .taken) (c .before .before .if1 .left) .fits
 
 -- src/lib.rt:85:9
 returns-2 : tie.Need-returns-2
 unfolding readOf
-returns-2 c = let h = sym (c .before .before .inside .ensures) ∙ c .before .if2 .taken in simp (lt-ltb _ _ (c .before .before .before .if1 .left), h, c .load .ensures, offset _ _ _ _ h (c .before .before .before .if1 .left) .same, memory-in _ _ _ (held-lies _ _ _ _ (held _ _ _ h) (c .before .before .before .if1 .left)))
+returns-2 c = let h = sym (c .before .before .covers .ensures) ∙ c .before .if2 .taken in simp (lt-ltb _ _ (c .before .before .before .if1 .left), h, c .load .ensures, offset _ _ _ _ h (c .before .before .before .if1 .left) .same, memory-in _ _ _ (held-lies _ _ _ _ (held _ _ _ h) (c .before .before .before .if1 .left)))
 
 -- src/lib.rt:78:1
 returns-3 : tie.Need-returns-3
 unfolding readOf
-returns-3 c = simp (lt-ltb _ _ (c .before .before .if1 .left), sym (c .before .inside .ensures) ∙ c .if2 .left)
+returns-3 c = simp (lt-ltb _ _ (c .before .before .if1 .left), sym (c .before .covers .ensures) ∙ c .if2 .left)
 
 pub read-spec : {M : Type 1} → statement M
 read-spec =
     tie.close
     (tie.spec
     returns
-    inside-requires
+    covers-requires
     mul-load
     sub-load
     mul-load-2
