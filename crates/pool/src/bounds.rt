@@ -81,18 +81,18 @@ pub fn entry(mem: &[u8], space: Space, p: u64, i: u64) -> Cell
 }
 
 // Sets entry i of page p, where the pool lies in the window and p is a page of it, and not the book's; and else nothing.
-pub fn set_entry(mem: &mut [u8], space: Space, p: u64, i: u64, w: u64)
-    ensures { λ _. ⌜ now (mem .exit) ≡ stand.entryWritten (now (mem .entry)) space p i w ⌝ }
+pub fn set_entry(mem: &mut [u8], sp: Space, p: u64, i: u64, w: u64)
+    ensures { λ _. ⌜ now (mem .exit) ≡ stand.entryWritten (now (mem .entry)) sp p i w ⌝ }
 {
-    if 4294967296 < space.pages {
+    if 4294967296 < sp.pages {
         return;
     }
     word::write_among(
         mem,
-        space.origin,
-        space.first,
-        book_of(space.pages),
-        space.pages,
+        sp.origin,
+        sp.first,
+        book_of(sp.pages),
+        sp.pages,
         p,
         i,
         w,

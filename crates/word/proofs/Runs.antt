@@ -1,11 +1,11 @@
 -- A run of pages that lies in the window, and reading in it.
-use Prim.Native.Nat.{ℕ, _+_, _-_, _*_, _^_, _<_, _≤_}
+use Prim.Native.Nat.{ℕ, _+_, _-_, _*_, _%_, _^_, _<_, _≤_}
 use mathlib.Core.Bool.{Bool, true, false, false≢true, cond, _&&_}
 use mathlib.Core.List.{List}
 use mathlib.Core.Path.{_≡_, refl, sym, _∙_}
 use native.Mathlib.Decide.{decLe}
 use native.Mathlib.Omega.{arith}
-use borrow.Author.Tests.{le-leb, lt-leb, lt-ltb, leb-true, ltb-true}
+use borrow.Author.Tests.{le-leb, lt-leb, lt-ltb, le-ltb, leb-true, ltb-true}
 use lib.Dec.{leb, ltb}
 use lib.ListN.{length}
 use Rattle.word.specs.Memory.{at, memory, holds, written}
@@ -88,6 +88,20 @@ module _ (s : List ℕ) (origin first pages : ℕ) where
         go : (t : Bool) → isAmong s origin first kept pages p i ≡ t → t ≡ false
         go true e = absurd (n (is-among e))
         go false e = refl
+
+    -- the last of the tests; d is how far the page is behind the first one that counts, modulo 2 ^ 64
+    pub among-last : (d : ℕ) → Run → i < 512 → kept < pages → p < 2 ^ 64 → d < 2 ^ 64 → (d + (first + kept)) % 2 ^ 64 ≡ p
+        → ltb d (pages - kept) ≡ isAmong s origin first kept pages p i
+    among-last d r u v w x e = go (decLe (pages - kept) d)
+      where
+        go : Dec (pages - kept ≤ d) → ltb d (pages - kept) ≡ isAmong s origin first kept pages p i
+        go (yes k) = le-ltb d (pages - kept) k ∙ sym (not-among (λ a. omega (arith, a .behind, a .before-end, r .end)))
+        go (no k) =
+            lt-ltb d (pages - kept) (omega arith)
+            ∙ sym (among-is (record { run = r; small = u; behind = omega (arith, r .end); before-end = omega (arith, r .end) }))
+
+    pub among-holds : Among → holds s origin p ≡ true
+    among-holds a = run-holds (a .run) p (omega (arith, a .behind)) (a .before-end)
 
     pub among-word : Among → Word (memory s origin (at p i)) ≡ amongOf s origin first kept pages p i
     unfolding amongOf

@@ -1,6 +1,7 @@
 // Words of eight bytes in a window of physical memory: one read and one write, each for any bytes and any numbers.
 ghost use mathlib.Core.Path.{_≡_};
-ghost use Prim.Native.Nat.{_+_, _%_, _<_, _≤_};
+ghost use mathlib.Core.List.{List};
+ghost use Prim.Native.Nat.{ℕ, _+_, _%_, _^_, _<_, _≤_};
 ghost use lib.ListN.{length};
 ghost use Rattle.word.specs.Bytes.{wordAt, putWord};
 ghost use Rattle.word.specs.Memory.{holds, readOf, written};
@@ -62,8 +63,18 @@ fn store(mem: &mut [u8], at: usize, w: u64)
     mem[at + 7] = byte(w >> 56);
 }
 
-// Does page p lie wholly in the window? One comparison finds both ends of the page: where it begins before the window the difference
-// wraps, and is more than any length.
+// Does page p begin so far behind the origin, at most? One comparison finds that it begins in the window, too: where it begins before the
+// window the difference wraps, and is more than any length.
+fn near(origin: u64, room: u64, p: u64) -> bool
+    ensures { λ r. ⌜ ((s : List ℕ) → origin < 2 ^ 63 → room + 4096 ≡ length s → length s < 2 ^ 63 → r ≡ holds s origin p) ⌝ }
+{
+    if 1099511627776 <= p {
+        return false;
+    }
+    std::num::wrapping_sub_u64(p * 4096, origin) <= room
+}
+
+// Does page p lie wholly in the window?
 pub fn inside(mem: &[u8], origin: u64, p: u64) -> bool
     ensures { λ r. ⌜ r ≡ holds (now (mem .entry)) origin p ⌝ }
 {
@@ -74,28 +85,22 @@ pub fn inside(mem: &[u8], origin: u64, p: u64) -> bool
     if len < 4096 {
         return false;
     }
-    if 1099511627776 <= p {
-        return false;
-    }
-    std::num::wrapping_sub_u64(p * 4096, origin) <= len - 4096
+    near(origin, len - 4096, p)
 }
 
-// The same for one who only reads: in a window shorter than a page the room wraps too, and both first tests are of a sign. A look-up
-// is shorter by it, and a loop over a page that was tested so is longer.
+// The same for one who only reads: in a window shorter than a page the room wraps, so both tests are of a sign. A look-up is shorter by
+// it; a loop over a page that was tested so is longer.
 fn covers(mem: &[u8], origin: u64, p: u64) -> bool
     ensures { λ r. ⌜ r ≡ holds (now (mem .entry)) origin p ⌝ }
 {
-    if 9223372036854775808 <= origin {
-        return false;
-    }
     let room = std::num::wrapping_sub_u64(mem.len() as u64, 4096);
     if 9223372036854775808 <= room {
         return false;
     }
-    if 1099511627776 <= p {
+    if 9223372036854775808 <= origin {
         return false;
     }
-    std::num::wrapping_sub_u64(p * 4096, origin) <= room
+    near(origin, room, p)
 }
 
 // Entry i of page p, where that page lies in the window.

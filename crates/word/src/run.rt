@@ -22,7 +22,22 @@ pub fn spans(mem: &[u8], origin: u64, first: u64, pages: u64) -> bool
     (first + pages) * 4096 - origin <= mem.len() as u64
 }
 
-// Entry i of page p, where p is one of that run's pages, but for so many at its beginning.
+// Is entry i of page p one of that run, and p none of so many pages at its beginning?
+fn among(mem: &[u8], origin: u64, first: u64, kept: u64, pages: u64, p: u64, i: u64) -> bool
+    ensures { λ r. ⌜ r ≡ the.isAmong (now (mem .entry)) origin first kept pages p i ⌝ }
+{
+    if 512 <= i {
+        return false;
+    }
+    if spans(mem, origin, first, pages) {
+        if kept < pages {
+            return std::num::wrapping_sub_u64(p, first + kept) < pages - kept;
+        }
+    }
+    false
+}
+
+// Such an entry.
 pub fn read_among(
     mem: &[u8],
     origin: u64,
@@ -34,20 +49,13 @@ pub fn read_among(
 ) -> Cell
     ensures { λ r. ⌜ r ≡ the.amongOf (now (mem .entry)) origin first kept pages p i ⌝ }
 {
-    if 512 <= i {
-        return Cell::Outside;
-    }
-    if spans(mem, origin, first, pages) {
-        if kept < pages {
-            if std::num::wrapping_sub_u64(p, first + kept) < pages - kept {
-                return Cell::Word(load(mem, (p * 4096 - origin + i * 8) as usize));
-            }
-        }
+    if among(mem, origin, first, kept, pages, p, i) {
+        return Cell::Word(load(mem, (p * 4096 - origin + i * 8) as usize));
     }
     Cell::Outside
 }
 
-// Sets entry i of page p, where p is one of that run's pages, but for so many at its beginning; and else nothing.
+// Sets such an entry, and where it is none of them nothing.
 pub fn write_among(
     mem: &mut [u8],
     origin: u64,
@@ -60,14 +68,7 @@ pub fn write_among(
 )
     ensures { λ _. ⌜ now (mem .exit) ≡ the.amongWritten (now (mem .entry)) origin first kept pages p i w ⌝ }
 {
-    if 512 <= i {
-        return;
-    }
-    if spans(mem, origin, first, pages) {
-        if kept < pages {
-            if std::num::wrapping_sub_u64(p, first + kept) < pages - kept {
-                store(mem, (p * 4096 - origin + i * 8) as usize, w);
-            }
-        }
+    if among(mem, origin, first, kept, pages, p, i) {
+        store(mem, (p * 4096 - origin + i * 8) as usize, w);
     }
 }

@@ -1,49 +1,34 @@
 use mathlib.Core.Path.{sym}
 use native.Mathlib.Omega.{arith}
-use Rattle.word.proofs.Holding.{high-origin, short, far, wraps}
+use Rattle.word.proofs.Holding.{high-origin, short}
 use borrow.Author.Needs.{needs}
 use Rattle.word.proofs.covers.Statement.{statement}
 use Rattle.word.proofs.covers.Tie as tie
 use Rattle.word.proofs.covers.Reads as reads
 use Rattle.word.proofs.covers.Lts as lts
 use Rattle.std.proofs.num.wrapping_sub_u64.Reads as wrapping-sub-u64-reads
+use Rattle.word.proofs.near.Reads as near-reads
 
--- src/lib.rt:71:9
-returns : tie.Need-returns
-returns c = sym (high-origin _ _ _ (c .if1 .taken))
-
--- src/lib.rt:73:9
+-- src/lib.rt:96:9
 wrapping-sub-u64-requires : tie.Need-wrapping-sub-u64-requires
 wrapping-sub-u64-requires c κs = search needs
 
--- src/lib.rt:75:9
+-- src/lib.rt:98:9
+returns : tie.Need-returns
+returns c = sym (short _ _ _ (omega (arith, c .before .wrapping-sub-u64 .ensures, c .if1 .taken, c .before .before .before .good .0 .1)))
+
+-- src/lib.rt:101:9
 returns-2 : tie.Need-returns-2
-returns-2 c = sym (short _ _ _ (omega (arith, c .before .wrapping-sub-u64 .ensures, c .if2 .taken, c .before .before .before .before .good .0 .1)))
+returns-2 c = sym (high-origin _ _ _ (c .if2 .taken))
 
--- src/lib.rt:78:9
+-- src/lib.rt:103:5
+near-requires : tie.Need-near-requires
+near-requires c κs = search needs
+
+-- src/lib.rt:93:1
 returns-3 : tie.Need-returns-3
-returns-3 c = sym (far _ _ _ (c .if3 .taken))
-
--- src/lib.rt:80:32
-mul-wrapping-sub-u64 : tie.Need-mul-wrapping-sub-u64
-mul-wrapping-sub-u64 c = search needs
-
--- src/lib.rt:80:5
-wrapping-sub-u64-requires-2 : tie.Need-wrapping-sub-u64-requires-2
-wrapping-sub-u64-requires-2 c κs = search needs
-
--- src/lib.rt:67:1
-returns-4 : tie.Need-returns-4
-returns-4 c = wraps _ _ _ _ _ (c .before .before .before .before .if1 .left) (c .before .if3 .left) (omega (arith, c .before .before .before .before .before .before .good .0 .1)) (omega arith) (c .wrapping-sub-u642 .ensures) (omega (arith, c .before .before .before .wrapping-sub-u64 .ensures, c .before .before .if2 .left, c .before .before .before .before .before .before .good .0 .1))
+returns-3 c = c .near .ensures _ (c .before .if2 .left) (omega (arith, c .before .before .before .wrapping-sub-u64 .ensures, c .before .before .if1 .left, c .before .before .before .before .before .good .0 .1)) (omega (arith, c .before .before .before .before .before .good .0 .1))
 
 pub covers-spec : {M : Type 1} → statement M
 covers-spec =
-    tie.close
-    (tie.spec
-    returns
-    wrapping-sub-u64-requires
-    returns-2
-    returns-3
-    mul-wrapping-sub-u64
-    wrapping-sub-u64-requires-2
-    returns-4)
+    tie.close (tie.spec wrapping-sub-u64-requires returns returns-2 near-requires returns-3)
