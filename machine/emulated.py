@@ -70,7 +70,7 @@ class Code:
 
     def loaded(self, address, size):
         if WINDOW < address + size and address < WINDOW + self.size:
-            self.loads.append((address - WINDOW, size))
+            self.loads.append((address - WINDOW, size, len(self.stores)))
 
     def stored(self, uc, access, address, size, value, _):
         if WINDOW <= address and address + size <= WINDOW + self.size:

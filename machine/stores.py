@@ -3,7 +3,7 @@
 one aligned store of 8 bytes for each planned write, in the planned order; after every single store the tables mean to each sampled
 address what they meant before the operation or what they mean after it, and it turns at one store only; no store into a page that
 is set aside; none outside the pool. No load is beyond the window, and an entry of a linked table is loaded once in an operation, by one
-load. The last line counts the operations."""
+load; but a map that could not be done at once begins anew at the root, before any store. The last line counts the operations."""
 import os
 import random
 import sys
@@ -94,16 +94,18 @@ class Night:
         """Every load and store of one operation."""
         tables, code = self.tables, self.code
         frozen = set(self.aside)
-        entries = set()
-        for at, size in code.loads:
+        entries, anew = [], not what.startswith('tp_map')
+        for at, size, stored in code.loads:
             if at < 0 or at + size > code.size:
                 raise Wrong(f'{what} loads {size} bytes at {at:#x}, beyond the window')
             if tables.start + (at >> 12) in before:
                 if at % 8 or size not in PARTS:
                     raise Wrong(f'{what} loads {size} bytes at {at:#x}')
                 if at in entries:
-                    raise Wrong(f'{what} loads the entry at {at:#x} twice')
-                entries.add(at)
+                    if anew or stored or at != entries[0]:
+                        raise Wrong(f'{what} loads the entry at {at:#x} twice')
+                    entries, anew = [], True
+                entries.append(at)
         turned = 0
         means = old
         for n, (at, size, word) in enumerate(code.stores):
