@@ -107,17 +107,9 @@ module _ (s : List ℕ) (origin first pages : ℕ) where
     unfolding amongOf
     among-word a = rw (among-is a)
 
-    pub among-outside : (Among → ⊥) → Outside ≡ amongOf s origin first kept pages p i
-    unfolding amongOf
-    among-outside n = rw (not-among n)
-
     pub among-written : (w : ℕ) → Among → amongWritten s origin first kept pages p i w ≡ written s origin p i w
     unfolding amongWritten
     among-written w a = rw (among-is a)
-
-    pub among-kept : (w : ℕ) → (Among → ⊥) → amongWritten s origin first kept pages p i w ≡ s
-    unfolding amongWritten
-    among-kept w n = rw (not-among n)
 
     -- what it answered
     pub word-among : (w : ℕ) → amongOf s origin first kept pages p i ≡ Word w → Among × (memory s origin (at p i) ≡ w)
