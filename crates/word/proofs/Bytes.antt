@@ -95,8 +95,3 @@ part-more n k s o lo b e f p h = rw joined (record { same = whole; small = rw (p
 
     whole : lo + b * 2 ^ k ≡ bytesAt n s o + getD s (o + n) 0 * 256 ^ n
     whole = rw (p .same, h .0, e)
-
--- a word is odd where its first byte is
-pub word-odd : (s : List ℕ) (o : ℕ) → wordAt s o % 2 ≡ getD s o 0 % 2
-unfolding wordAt bytesAt
-word-odd s o = let z : getD s (o + 0) 0 ≡ getD s o 0 = rw (add-zero o) in omega arith
