@@ -1,4 +1,5 @@
-use mathlib.Core.Path.{sym, ap, _∙_}
+use mathlib.Core.Path.{sym, _∙_}
+use native.Mathlib.Omega.{arith}
 use Rattle.word.specs.Writes.{carried}
 use Rattle.plan.specs.AtOnce.{onceOf, onceWrites}
 use Rattle.plan.proofs.Reading.{lead-written}
@@ -46,7 +47,7 @@ same-length c = search needs
 -- src/direct.rt:95:1
 returns : tie.Need-returns
 unfolding onceOf onceWrites carried
-returns c = let e = sym (c .before .before .before .before .before .before .before .follow .ensures) ∙ c .before .before .before .before .before .enum-told .given .1 in (rw e, rw (e, c .before .before .set-entry .ensures, c .before .before .before .index .ensures (c .before .before .before .before .before .before .before .before .before .before .pre .0)) (lead-written _ _ (c .before .before .before .before .before .before .before .before .before .before .pre .1) _ _ _ _ e))
+returns c = let e = sym (c .before .before .before .before .before .before .before .follow .ensures) ∙ c .before .before .before .before .before .enum-told .given .1 in (rw e, rw (e, c .before .before .set-entry .ensures, c .before .before .before .index .ensures (omega (arith, c .before .before .before .before .before .before .before .before .before .before .pre .0))) (lead-written _ _ (c .before .before .before .before .before .before .before .before .before .before .pre .1) _ _ _ _ e))
 
 -- src/direct.rt:95:1
 same-length-2 : tie.Need-same-length-2

@@ -33,7 +33,7 @@ add-load c = let a = is-among _ _ _ _ (c .before .before .before .args .kept) (c
 
 -- src/run.rt:53:27
 load-requires : tie.Need-load-requires
-load-requires c κs = let a = is-among _ _ _ _ (c .before .before .before .args .kept) (c .before .before .before .args .p) (c .before .before .before .args .i) (sym (c .before .among .ensures) ∙ c .if1 .taken) in let o = offset _ _ _ _ (among-holds _ _ _ _ _ _ _ a) (a .small) in o .fits
+load-requires c κs = let a = is-among _ _ _ _ (c .before .before .before .args .kept) (c .before .before .before .args .p) (c .before .before .before .args .i) (sym (c .before .among .ensures) ∙ c .if1 .taken) in let o = offset _ _ _ _ (among-holds _ _ _ _ _ _ _ a) (a .small) in omega (arith, o .fits)
 
 -- src/run.rt:53:9
 returns : tie.Need-returns

@@ -35,7 +35,7 @@ add-store c = let a = is-among _ _ _ _ (c .before .before .before .before .befor
 
 -- src/run.rt:72:9
 store-requires : tie.Need-store-requires
-store-requires c κs = let a = is-among _ _ _ _ (c .before .before .before .before .before .args .kept) (c .before .before .before .before .before .args .p) (c .before .before .before .before .before .args .i) (sym (c .before .before .among .ensures) ∙ c .before .if1 .taken) in let o = offset _ _ _ _ (among-holds _ _ _ _ _ _ _ a) (a .small) in o .fits
+store-requires c κs = let a = is-among _ _ _ _ (c .before .before .before .before .before .args .kept) (c .before .before .before .before .before .args .p) (c .before .before .before .before .before .args .i) (sym (c .before .before .among .ensures) ∙ c .before .if1 .taken) in let o = offset _ _ _ _ (among-holds _ _ _ _ _ _ _ a) (a .small) in omega (arith, o .fits)
 
 -- src/run.rt:59:1
 same-length : tie.Need-same-length
