@@ -3,7 +3,7 @@ use Prim.Native.Nat.{ℕ, zero, suc, _+_, _/_, _%_, _<_, _≤_}
 use mathlib.Core.Bool.{Bool, true, false, cond}
 use mathlib.Core.List.{List, [], _++_}
 use mathlib.Core.Logic.{inr}
-use mathlib.Core.Path.{_≡_, _∙_, fun-ext}
+use mathlib.Core.Path.{_≡_, ap, _∙_, fun-ext}
 use native.Mathlib.Omega.{arith}
 use borrow.Author.Tests.{lt-ltb}
 use lib.Dec.{ltb}
@@ -20,7 +20,7 @@ use Rattle.pool.proofs.Booked.{booked-elsewhere}
 use Rattle.pool.proofs.Counts.{spot-in}
 use Rattle.pool.proofs.Far.{word-at}
 use Rattle.pool.proofs.Proper.{OfBook, took-proper}
-use Rattle.pool.proofs.Taking.{took-booked}
+use Rattle.pool.proofs.Taking.{took-booked, took-book}
 use Rattle.effect.specs.Numbers.{KeepsNumbers}
 use Rattle.effect.proofs.Numbers.{keeps-self, keeps-then, same-keeps, took-keeps}
 
@@ -85,3 +85,18 @@ module _ {sp : Space} {m : ℕ → ℕ} {role : ℕ → Role} (b : Booked sp m r
       go (suc n) v f =
           rw (lt-ltb 0 (suc n) (omega arith), f (omega arith), ← book-stays)
           (took-keeps (booked-elsewhere xs (every-map (λ q v. inr v) xs behind) b) (suc n) (rw (word-stays 3 (omega arith)) v))
+
+  -- THE COUNTS: so many free pages fewer, as many set aside
+  pub took-behind-counts : (need : ℕ) (y : Book) → need ≤ bookOf m sp .free → (0 < need → y ≡ bookOf m sp)
+      → (bookOf m sp .free ≡ bookOf (after m (xs ++ bookWrites sp y need)) sp .free + need) × (bookOf (after m (xs ++ bookWrites sp y need)) sp .aside ≡ bookOf m sp .aside)
+  unfolding after
+  took-behind-counts need y u e = rw (after-append m xs (bookWrites sp y need)) (go need u e)
+    where
+      go : (n : ℕ) → n ≤ bookOf m sp .free → (0 < n → y ≡ bookOf m sp)
+          → (bookOf m sp .free ≡ bookOf (after (after m xs) (bookWrites sp y n)) sp .free + n) × (bookOf (after (after m xs) (bookWrites sp y n)) sp .aside ≡ bookOf m sp .aside)
+      go zero v f = (omega (arith, word-stays 3 (omega arith)), word-stays 4 (omega arith))
+      go (suc n) v f =
+          let still : Booked sp (after m xs) role = booked-elsewhere xs (every-map (λ q v. inr v) xs behind) b in
+          let k = took-book still (suc n) (rw (word-stays 3 (omega arith)) v) in
+          rw (lt-ltb 0 (suc n) (omega arith), f (omega arith), ← book-stays)
+          (omega (arith, ap (λ (x : Book). x .free) k, word-stays 3 (omega arith)), ap (λ (x : Book). x .aside) k ∙ word-stays 4 (omega arith))

@@ -27,8 +27,9 @@ use Rattle.tables.specs.Down.{down-start, map-done}
 use Rattle.tables.specs.Operation.{Changed, changed-sound, changed-spare}
 use Rattle.tables.specs.Overlap.{aligned-base}
 use Rattle.pool.specs.Book.{bookPages, bookOf, pageAt}
-use Rattle.pool.specs.Booked.{settingOf, Booked, Taken}
+use Rattle.pool.specs.Booked.{settingOf, Booked, Taken, tablesOf}
 use Rattle.pool.specs.declared.Space.{Space}
+use Rattle.pool.proofs.Pages.{adds-up}
 use Rattle.plan.specs.declared.maps.Asked.{Asked}
 use Rattle.plan.specs.declared.maps.Mapping.{Mapping}
 use Rattle.plan.specs.declared.building.Reached.{Reached}
@@ -36,8 +37,9 @@ use Rattle.plan.specs.Map.{nextOf, growOf, reached0, reached1, reached2, reache
 use Rattle.effect.specs.MapDone.{Misses, MapDone}
 use Rattle.effect.specs.Whole.{Whole}
 use Rattle.effect.specs.Numbers.{KeepsNumbers}
-use Rattle.effect.proofs.MapBook.{bookWrites, book-writes-proper, took-behind, took-behind-keeps}
+use Rattle.effect.proofs.MapBook.{bookWrites, book-writes-proper, took-behind, took-behind-keeps, took-behind-counts}
 use Rattle.effect.proofs.MapPlan.{Planned, size-small}
+use Rattle.effect.proofs.Wholes.{owned}
 use Rattle.effect.proofs.MapSteps.{Place, Grown, grown-start, grown-step}
 
 -- a step that stays above the target went down one level
@@ -183,6 +185,18 @@ module _ {h : ℕ → Bool} {sp : Space} {m : ℕ → ℕ} {role : ℕ → Role}
       settled (changed-spare (bookWrites sp (p .fresh .book) (p .fresh .need)) built
       (every-map (λ x u. book-spare (grown3 .roles) x (booked .in-book x (u .0) (u .1))) _ (book-writes-proper sp (p .fresh .book) (p .fresh .need))))
 
+  whole : Whole h sp (after m (writesOf sp p)) (grown3 .roles)
+  whole = record { stands = w .stands; small = w .small; sound = changed-sound changed; booked = booked }
+
+  counts : (bookOf m sp .free ≡ bookOf (after m (writesOf sp p)) sp .free + p .fresh .need) × (bookOf (after m (writesOf sp p)) sp .aside ≡ bookOf m sp .aside)
+  unfolding writesOf
+  counts =
+      took-behind-counts (w .booked) (buildOf p) (every-map (λ x u. u .behind) (buildOf p) places) (p .fresh .need) (p .fresh .book)
+      (omega (arith, k .supplied .need-is, k .supplied .room)) (λ u. k .supplied .book-is (omega (arith, k .supplied .need-is)))
+
+  more : tablesOf sp (grown3 .roles) ≡ tablesOf sp role + p .fresh .need
+  more = omega (arith, adds-up (owned w) (w .booked), adds-up (owned whole) booked, counts .0, counts .1)
+
   proper : Every (Home (settingOf h sp)) (writesOf sp p)
   unfolding writesOf
   proper =
@@ -209,9 +223,11 @@ module _ {h : ℕ → Bool} {sp : Space} {m : ℕ → ℕ} {role : ℕ → Role}
     missing = missing;
     few = omega (arith, k .supplied .need-is, k .low);
     taken = taken;
+    fewer = counts .0;
+    more = more;
     changed = changed;
     booked = booked;
-    whole = record { stands = w .stands; small = w .small; sound = changed-sound changed; booked = booked };
+    whole = whole;
     proper = proper;
     numbers = numbers;
   }

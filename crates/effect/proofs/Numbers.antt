@@ -1,26 +1,22 @@
 -- The numbers of the pages that are set aside: what leaves them, and that a page set aside later has a later number.
-use Prim.Native.Nat.{ℕ, _+_, _-_, _*_, _/_, _%_, _<_, _≤_}
-use mathlib.Core.Bool.{Bool, true, false, cond, _&&_}
-use mathlib.Core.List.{List, [], _∷_}
+use Prim.Native.Nat.{ℕ, _+_, _-_, _/_, _%_, _<_, _≤_}
+use mathlib.Core.List.{List}
 use mathlib.Core.Logic.{_⊎_, inl, inr, _≢_}
 use mathlib.Core.Path.{_≡_, refl, sym, ap, _∙_, subst}
 use native.Mathlib.Decide.{decLt}
 use native.Mathlib.Omega.{arith}
-use borrow.Author.Tests.{le-leb}
-use lib.Dec.{leb}
-use Rattle.word.specs.Memory.{set}
 use Rattle.word.specs.Writes.{Write, after}
 use Rattle.word.proofs.Writes.{Every, every-map, after-other}
-use Rattle.tables.specs.Roles.{Role, aside}
-use Rattle.pool.specs.Book.{bookPages, wordOf, bookOf, pageAt, spotOf, soundOf, ticketOf}
+use Rattle.tables.specs.Roles.{Role}
+use Rattle.pool.specs.Book.{bookPages, wordOf, bookOf, pageAt, spotOf, ticketOf}
 use Rattle.pool.specs.Booked.{Booked, Numbered}
 use Rattle.pool.specs.declared.Space.{Space}
 use Rattle.pool.specs.declared.Book.{Book}
-use Rattle.pool.specs.Changes.{put, tookWrites, asideWrites, asideBook, releaseWrites}
+use Rattle.pool.specs.Changes.{tookWrites, asideWrites, asideBook, releaseWrites}
 use Rattle.pool.proofs.Counts.{spot-in, is-sound}
-use Rattle.pool.proofs.Booked.{after-put, word-same, word-other}
-use Rattle.pool.proofs.Taking.{took-numbered}
+use Rattle.pool.proofs.Taking.{took-numbered, took-book}
 use Rattle.pool.proofs.SettingAside.{aside-others, aside-book}
+use Rattle.pool.proofs.Releasing.{release-book}
 use Rattle.effect.specs.Numbers.{SameBook, KeepsNumbers}
 use Rattle.pool.proofs.Far.{word-at}
 
@@ -76,17 +72,8 @@ later-number {sp} {m} {m'} a p k h n = elim (decLt k (ticketOf (bookOf m sp))) [
 
 -- pages are taken
 pub took-keeps : {sp : Space} {m : ℕ → ℕ} {role : ℕ → Role} → Booked sp m role → (k : ℕ) → k ≤ bookOf m sp .free → KeepsNumbers sp m (after m (tookWrites sp (bookOf m sp) k))
-took-keeps {sp} {m} b k u = record { numbers = took-numbered b k u; tickets = word 5 (omega arith) (omega arith); more = omega (arith, word 4 (omega arith) (omega arith)) }
-  where
-    word : (j : ℕ) → j ≢ 2 → j ≢ 3 → after m (tookWrites sp (bookOf m sp) k) (wordOf sp j) ≡ m (wordOf sp j)
-    word j x y = unfold tookWrites in go (leb k (bookOf m sp .free) && soundOf (sp .pages) (bookOf m sp))
-      where
-        go : (t : Bool) → after m (cond t (put sp 2 (spotOf (sp .pages) (bookOf m sp .head) k) ∷ put sp 3 (bookOf m sp .free - k) ∷ []) []) (wordOf sp j) ≡ m (wordOf sp j)
-        go true =
-            ap (λ f. f (wordOf sp j)) (after-put m sp 2 (spotOf (sp .pages) (bookOf m sp .head) k) (put sp 3 (bookOf m sp .free - k) ∷ [])
-            ∙ after-put (set m (wordOf sp 2) (spotOf (sp .pages) (bookOf m sp .head) k)) sp 3 (bookOf m sp .free - k) [])
-            ∙ (unfold after in word-other _ sp 3 _ j (λ e. y (sym e)) ∙ word-other m sp 2 _ j (λ e. x (sym e)))
-        go false = unfold after in refl
+took-keeps b k u =
+    record { numbers = took-numbered b k u; tickets = ap (λ (y : Book). y .tickets) (took-book b k u); more = omega (arith, ap (λ (y : Book). y .aside) (took-book b k u)) }
 
 -- a page is set aside
 pub aside-keeps : {sp : Space} {m : ℕ → ℕ} {role : ℕ → Role} → Booked sp m role → (p : ℕ) → KeepsNumbers sp m (after m (asideWrites sp (bookOf m sp) p))
@@ -95,35 +82,7 @@ aside-keeps {sp} {m} b p = record { numbers = aside-others b p; tickets = ap (λ
     counts : bookOf (after m (asideWrites sp (bookOf m sp) p)) sp ≡ record { head = bookOf m sp .head; free = bookOf m sp .free; aside = bookOf m sp .aside + 1; tickets = bookOf m sp .tickets }
     counts = sym (aside-book b p) ∙ (unfold asideBook in rw (is-sound (sp .pages) (bookOf m sp) (b .sound)))
 
--- A report ------------------------------------------------------------------------------------------------------------------------
-
-module _ {sp : Space} {m : ℕ → ℕ} {role : ℕ → Role} (b : Booked sp m role) (k : ℕ) (u : k ≤ bookOf m sp .aside) where
-  -- the memory after each of its writes
-  first : ℕ → ℕ
-  first = set m (wordOf sp 3) (bookOf m sp .free + k)
-
-  second : ℕ → ℕ
-  second = set first (wordOf sp 4) (bookOf m sp .aside - k)
-
-  third : ℕ → ℕ
-  third = set second (wordOf sp 5) (bookOf m sp .tickets + k)
-
-  is-third : after m (releaseWrites sp (bookOf m sp) k) ≡ third
-  unfolding first second third releaseWrites after
-  is-third =
-      rw (le-leb k (bookOf m sp .aside) u, is-sound (sp .pages) (bookOf m sp) (b .sound))
-      (after-put m sp 3 (bookOf m sp .free + k) (put sp 4 (bookOf m sp .aside - k) ∷ put sp 5 (bookOf m sp .tickets + k) ∷ [])
-      ∙ after-put first sp 4 (bookOf m sp .aside - k) (put sp 5 (bookOf m sp .tickets + k) ∷ [])
-      ∙ after-put second sp 5 (bookOf m sp .tickets + k) [])
-
-  aside-third : third (wordOf sp 4) ≡ bookOf m sp .aside - k
-  unfolding third second
-  aside-third = word-other second sp 5 _ 4 (omega arith) ∙ word-same first sp 4 _
-
-  tickets-third : third (wordOf sp 5) ≡ bookOf m sp .tickets + k
-  unfolding third
-  tickets-third = word-same second sp 5 _
-
-  -- A REPORT leaves the ticket of the moment as it is
-  pub release-ticket : ticketOf (bookOf (after m (releaseWrites sp (bookOf m sp) k)) sp) ≡ ticketOf (bookOf m sp)
-  release-ticket = ap (λ f. ticketOf (bookOf f sp)) is-third ∙ omega (arith, aside-third, tickets-third)
+-- A REPORT leaves the ticket of the moment as it is
+pub release-ticket : {sp : Space} {m : ℕ → ℕ} {role : ℕ → Role} → Booked sp m role → (k : ℕ) → k ≤ bookOf m sp .aside
+    → ticketOf (bookOf (after m (releaseWrites sp (bookOf m sp) k)) sp) ≡ ticketOf (bookOf m sp)
+release-ticket b k u = ap ticketOf (release-book b k u) ∙ omega arith

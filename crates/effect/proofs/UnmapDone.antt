@@ -28,7 +28,7 @@ use Rattle.plan.specs.declared.unmaps.Removing.the-variants.{Go, Refused}
 use Rattle.effect.specs.OfPool.{OfPool}
 use Rattle.plan.specs.Find.{foundOf}
 use Rattle.plan.specs.Map.{noBook}
-use Rattle.plan.specs.Unmap.{emptiedOf, bookedOf, openOf, removeOf, soughtOf, bookAfter, decideOf, writesOf}
+use Rattle.plan.specs.Unmap.{emptiedOf, bookedOf, openOf, removeOf, soughtOf, cutBook, bookAfter, decideOf, writesOf}
 use Rattle.effect.specs.UnmapDone.{asideMore, SetAside, UnmapDone}
 use Rattle.effect.specs.Whole.{Whole}
 use Rattle.effect.proofs.Cuts.{cuts, cutRoles, risen, last-level, cut-changed, removal, writes-are, book-is}
@@ -46,6 +46,10 @@ book-read : (m : ℕ → ℕ) (sp : Space) (n : ℕ) → 0 < n → bookRead m sp
 unfolding bookRead
 book-read m sp n u = rw (ne-eqb n 0 (omega arith))
 
+none-read : (m : ℕ → ℕ) (sp : Space) (n : ℕ) → n ≡ 0 → bookRead m sp n ≡ noBook
+unfolding bookRead
+none-read m sp n e = rw (eq-eqb n 0 e)
+
 -- what was not found is not removed
 pub refused-so : (h : ℕ → Bool) (m : ℕ → ℕ) (sp : Space) (va : ℕ) (y : Reason) → foundOf h m sp va ≡ sought.Refused y → decideOf h m sp va ≡ Refused y
 unfolding decideOf soughtOf
@@ -57,8 +61,8 @@ refusal-clash r y e = cc
 module _ {h : ℕ → Bool} {sp : Space} {m : ℕ → ℕ} {role : ℕ → Role} (w : Whole h sp m role) (va : ℕ) where
   module _ (s : Spot) (k : Located (settingOf h sp) m role va s) where
     -- the removal of n tables, all of them
-    removed : (n : ℕ) (b : Book) → Emptied h m va (s .way) n → (0 < n → b ≡ bookOf m sp) → UnmapDone h sp m role va (removal s n b)
-    removed n b e f = record {
+    removed : (n : ℕ) (b : Book) → Emptied h m va (s .way) n → (0 < n → b ≡ bookOf m sp) → (n ≡ 0 → b ≡ noBook) → UnmapDone h sp m role va (removal s n b)
+    removed n b e f z = record {
       role' = role';
       size-is = k .size-is;
       aligned = rw (k .size-is) (k .aligned);
@@ -69,6 +73,7 @@ module _ {h : ℕ → Bool} {sp : Space} {m : ℕ → ℕ} {role : ℕ → Role}
       proper = subst (Every (OfPool sp)) same (d .proper);
       is-low = omega (arith, level-at (s .way) n, last-level w va s k n (e .empty));
       book = λ u. subst (λ xs. bookAfter sp (removal s n b) ≡ bookOf (after m xs) sp) same (book-is w va s k n b (e .empty) f (e .three) u);
+      none = λ u. unfold cutBook in rw u (z u);
       counts = subst (λ xs. bookOf (after m xs) sp ≡ asideMore n (bookOf m sp)) same (d .book);
       fate = λ p. ticketed p (d .fate p);
       fewer = fewer;
@@ -140,7 +145,7 @@ module _ {h : ℕ → Bool} {sp : Space} {m : ℕ → ℕ} {role : ℕ → Role}
     unmapped-at f r e =
         let n = emptiedOf h m va (s .way) in
         subst (UnmapDone h sp m role va) (same-removal _ r (sym (unmap-decided f) ∙ e))
-        (removed n (bookRead m sp n) (emptied h m va (s .way)) (book-read m sp n))
+        (removed n (bookRead m sp n) (emptied h m va (s .way)) (book-read m sp n) (none-read m sp n))
 
   -- UNMAP, DONE
   pub unmapped : (r : Removal) → decideOf h m sp va ≡ Go r → UnmapDone h sp m role va r

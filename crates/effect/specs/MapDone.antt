@@ -11,8 +11,8 @@ use Rattle.walk.specs.declared.Found.the-variants as found
 use Rattle.tables.specs.Roles.{Setting, Role, Home, entryAt}
 use Rattle.tables.specs.Way.{Comes}
 use Rattle.tables.specs.Operation.{Changed}
-use Rattle.pool.specs.Book.{pageAt}
-use Rattle.pool.specs.Booked.{settingOf, Booked, Taken}
+use Rattle.pool.specs.Book.{bookOf, pageAt}
+use Rattle.pool.specs.Booked.{settingOf, Booked, Taken, tablesOf}
 use Rattle.pool.specs.declared.Space.{Space}
 use Rattle.plan.specs.declared.maps.Asked.{Asked}
 use Rattle.plan.specs.declared.maps.Mapping.{Mapping}
@@ -37,6 +37,7 @@ pub record Misses (σ : Setting) (m : ℕ → ℕ) (va l n : ℕ) : Type 0 where
 
 -- changed: every address of [base, base + size) has the page that was asked, and no other address has changed; see Operation.antt.
 -- missing, few, taken: the tables that were missing, at most three, are the oldest free pages; no other page has another role.
+-- fewer, more: so many free pages fewer, so many tables more.
 -- proper: words are written to pages of the pool that lie in the window, and nowhere else.
 pub record MapDone (h : ℕ → Bool) (sp : Space) (m : ℕ → ℕ) (role : ℕ → Role) (q : Asked) (p : Mapping) : Type 0 where
   pub role' : ℕ → Role
@@ -44,6 +45,8 @@ pub record MapDone (h : ℕ → Bool) (sp : Space) (m : ℕ → ℕ) (role : ℕ
   pub missing : Misses (settingOf h sp) m (q .base) (p .target) (p .fresh .need)
   pub few : p .fresh .need ≤ 3
   pub taken : Taken (pageAt m sp) (p .fresh .need) role role'
+  pub fewer : bookOf m sp .free ≡ bookOf (after m (writesOf sp p)) sp .free + p .fresh .need
+  pub more : tablesOf sp role' ≡ tablesOf sp role + p .fresh .need
   pub changed : Changed (settingOf h sp) m role (q .base) (p .target) (found.Page (q .base) (q .size) (q .frame) (q .rights)) (writesOf sp p)
       (after m (writesOf sp p)) role'
   pub booked : Booked sp (after m (writesOf sp p)) role'

@@ -62,6 +62,12 @@ module _ {sp : Space} {m : ℕ → ℕ} {role : ℕ → Role} (b : Booked sp m r
   unfolding now
   book-then = rw (other 2 (omega arith) (omega arith) (omega arith), free-then, aside-then, tickets-then)
 
+  -- THE BOOK AFTER IT
+  pub release-book : bookOf (after m (releaseWrites sp (bookOf m sp) k)) sp
+      ≡ record { head = bookOf m sp .head; free = bookOf m sp .free + k; aside = bookOf m sp .aside - k; tickets = bookOf m sp .tickets + k }
+  unfolding now
+  release-book = ap (λ f. bookOf f sp) is-then ∙ book-then
+
   page-then : (j : ℕ) → pageAt then sp j ≡ pageAt m sp j
   unfolding pageAt
   page-then j =

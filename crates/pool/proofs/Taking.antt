@@ -49,6 +49,12 @@ module _ {sp : Space} {m : ℕ → ℕ} {role : ℕ → Role} (b : Booked sp m r
   unfolding now
   book-then = rw (head-then, free-then, other 4 (omega arith) (omega arith), other 5 (omega arith) (omega arith))
 
+  -- THE BOOK AFTER IT
+  pub took-book : bookOf (after m (tookWrites sp (bookOf m sp) k)) sp
+      ≡ record { head = spotOf (sp .pages) (bookOf m sp .head) k; free = bookOf m sp .free - k; aside = bookOf m sp .aside; tickets = bookOf m sp .tickets }
+  unfolding now
+  took-book = ap (λ f. bookOf f sp) is-then ∙ book-then
+
   -- positions count from the new head
   page-then : (j : ℕ) → k + j < sp .pages → pageAt then sp j ≡ pageAt m sp (k + j)
   unfolding pageAt

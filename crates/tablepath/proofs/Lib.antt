@@ -11,3 +11,6 @@ pub mod Reported
 pub mod MapUnmap
 pub mod InPool
 pub mod Witness
+pub mod SaysAny
+pub mod SaysCreate
+pub mod Says
