@@ -11,6 +11,4 @@ pub mod Reported
 pub mod MapUnmap
 pub mod InPool
 pub mod Witness
-pub mod SaysAny
-pub mod SaysCreate
-pub mod Says
+pub mod Tickets

@@ -15,7 +15,10 @@ use Rattle.walk.specs.declared.Found.the-variants.{Page, Nothing}
 use Rattle.tables.specs.Roles.{Role, Home}
 use Rattle.tables.specs.Edits.{turns-inside, turns-outside}
 use Rattle.tables.specs.Overlap.{aligned-base}
+use Rattle.pool.specs.Book.{bookOf, dueOf}
 use Rattle.pool.specs.Booked.{settingOf}
+use Rattle.pool.specs.declared.Due.{Due}
+use Rattle.pool.specs.declared.Due.the-variants as due
 use Rattle.pool.specs.declared.Space.{Space}
 use Rattle.plan.specs.Map as map
 use Rattle.plan.specs.Unmap as unmap
@@ -30,12 +33,13 @@ use Rattle.effect.specs.Whole.{Whole}
 use Rattle.effect.specs.MapDone.{MapDone}
 use Rattle.effect.specs.UnmapDone.{UnmapDone}
 use Rattle.effect.specs.ProtectDone.{ProtectDone}
-use Rattle.effect.proofs.Wholes.{every-held}
+use Rattle.effect.proofs.Wholes.{book-opens, every-held}
 use Rattle.effect.proofs.MapDone.{decided-done, mapped-inside, mapped-outside}
 use Rattle.effect.proofs.UnmapDone.{unmapped}
 use Rattle.effect.proofs.ProtectDone.{protected}
+use Rattle.effect.proofs.ToldDone.{told}
 use Rattle.effect.proofs.Exactly.{unmap-exactly}
-use Rattle.tablepath.specs.Answers.{mapAnswer, mapWrites, mapSaid, mapDid, unmapAnswer, unmapWrites, unmapSaid, unmapDid, goneOf, protectAnswer, protectWrites, protectSaid, protectDid}
+use Rattle.tablepath.specs.Answers.{mapAnswer, mapWrites, mapSaid, mapDid, unmapAnswer, unmapWrites, unmapSaid, unmapDid, goneOf, protectAnswer, protectWrites, protectSaid, protectDid, toldWrites, toldDid, dueDid}
 use Rattle.tablepath.specs.declared.Mapped.the-variants as mapped
 use Rattle.tablepath.specs.declared.Unmapped.the-variants as unmapped′
 use Rattle.tablepath.specs.declared.Gone.{Gone}
@@ -149,3 +153,17 @@ module _ (s : List ℕ) (sp : Space) (role : ℕ → Role) (w : Whole (holds s (
       → Swapped s (carried s (sp .origin) (protectWrites (holds s (sp .origin)) (memory s (sp .origin)) sp base r)) sp base (g .size) (g .frame) (Page base (g .size) (g .frame) r)
   unfolding protectAnswer protectWrites
   look-up-after-protect base r g e = protect-swaps base r g (protect.decideOf (holds s (sp .origin)) (memory s (sp .origin)) sp base r) refl e
+
+  due-same : (t : ℕ) (x : Due) → dueOf (bookOf (memory s (sp .origin)) sp) t ≡ x → (va : ℕ)
+      → lookUp (carried s (sp .origin) (dueDid sp (bookOf (memory s (sp .origin)) sp) x)) sp va ≡ lookUp s sp va
+  unfolding dueDid carried
+  due-same t due.Unknown e va = refl
+  due-same t due.Spent e va = refl
+  due-same t (due.Pages k) e va =
+      let d = told w t k e in
+      look-up-carried s sp _ (every-held w _ (d .proper)) va ∙ d .same va
+
+  -- LOOK-UP AFTER TOLD: what it was, whatever is answered.
+  pub look-up-after-told : (t va : ℕ) → lookUp (carried s (sp .origin) (toldWrites (holds s (sp .origin)) (memory s (sp .origin)) sp t)) sp va ≡ lookUp s sp va
+  unfolding toldWrites toldDid
+  look-up-after-told t va = rw (book-opens w) (due-same t (dueOf (bookOf (memory s (sp .origin)) sp) t) refl va)

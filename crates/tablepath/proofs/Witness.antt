@@ -69,13 +69,16 @@ module _ {h : ℕ → Bool} {sp : Space} {m : ℕ → ℕ} (w : Whole h sp m (ne
       go (inl e) = absurd (omega (arith, comes-left (w .sound .built) c))
       go (inr e) = omega (arith, comes-left (w .sound .built) c)
 
-  none-mapped : (va b s f : ℕ) (g : Rights) → meaning (settingOf h sp) m va ≡ found.Page b s f g → ⊥
-  none-mapped va b s f g = go (meaning (settingOf h sp) m va) (ends (w .sound .built) va)
+  pub nothing-yet : (va : ℕ) → meaning (settingOf h sp) m va ≡ found.Nothing
+  nothing-yet va = go (meaning (settingOf h sp) m va) (ends (w .sound .built) va)
     where
-      go : (o : Found) → Ends (settingOf h sp) m va o → o ≡ found.Page b s f g → ⊥
-      go o (too-high u) e = let z : _≡_ {A = ℕ} 0 1 = cc in omega arith
-      go o (at-nothing l q c k) e = let z : _≡_ {A = ℕ} 0 1 = cc in omega arith
-      go o (at-page l q a r c k) e = root-no-page _ a r (subst (λ x. entryAt m x q (indexOf x va) ≡ Page a r) (only-root c) k)
+      go : (o : Found) → Ends (settingOf h sp) m va o → o ≡ found.Nothing
+      go o (too-high u) = refl
+      go o (at-nothing l q c k) = refl
+      go o (at-page l q a r c k) = absurd (root-no-page _ a r (subst (λ x. entryAt m x q (indexOf x va) ≡ Page a r) (only-root c) k))
+
+  none-mapped : (va b s f : ℕ) (g : Rights) → meaning (settingOf h sp) m va ≡ found.Page b s f g → ⊥
+  none-mapped va b s f g e = let z : _≡_ {A = ℕ} 0 1 = cc (nothing-yet va) in omega arith
 
   none-aside : bookOf m sp .aside ≡ 0
   none-aside = go (ℕ-discrete (bookOf m sp .aside) 0)
