@@ -2,3 +2,11 @@ pub mod Rooted
 pub mod Walked
 pub mod Asked
 pub mod Shortcut
+pub mod Named
+pub mod Reasons
+pub mod Says
+pub mod RoundTrips
+pub mod Created
+pub mod Refusals
+pub mod Causes
+pub mod Witness

@@ -23,7 +23,7 @@ use Rattle.abi.specs.Entries.{bareOf, silentOf, saidOf, saidIn, entryAns
 use Rattle.abi.specs.Walked.{goesBy}
 
 -- rights that were told as a number are the same rights
-rights-told : (r : Rights) → rightsIn (rightsWord r) ≡ r
+pub rights-told : (r : Rights) → rightsIn (rightsWord r) ≡ r
 unfolding rightsIn rightsWord flag
 rights-told r = go (r .writable) (r .user) (r .noexec)
   where

@@ -9,6 +9,7 @@ use lib.ListN.{length}
 use Rattle.word.specs.Memory.{memory, holds}
 use Rattle.word.specs.Writes.{carried}
 use Rattle.entry.specs.declared.Rights.{Rights}
+use Rattle.walk.specs.Walk.{walk}
 use Rattle.pool.specs.Create.{createdOf, createWrites}
 use Rattle.pool.specs.declared.Space.{Space}
 use Rattle.plan.specs.Map.{shapeOf, decideOf}
@@ -19,12 +20,13 @@ use Rattle.plan.specs.declared.maps.Asked.{Asked}
 use Rattle.plan.specs.declared.maps.Shape.{Shape}
 use Rattle.plan.specs.declared.maps.Shape.the-variants.{Level, Bad}
 use Rattle.tablepath.specs.Answers as the
-use Rattle.abi.specs.Answers.{reasonOf, rightsIn, created, mapped, unmapped, protected, told}
+use Rattle.abi.specs.Answers.{reasonOf, rightsIn, created, mapped, unmapped, protected, told, lookedUp}
 use Rattle.abi.specs.declared.answers.Created.{Created}
 use Rattle.abi.specs.declared.answers.Mapped.{Mapped}
 use Rattle.abi.specs.declared.answers.Unmapped.{Unmapped}
 use Rattle.abi.specs.declared.answers.Protected.{Protected}
 use Rattle.abi.specs.declared.answers.Told.{Told}
+use Rattle.abi.specs.declared.answers.LookedUp.{LookedUp}
 use Rattle.abi.specs.declared.Sited.{Sited}
 use Rattle.abi.specs.declared.Sited.the-variants.{At, Refused}
 
@@ -121,3 +123,9 @@ toldAnswer s ticket (Refused y) = record { reason = y; released = 0 }
 unfoldable pub toldBytes : List ℕ → ℕ → Sited → List ℕ
 toldBytes s ticket (At sp) = carried s (sp .origin) (the.toldWrites (holds s (sp .origin)) (memory s (sp .origin)) sp ticket)
 toldBytes s ticket (Refused y) = s
+
+-- Look-up -----------------------------------------------------------------------------------------------------------------------
+
+-- the root is given as in CR3
+abbrev pub lookUpAnswer : List ℕ → ℕ → ℕ → ℕ → LookedUp
+lookUpAnswer s origin root va = lookedUp (walk (holds s origin) (memory s origin) root va)

@@ -2,3 +2,5 @@ pub mod Answers
 pub mod Calls
 pub mod Entries
 pub mod Walked
+pub mod Relied
+pub mod Reasons

@@ -2,8 +2,6 @@
 // of the window's first byte, that of the pool's first page, how many pages the pool has, and the physical address of the root table.
 // Rights are bits: bit 0 writable, bit 1 user, bit 2 not executable.
 ghost use mathlib.Core.Path.{_≡_};
-ghost use Rattle.word.specs.Memory.{memory, holds};
-ghost use Rattle.walk.specs.Walk.{walk};
 ghost use Rattle.abi.specs.Answers as the;
 ghost use Rattle.abi.specs.Calls as call;
 ghost use Rattle.abi.specs.Entries as one;
@@ -294,7 +292,7 @@ pub extern "C" fn tp_told(
 // What the address means in the tables below this root, for any bytes and any numbers; the root is given as in CR3.
 #[no_mangle]
 pub extern "C" fn tp_look_up(mem: &[u8], origin: u64, root: u64, va: u64) -> LookedUp
-    ensures answer { λ r. ⌜ r ≡ the.lookedUp (walk (holds (now (mem .entry)) origin) (memory (now (mem .entry)) origin) root va) ⌝ }
+    ensures answer { λ r. ⌜ r ≡ call.lookUpAnswer (now (mem .entry)) origin root va ⌝ }
 {
     answers::of_look_up(tablepath::look_up(mem, origin, root, va))
 }

@@ -1,0 +1,204 @@
+-- EACH REASON EXACTLY WHEN ITS CAUSE HOLDS, by its number, in a space that is whole; and numbers that name no space, for any bytes.
+use Prim.Native.Nat.{ℕ, _≤_}
+use mathlib.Core.List.{List}
+use mathlib.Core.Logic.{_↔_}
+use mathlib.Core.Path.{_≡_, refl, sym, ap}
+use native.Mathlib.Omega.{arith}
+use lib.ListN.{length}
+use borrow.Author.Tests.{eq-eqb, ne-eqb}
+use Rattle.word.specs.Memory.{memory, holds}
+use Rattle.pool.specs.Book.{bookOf, dueOf}
+use Rattle.pool.specs.Booked.{settingOf}
+use Rattle.pool.specs.declared.Due.{Due}
+use Rattle.pool.specs.declared.Due.the-variants as due
+use Rattle.pool.specs.declared.Space.{Space}
+use Rattle.plan.specs.Map as map
+use Rattle.plan.specs.Map.{Placed, shapeOf}
+use Rattle.plan.specs.declared.Reason.{Reason}
+use Rattle.plan.specs.declared.Reason.the-variants.{Size, BaseUnaligned, FrameUnaligned, BaseRange, FrameRange, Pool, FrameInPool, Overlap, NoRoom, NothingStarts, Stray, BadList}
+use Rattle.plan.specs.declared.protects.Change.{Change}
+use Rattle.plan.specs.declared.maps.Shape.the-variants.{Bad}
+use Rattle.plan.specs.declared.unmaps.Removal.{Removal}
+use Rattle.plan.specs.declared.unmaps.Removing.{Removing}
+use Rattle.plan.specs.declared.unmaps.Removing.the-variants as removing
+use Rattle.plan.specs.declared.protects.Changing.{Changing}
+use Rattle.plan.specs.declared.protects.Changing.the-variants as changing
+use Rattle.effect.specs.MapRefused.{Cause, Given}
+use Rattle.effect.specs.StartsAt.{StartsAt}
+use Rattle.effect.proofs.MapRefused.{map-refused, map-reasons}
+use Rattle.effect.proofs.Exactly.{unmap-exactly, protect-exactly, told-exactly}
+use Rattle.effect.proofs.Wholes.{book-opens}
+use Rattle.tablepath.specs.Answers as the
+use Rattle.abi.specs.Answers.{reasonOf, rightsIn, mapped, unmapped, protected, told}
+use Rattle.abi.specs.Calls.{siteOf, askedSite, shapedSite, ask, createAnswer, mapAnswer, unmapAnswer, protectAnswer, toldAnswer}
+use Rattle.abi.specs.Relied as c
+use Rattle.abi.specs.Relied.{Numbers, spaceOf, asked, granted, WholeAt, Call, reason, tpCreate, tpMap, tpUnmap, tpProtect, tpTold}
+use Rattle.abi.specs.Reasons.{MapReasons, StartReasons, ToldReasons, Shaped, SiteReasons, CreateReasons}
+use Rattle.abi.specs.declared.Sited.the-variants.{Refused}
+use Rattle.abi.proofs.Named.{map-answers, unmap-answers, protect-answers, told-answers}
+use Rattle.abi.proofs.Reasons.{one-reason, never-done}
+
+-- Answers by decisions -----------------------------------------------------------------------------------------------------------------
+
+map-number : (d : Placed) (y : Reason) → (mapped (the.mapSaid d) .reason ≡ reasonOf y) ↔ (d ≡ map.Refused y)
+unfolding mapped the.mapSaid
+map-number (map.Go p) y = (λ e. absurd (never-done y (sym e)), λ e. let z : _≡_ {A = ℕ} 0 1 = cc in absurd (omega arith))
+map-number (map.Refused x) y = (λ e. ap map.Refused (one-reason x y e), λ e. let same : x ≡ y = cc in ap reasonOf same)
+
+unmap-number : (sp : Space) (d : Removing) (y : Reason) → (unmapped (the.unmapSaid sp d) .reason ≡ reasonOf y) ↔ (d ≡ removing.Refused y)
+unfolding unmapped the.unmapSaid
+unmap-number sp (removing.Go p) y = (λ e. absurd (never-done y (sym e)), λ e. let z : _≡_ {A = ℕ} 0 1 = cc in absurd (omega arith))
+unmap-number sp (removing.Refused x) y = (λ e. ap removing.Refused (one-reason x y e), λ e. let same : x ≡ y = cc in ap reasonOf same)
+
+unmap-zero : (sp : Space) (d : Removing) → (unmapped (the.unmapSaid sp d) .reason ≡ 0) ↔ ((r : Removal) × (d ≡ removing.Go r))
+unfolding unmapped the.unmapSaid
+unmap-zero sp (removing.Go p) = (λ e. (p, refl), λ k. refl)
+unmap-zero sp (removing.Refused x) = (λ e. absurd (never-done x e), λ k. let z : _≡_ {A = ℕ} 0 1 = cc (k .1) in absurd (omega arith))
+
+protect-number : (d : Changing) (y : Reason) → (protected (the.protectSaid d) .reason ≡ reasonOf y) ↔ (d ≡ changing.Refused y)
+unfolding protected the.protectSaid
+protect-number (changing.Go p) y = (λ e. absurd (never-done y (sym e)), λ e. let z : _≡_ {A = ℕ} 0 1 = cc in absurd (omega arith))
+protect-number (changing.Refused x) y = (λ e. ap changing.Refused (one-reason x y e), λ e. let same : x ≡ y = cc in ap reasonOf same)
+
+protect-zero : (d : Changing) → (protected (the.protectSaid d) .reason ≡ 0) ↔ ((g : Change) × (d ≡ changing.Go g))
+unfolding protected the.protectSaid
+protect-zero (changing.Go p) = (λ e. (p, refl), λ k. refl)
+protect-zero (changing.Refused x) = (λ e. absurd (never-done x e), λ k. let z : _≡_ {A = ℕ} 0 1 = cc (k .1) in absurd (omega arith))
+
+-- two equivalences, one after the other
+along : {A B D : Type 0} → A ↔ B → B ↔ D → A ↔ D
+along f g = (λ a. g .0 (f .0 a), λ d. f .1 (g .1 d))
+
+given-small : (y : Reason) → Given y → reasonOf y ≤ 8
+unfolding reasonOf
+given-small Size g = omega arith
+given-small BaseUnaligned g = omega arith
+given-small FrameUnaligned g = omega arith
+given-small BaseRange g = omega arith
+given-small FrameRange g = omega arith
+given-small (Pool y) g = absurd g
+given-small FrameInPool g = omega arith
+given-small Overlap g = omega arith
+given-small NoRoom g = omega arith
+given-small NothingStarts g = absurd g
+given-small Stray g = absurd g
+given-small BadList g = absurd g
+
+-- In a space that is whole ---------------------------------------------------------------------------------------------------------------
+
+module _ (s : List ℕ) (n : Numbers) (w : WholeAt s n) where
+  -- MAP
+  module _ (base frame size rights : ℕ) where
+    map-by : (y : Reason) → (tpMap s n base frame size rights .reason ≡ reasonOf y)
+        ↔ Cause (holds s (n .origin)) (spaceOf n) (memory s (n .origin)) (asked base frame size rights) y
+    unfolding the.mapAnswer
+    map-by y = rw (map-answers n (w .aligned) s base frame size rights) (along (map-number _ y) (map-refused (w .whole) (asked base frame size rights) y))
+
+    few : tpMap s n base frame size rights .reason ≤ 8
+    unfolding the.mapAnswer mapped the.mapSaid
+    few = rw (map-answers n (w .aligned) s base frame size rights) (go (map.decideOf (holds s (n .origin)) (memory s (n .origin)) (spaceOf n) (asked base frame size rights)) refl)
+      where
+        go : (d : Placed) → map.decideOf (holds s (n .origin)) (memory s (n .origin)) (spaceOf n) (asked base frame size rights) ≡ d → mapped (the.mapSaid d) .reason ≤ 8
+        go (map.Go p) e = omega arith
+        go (map.Refused y) e = given-small y (map-reasons (w .whole) (asked base frame size rights) y e)
+
+    pub map-causes : MapReasons (tpMap s n base frame size rights .reason)
+        (Cause (holds s (n .origin)) (spaceOf n) (memory s (n .origin)) (asked base frame size rights))
+    unfolding reasonOf
+    map-causes = record {
+      size = map-by Size;
+      base-unaligned = map-by BaseUnaligned;
+      frame-unaligned = map-by FrameUnaligned;
+      base-range = map-by BaseRange;
+      frame-range = map-by FrameRange;
+      frame-in-pool = map-by FrameInPool;
+      overlap = map-by Overlap;
+      no-room = map-by NoRoom;
+      no-other = few;
+    }
+
+  -- UNMAP
+  pub unmap-causes : (base : ℕ) → StartReasons (tpUnmap s n base .reason) (StartsAt (settingOf (holds s (n .origin)) (spaceOf n)) (memory s (n .origin)) base)
+  unfolding the.unmapAnswer reasonOf
+  unmap-causes base =
+      let k = unmap-exactly (w .whole) base in
+      rw (unmap-answers n (w .aligned) s base) (record {
+        done = along (unmap-zero (spaceOf n) _) (k .succeeds);
+        nothing-starts = along (unmap-number (spaceOf n) _ NothingStarts) (k .refused);
+      })
+
+  -- PROTECT
+  pub protect-causes : (base rights : ℕ)
+      → StartReasons (tpProtect s n base rights .reason) (StartsAt (settingOf (holds s (n .origin)) (spaceOf n)) (memory s (n .origin)) base)
+  unfolding the.protectAnswer reasonOf
+  protect-causes base rights =
+      let k = protect-exactly (w .whole) base (granted rights) in
+      rw (protect-answers n (w .aligned) s base rights) (record {
+        done = along (protect-zero _) (k .succeeds);
+        nothing-starts = along (protect-number _ NothingStarts) (k .refused);
+      })
+
+  -- TOLD
+  pub told-causes : (ticket : ℕ) → ToldReasons (tpTold s n ticket .reason) (bookOf (memory s (n .origin)) (spaceOf n)) ticket
+  unfolding the.toldAnswer the.toldSaid the.dueSaid told
+  told-causes ticket =
+      let k = told-exactly (n .pages) (bookOf (memory s (n .origin)) (spaceOf n)) ticket (w .whole .booked .sound) in
+      rw (told-answers n (w .aligned) s ticket, book-opens (w .whole)) (record {
+        done = along (zero (dueOf (bookOf (memory s (n .origin)) (spaceOf n)) ticket)) (k .succeeds);
+        unknown = along (strange (dueOf (bookOf (memory s (n .origin)) (spaceOf n)) ticket)) (k .unknown);
+        spent = along (late (dueOf (bookOf (memory s (n .origin)) (spaceOf n)) ticket)) (k .spent);
+      })
+    where
+      none : {A : Type 0} → _≡_ {A = ℕ} 0 1 → A
+      none z = absurd (omega arith)
+
+      zero : (d : Due) → (told (the.dueSaid d) .reason ≡ 0) ↔ ((k : ℕ) × (d ≡ due.Pages k))
+      zero (due.Pages k) = (λ e. (k, refl), λ x. refl)
+      zero due.Unknown = (λ e. absurd (omega arith), λ x. none (cc (x .1)))
+      zero due.Spent = (λ e. absurd (omega arith), λ x. none (cc (x .1)))
+
+      strange : (d : Due) → (told (the.dueSaid d) .reason ≡ 23) ↔ (d ≡ due.Unknown)
+      strange (due.Pages k) = (λ e. absurd (omega arith), λ e. none cc)
+      strange due.Unknown = (λ e. refl, λ e. refl)
+      strange due.Spent = (λ e. absurd (omega arith), λ e. none cc)
+
+      late : (d : Due) → (told (the.dueSaid d) .reason ≡ 24) ↔ (d ≡ due.Spent)
+      late (due.Pages k) = (λ e. absurd (omega arith), λ e. none cc)
+      late due.Unknown = (λ e. absurd (omega arith), λ e. none cc)
+      late due.Spent = (λ e. refl, λ e. refl)
+
+-- Numbers that name no space -------------------------------------------------------------------------------------------------------------
+
+module _ (s : List ℕ) (n : Numbers) where
+  -- what every call says of it
+  refused-says : (x : Call) → Shaped x → (k : ℕ) → siteOf (n .origin) (n .pool) (n .pages) (n .root) ≡ Refused k → reason s n x ≡ k
+  unfolding reason askedSite shapedSite mapAnswer unmapAnswer protectAnswer toldAnswer
+  refused-says (c.map base frame size rights) l k e =
+      let site : askedSite (n .origin) (n .pool) (n .pages) (n .root) (ask base frame size rights) ≡ Refused k = rw (l .1) e in
+      ap (λ x. mapAnswer s (ask base frame size rights) x .reason) site
+  refused-says (c.unmap base) l k e = ap (λ x. unmapAnswer s base x .reason) e
+  refused-says (c.protect base rights) l k e = ap (λ x. protectAnswer s base (rightsIn rights) x .reason) e
+  refused-says (c.told ticket) l k e = ap (λ x. toldAnswer s ticket x .reason) e
+
+  -- what map is asked comes before
+  pub shape-causes : (base frame size rights : ℕ) (y : Reason) → shapeOf size base frame ≡ Bad y → tpMap s n base frame size rights .reason ≡ reasonOf y
+  unfolding askedSite shapedSite mapAnswer
+  shape-causes base frame size rights y e =
+      let site : askedSite (n .origin) (n .pool) (n .pages) (n .root) (ask base frame size rights) ≡ Refused (reasonOf y) = rw e in
+      ap (λ x. mapAnswer s (ask base frame size rights) x .reason) site
+
+  -- then the space
+  pub site-causes : (x : Call) → Shaped x → SiteReasons (reason s n x) n
+  unfolding siteOf
+  site-causes x l = record {
+    pool-unaligned = λ p. refused-says x l 14 (rw (ne-eqb _ _ p));
+    root-unaligned = λ p r. refused-says x l 15 (rw (eq-eqb _ _ p, ne-eqb _ _ r));
+  }
+
+pub create-causes : (s : List ℕ) (origin pool pages : ℕ) → CreateReasons (tpCreate s origin pool pages .reason) (length s) origin pool
+unfolding createAnswer
+create-causes s origin pool pages = record {
+  origin-unaligned = λ o. rw (ne-eqb _ _ o);
+  length-unaligned = λ o l. rw (eq-eqb _ _ o, ne-eqb _ _ l);
+  pool-unaligned = λ o l p. rw (eq-eqb _ _ o, eq-eqb _ _ l, ne-eqb _ _ p);
+}

@@ -1,0 +1,141 @@
+-- THE ANSWER TELLS THE OPERATION'S: from the numbers that C gets, field by field, what the operation answered is known again, for any bytes.
+use Prim.Native.Nat.{ℕ}
+use mathlib.Core.List.{List}
+use mathlib.Core.Logic.{inl, inr}
+use mathlib.Core.Path.{_≡_, refl, sym, ap, _∙_}
+use native.Mathlib.Omega.{arith}
+use Rattle.word.specs.Memory.{memory, holds}
+use Rattle.walk.specs.Walk.{walk}
+use Rattle.walk.specs.declared.Found.{Found}
+use Rattle.walk.specs.declared.Found.the-variants as found
+use Rattle.pool.specs.declared.Reason as inPool
+use Rattle.pool.specs.declared.Created as ofPool
+use Rattle.pool.specs.declared.Created.the-variants as create
+use Rattle.plan.specs.declared.Reason.the-variants as plan
+use Rattle.tablepath.specs.Answers as the
+use Rattle.tablepath.specs.declared.Mapped as ofMap
+use Rattle.tablepath.specs.declared.Mapped.the-variants as map
+use Rattle.tablepath.specs.declared.Unmapped as ofUnmap
+use Rattle.tablepath.specs.declared.Unmapped.the-variants as unmap
+use Rattle.tablepath.specs.declared.Protected as ofProtect
+use Rattle.tablepath.specs.declared.Protected.the-variants as protect
+use Rattle.tablepath.specs.declared.Report.{Report}
+use Rattle.tablepath.specs.declared.Report.the-variants as report
+use Rattle.abi.specs.Answers.{reasonOf, poolReason, rightsWord, created, mapped, unmapped, protected, told, lookedUp}
+use Rattle.abi.specs.Relied.{Numbers, Aligned, spaceOf, granted, asked, tpMap, tpUnmap, tpProtect, tpTold, tpLookUp}
+use Rattle.abi.specs.Reasons as why
+use Rattle.abi.specs.Reasons.{CreateSays, MapSays, UnmapSays, ProtectSays, ToldSays, LookUpSays, numberOf}
+use Rattle.abi.proofs.Named.{rights-granted, map-answers, unmap-answers, protect-answers, told-answers}
+use Rattle.abi.proofs.Reasons.{one-number, one-reason, one-pool-reason, never-done, pool-never-done}
+use Rattle.abi.proofs.Walked.{rights-told}
+
+clash : {A : Type 0} → _≡_ {A = ℕ} 0 1 → A
+clash e = absurd (omega arith)
+
+-- Structs --------------------------------------------------------------------------------------------------------------------------
+
+pub created-says : (a : ofPool.Created) → CreateSays (created a) a
+unfolding created
+created-says (create.Root p) = record { done = λ e. ap create.Root (omega arith); refused = λ y e. absurd (pool-never-done y (sym e)); known = inl refl }
+created-says (create.Refused z) = record {
+  done = λ e. absurd (pool-never-done z e);
+  refused = λ y e. ap create.Refused (one-pool-reason z y e);
+  known = inr (z, refl);
+}
+
+mapped-says : (a : ofMap.Mapped) → MapSays (mapped a) a
+unfolding mapped
+mapped-says (map.Done k) = record { done = λ e. refl; refused = λ y e. absurd (never-done y (sym e)); known = inl refl }
+mapped-says (map.Refused z) = record { done = λ e. absurd (never-done z e); refused = λ y e. ap map.Refused (one-reason z y e); known = inr (z, refl) }
+
+unmapped-says : (a : ofUnmap.Unmapped) → UnmapSays (unmapped a) a
+unfolding unmapped
+unmapped-says (unmap.Done g) = record { done = λ e. refl; refused = λ y e. absurd (never-done y (sym e)); known = inl refl }
+unmapped-says (unmap.Refused z) = record { done = λ e. absurd (never-done z e); refused = λ y e. ap unmap.Refused (one-reason z y e); known = inr (z, refl) }
+
+protected-says : (a : ofProtect.Protected) → ProtectSays (protected a) a
+unfolding protected
+protected-says (protect.Done g) = record { done = λ e. refl; refused = λ y e. absurd (never-done y (sym e)); known = inl refl }
+protected-says (protect.Refused z) = record { done = λ e. absurd (never-done z e); refused = λ y e. ap protect.Refused (one-reason z y e); known = inr (z, refl) }
+
+-- a reason of the pool is neither of told's own
+not-told : (y : inPool.Reason) (x : why.Why) → poolReason y ≡ numberOf x → why.refused (plan.Pool y) ≡ x
+unfolding numberOf reasonOf
+not-told y x e = one-number (why.refused (plan.Pool y)) x e
+
+told-struct : (a : Report) → ToldSays (told a) a
+unfolding told numberOf
+told-struct (report.Released k) = record {
+  done = λ e. refl;
+  unknown = λ e. absurd (omega arith);
+  spent = λ e. absurd (omega arith);
+  refused = λ y e. absurd (pool-never-done y (sym e));
+  known = inl refl;
+}
+told-struct report.Unknown = record {
+  done = λ e. absurd (omega arith);
+  unknown = λ e. refl;
+  spent = λ e. absurd (omega arith);
+  refused = λ y e. let same = not-told y why.unknown (sym e) in clash cc;
+  known = inr (inl refl);
+}
+told-struct report.Spent = record {
+  done = λ e. absurd (omega arith);
+  unknown = λ e. absurd (omega arith);
+  spent = λ e. refl;
+  refused = λ y e. let same = not-told y why.spent (sym e) in clash cc;
+  known = inr (inr (inl refl));
+}
+told-struct (report.Refused z) = record {
+  done = λ e. absurd (pool-never-done z e);
+  unknown = λ e. let same = not-told z why.unknown e in clash cc;
+  spent = λ e. let same = not-told z why.spent e in clash cc;
+  refused = λ y e. ap report.Refused (one-pool-reason z y e);
+  known = inr (inr (inr (z, refl)));
+}
+
+looked-up-says : (a : Found) → LookUpSays (lookedUp a) a
+unfolding lookedUp
+looked-up-says (found.Page b s f r) = record {
+  nothing = λ e. absurd (omega arith);
+  page = λ e. ap (found.Page b s f) (sym (rights-told r) ∙ rights-granted (rightsWord r));
+  outside = λ e. absurd (omega arith);
+  known = omega arith;
+  bare = λ k. absurd (k refl);
+}
+looked-up-says found.Nothing = record {
+  nothing = λ e. refl;
+  page = λ e. absurd (omega arith);
+  outside = λ e. absurd (omega arith);
+  known = omega arith;
+  bare = λ k. (refl, refl, refl, refl);
+}
+looked-up-says found.Outside = record {
+  nothing = λ e. absurd (omega arith);
+  page = λ e. absurd (omega arith);
+  outside = λ e. refl;
+  known = omega arith;
+  bare = λ k. (refl, refl, refl, refl);
+}
+
+-- Calls ----------------------------------------------------------------------------------------------------------------------------
+
+module _ (s : List ℕ) where
+  -- LOOK-UP: what the walk finds
+  pub look-up-says : (n : Numbers) (va : ℕ) → LookUpSays (tpLookUp s n va) (walk (holds s (n .origin)) (memory s (n .origin)) (n .root) va)
+  look-up-says n va = looked-up-says _
+
+  module _ (n : Numbers) (a : Aligned n) where
+    pub map-says : (base frame size rights : ℕ) → MapSays (tpMap s n base frame size rights)
+        (the.mapAnswer (holds s (n .origin)) (memory s (n .origin)) (spaceOf n) (asked base frame size rights))
+    map-says base frame size rights = rw (map-answers n a s base frame size rights) (mapped-says _)
+
+    pub unmap-says : (base : ℕ) → UnmapSays (tpUnmap s n base) (the.unmapAnswer (holds s (n .origin)) (memory s (n .origin)) (spaceOf n) base)
+    unmap-says base = rw (unmap-answers n a s base) (unmapped-says _)
+
+    pub protect-says : (base rights : ℕ) → ProtectSays (tpProtect s n base rights)
+        (the.protectAnswer (holds s (n .origin)) (memory s (n .origin)) (spaceOf n) base (granted rights))
+    protect-says base rights = rw (protect-answers n a s base rights) (protected-says _)
+
+    pub told-says : (ticket : ℕ) → ToldSays (tpTold s n ticket) (the.toldAnswer (holds s (n .origin)) (memory s (n .origin)) (spaceOf n) ticket)
+    told-says ticket = rw (told-answers n a s ticket) (told-struct _)

@@ -1,0 +1,33 @@
+-- A WITNESS, by the numbers of C: any five pages become a pool, and a page of 4 KiB is mapped in it.
+use Prim.Native.Nat.{ℕ}
+use mathlib.Core.List.{List}
+use mathlib.Core.Path.{_≡_, refl}
+use lib.ListN.{length}
+use Rattle.word.specs.Memory.{holds}
+use Rattle.entry.specs.Entry.{bit}
+use Rattle.pool.specs.Book.{bookPages, roomOf}
+use Rattle.pool.specs.Create.{createdOf, createdIn, mayCreate}
+use Rattle.tablepath.specs.Answers as the
+use Rattle.tablepath.proofs.Witness.{goes}
+use Rattle.abi.specs.Answers.{created, mapped}
+use Rattle.abi.specs.Calls.{createAnswer}
+use Rattle.abi.specs.Relied.{Numbers, granted, WholeAt, tpCreate, createLeaves, tpMap}
+use Rattle.abi.proofs.Created.{create-leaves, create-done}
+use Rattle.abi.proofs.Named.{map-answers}
+
+module _ (s : List ℕ) (e : length s ≡ 20480) where
+  -- the root lies behind the book, which is one page
+  pub five-made : tpCreate s 0 0 5 ≡ record { reason = 0; root = 4096 }
+  unfolding createAnswer created createdOf createdIn mayCreate roomOf holds bookPages
+  five-made = rw e
+
+  abbrev five : Numbers
+  five = record { origin = 0; pool = 0; pages = 5; root = 4096 }
+
+  pub five-whole : WholeAt (createLeaves s 0 0 5) five
+  five-whole = rw five-made at (create-done s 0 0 5 (rw five-made) .whole)
+
+  -- writable, for users
+  pub five-mapped : tpMap (createLeaves s 0 0 5) five 0 1048576 4096 3 .reason ≡ 0
+  unfolding granted bit bookPages mapped the.mapAnswer the.mapSaid
+  five-mapped = rw (map-answers five (five-whole .aligned) (createLeaves s 0 0 5) 0 1048576 4096 3, create-leaves s 0 0 5 refl, goes s e .1)
