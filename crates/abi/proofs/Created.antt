@@ -1,7 +1,7 @@
 -- CREATE, by the numbers that C gives and gets: the root that it answers names a whole space, in which nothing is mapped, for the calls after it.
 use Prim.Native.Nat.{ℕ, _+_, _/_, _%_, _<_}
 use mathlib.Core.Bool.{Bool, true, false, cond}
-use mathlib.Core.List.{List}
+use mathlib.Core.List.{List, []}
 use mathlib.Core.Path.{_≡_, refl, ap, _∙_}
 use native.Mathlib.Omega.{arith}
 use lib.Dec.{eqb}
@@ -21,7 +21,8 @@ use Rattle.effect.proofs.Wholes.{root-in}
 use Rattle.tablepath.proofs.Witness.{nothing-yet}
 use Rattle.tablepath.proofs.Wholes.{WholeBytes, create-whole}
 use Rattle.abi.specs.Answers.{poolReason, created, lookedUp}
-use Rattle.abi.specs.Calls.{createAnswer, createBytes}
+use Rattle.abi.specs.Calls as call
+use Rattle.abi.specs.Calls.{createAnswer}
 use Rattle.abi.specs.Relied.{WholeAt, tpCreate, createLeaves, tpLookUp, nothing, newNumbers, CreateDone}
 use Rattle.abi.specs.Reasons.{CreateSays}
 use Rattle.abi.proofs.Says.{created-says}
@@ -45,10 +46,10 @@ module _ (s : List ℕ) (origin pool pages : ℕ) where
 
   pub create-leaves : pool % 4096 ≡ 0 → createLeaves s origin pool pages
       ≡ carried s origin (createWrites (length s) (holds s origin) origin (pool / 4096) pages)
-  unfolding createBytes createWrites createIn mayCreate fits carried
+  unfolding call.createWrites createWrites createIn mayCreate fits
   create-leaves a = rw (eq-eqb _ _ a) (go (eqb (origin % 4096) 0) (eqb (length s % 4096) 0))
     where
-      go : (x y : Bool) → cond x (cond y (carried s origin (createIn (newSpace origin (pool / 4096) pages) (fits x y))) s) s
+      go : (x y : Bool) → carried s origin (cond x (cond y (createIn (newSpace origin (pool / 4096) pages) (fits x y)) []) [])
           ≡ carried s origin (createIn (newSpace origin (pool / 4096) pages) (fits x y))
       go true true = refl
       go true false = refl

@@ -13,7 +13,7 @@ use Rattle.entry.specs.Words.{flag}
 use Rattle.tablepath.specs.Calls.{callWrites}
 use Rattle.tablepath.specs.Answers as the
 use Rattle.abi.specs.Answers.{rightsIn, rightsWord, mapped, unmapped, protected, told}
-use Rattle.abi.specs.Calls.{siteOf, ask, unmapAnswer, unmapBytes, protectAnswer, protectBytes, toldAnswer, toldBytes}
+use Rattle.abi.specs.Calls.{siteOf, ask, bytesAfter, unmapAnswer, protectAnswer, toldAnswer}
 use Rattle.abi.specs.Relied as c
 use Rattle.abi.specs.Relied.{Numbers, Aligned, spaceOf, Call, callOf, granted, asked, leaves, tpMap, tpUnmap, tpProtect, tpTold}
 use Rattle.abi.specs.declared.Sited.the-variants.{At}
@@ -52,7 +52,7 @@ module _ (n : Numbers) (a : Aligned n) where
   module _ (s : List ℕ) where
     -- the bytes
     pub call-leaves : (x : Call) → leaves s n x ≡ carried s (n .origin) (callWrites (holds s (n .origin)) (memory s (n .origin)) (spaceOf n) (callOf x))
-    unfolding leaves callOf callWrites unmapBytes protectBytes toldBytes
+    unfolding leaves callOf callWrites bytesAfter
     call-leaves (c.map base frame size rights) =
         bytes-asked (ask base frame size rights) (n .origin) (n .pool) (n .pages) (n .root) s (spaceOf n) named ∙ rw (rights-granted rights)
     call-leaves (c.unmap base) = rw named

@@ -29,7 +29,8 @@ use Rattle.plan.specs.declared.protects.Changing.{Changing}
 use Rattle.plan.specs.declared.protects.Changing.the-variants as changing
 use Rattle.tablepath.specs.Answers as the
 use Rattle.abi.specs.Answers.{rightsIn, created, mapped, unmapped, protected, told}
-use Rattle.abi.specs.Calls.{siteOf, askedSite, ask, createAnswer, createBytes, mapAnswer, mapBytes, unmapAnswer, unmapBytes, protectAnswer, protectBytes, toldAnswer, toldBytes}
+use Rattle.abi.specs.Calls as call
+use Rattle.abi.specs.Calls.{siteOf, askedSite, ask, bytesAfter, createAnswer, mapAnswer, mapBytes, unmapAnswer, unmapBytes, protectAnswer, protectBytes, toldAnswer, toldBytes}
 use Rattle.abi.specs.Relied as c
 use Rattle.abi.specs.Relied.{Numbers, Call, tpCreate, createLeaves, leaves, reason, others, Untouched}
 use Rattle.abi.specs.declared.answers.Created.{Created}
@@ -43,11 +44,11 @@ module _ (s : List ℕ) where
   same e = record { bytes = refl; zeros = e }
 
   map-refused : (q : Asked) (x : Sited) → mapAnswer s q x .reason ≢ 0 → Untouched s (mapBytes s q x) (mapAnswer s q x .tables ∷ [])
-  unfolding mapAnswer mapBytes mapped the.mapAnswer the.mapWrites the.mapSaid the.mapDid carried
+  unfolding mapAnswer bytesAfter mapped the.mapAnswer the.mapWrites the.mapSaid map.didOf carried
   map-refused q (Refused y) k = same refl
   map-refused q (At sp) k = go (map.decideOf (holds s (sp .origin)) (memory s (sp .origin)) sp q) k
     where
-      go : (d : Placed) → mapped (the.mapSaid d) .reason ≢ 0 → Untouched s (carried s (sp .origin) (the.mapDid sp d)) (mapped (the.mapSaid d) .tables ∷ [])
+      go : (d : Placed) → mapped (the.mapSaid d) .reason ≢ 0 → Untouched s (carried s (sp .origin) (map.didOf sp d)) (mapped (the.mapSaid d) .tables ∷ [])
       go (map.Go p) k = absurd (k refl)
       go (map.Refused r) k = same refl
 
@@ -56,12 +57,12 @@ module _ (s : List ℕ) where
   unmapFields x = x .frame ∷ x .size ∷ x .aside ∷ x .ticket ∷ []
 
   unmap-refused : (base : ℕ) (x : Sited) → unmapAnswer s base x .reason ≢ 0 → Untouched s (unmapBytes s base x) (unmapFields (unmapAnswer s base x))
-  unfolding unmapAnswer unmapBytes unmapped unmapFields the.unmapAnswer the.unmapWrites the.unmapSaid the.unmapDid carried
+  unfolding unmapAnswer bytesAfter unmapped unmapFields the.unmapAnswer the.unmapWrites the.unmapSaid unmap.didOf carried
   unmap-refused base (Refused y) k = same refl
   unmap-refused base (At sp) k = go (unmap.decideOf (holds s (sp .origin)) (memory s (sp .origin)) sp base) k
     where
       go : (d : Removing) → unmapped (the.unmapSaid sp d) .reason ≢ 0
-          → Untouched s (carried s (sp .origin) (the.unmapDid sp base d)) (unmapFields (unmapped (the.unmapSaid sp d)))
+          → Untouched s (carried s (sp .origin) (unmap.didOf sp base d)) (unmapFields (unmapped (the.unmapSaid sp d)))
       go (removing.Go r) k = absurd (k refl)
       go (removing.Refused y) k = same refl
 
@@ -70,17 +71,17 @@ module _ (s : List ℕ) where
 
   protect-refused : (base : ℕ) (r : Rights) (x : Sited) → protectAnswer s base r x .reason ≢ 0
       → Untouched s (protectBytes s base r x) (protectFields (protectAnswer s base r x))
-  unfolding protectAnswer protectBytes protected protectFields the.protectAnswer the.protectWrites the.protectSaid the.protectDid carried
+  unfolding protectAnswer bytesAfter protected protectFields the.protectAnswer the.protectWrites the.protectSaid protect.didOf carried
   protect-refused base r (Refused y) k = same refl
   protect-refused base r (At sp) k = go (protect.decideOf (holds s (sp .origin)) (memory s (sp .origin)) sp base r) k
     where
       go : (d : Changing) → protected (the.protectSaid d) .reason ≢ 0
-          → Untouched s (carried s (sp .origin) (the.protectDid d)) (protectFields (protected (the.protectSaid d)))
+          → Untouched s (carried s (sp .origin) (protect.didOf d)) (protectFields (protected (the.protectSaid d)))
       go (changing.Go g) k = absurd (k refl)
       go (changing.Refused y) k = same refl
 
   told-refused : (ticket : ℕ) (x : Sited) → toldAnswer s ticket x .reason ≢ 0 → Untouched s (toldBytes s ticket x) (toldAnswer s ticket x .released ∷ [])
-  unfolding toldAnswer toldBytes told the.toldAnswer the.toldWrites the.toldSaid the.toldDid the.dueSaid the.dueDid carried
+  unfolding toldAnswer bytesAfter told the.toldAnswer the.toldWrites the.toldSaid the.toldDid the.dueSaid the.dueDid carried
   told-refused ticket (Refused y) k = same refl
   told-refused ticket (At sp) k = go (openedOf (holds s (sp .origin)) (memory s (sp .origin)) sp) k
     where
@@ -105,7 +106,7 @@ module _ (s : List ℕ) where
   -- CREATE
   pub create-refused : (origin pool pages : ℕ) → tpCreate s origin pool pages .reason ≢ 0
       → Untouched s (createLeaves s origin pool pages) (tpCreate s origin pool pages .root ∷ [])
-  unfolding createAnswer createBytes created createdOf createdIn createWrites createIn carried
+  unfolding createAnswer call.createWrites created createdOf createdIn createWrites createIn carried
   create-refused origin pool pages k =
       go (eqb (origin % 4096) 0) (eqb (length s % 4096) 0) (eqb (pool % 4096) 0) (mayCreate (length s) (holds s origin) origin (pool / 4096) pages) k
     where
@@ -115,7 +116,7 @@ module _ (s : List ℕ) where
           (record { reason = 12; root = 0 })
 
       bytes : Bool → Bool → Bool → Fit → List ℕ
-      bytes x y z f = cond x (cond y (cond z (carried s origin (createIn (newSpace origin (pool / 4096) pages) f)) s) s) s
+      bytes x y z f = carried s origin (cond x (cond y (cond z (createIn (newSpace origin (pool / 4096) pages) f) []) []) [])
 
       go : (x y z : Bool) (f : Fit) → answer x y z f .reason ≢ 0 → Untouched s (bytes x y z f) (answer x y z f .root ∷ [])
       go true true true fit.Fits k = absurd (k refl)

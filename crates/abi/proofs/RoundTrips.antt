@@ -14,7 +14,7 @@ use Rattle.tablepath.proofs.RoundTrips as the
 use Rattle.tablepath.proofs.RoundTrips.{lookUp, look-up-after-map, look-up-beside-map, look-up-after-unmap, look-up-after-protect, look-up-after-told}
 use Rattle.tablepath.proofs.MapUnmap.{unmap-after-map}
 use Rattle.tablepath.proofs.Wholes.{call-kept}
-use Rattle.tablepath.proofs.Tickets.{no-ticket, told-after-unmap}
+use Rattle.tablepath.proofs.Tickets.{told-after-unmap}
 use Rattle.abi.specs.Answers.{rightsWord, unmapped, told, lookedUp}
 use Rattle.abi.specs.Relied as c
 use Rattle.abi.specs.Relied.{Numbers, Aligned, spaceOf, WholeAt, Call, callOf, granted, asked, leaves, tpMap, tpUnmap, tpProtect, tpTold, tpLookUp, page, nothing, Now, Swapped, Undone, Reported}
@@ -129,10 +129,6 @@ module _ (s : List ℕ) (n : Numbers) (w : WholeAt s n) (base frame size rights 
       now-is = record { inside = gone .inside; beside = λ va o. gone .beside va o ∙ map-then-look-up s n w base frame size rights mapped .beside va o }
 
 -- Tickets ----------------------------------------------------------------------------------------------------------------------------
-
--- for any bytes: no ticket where no table was set aside
-pub unmap-no-ticket : (s : List ℕ) (n : Numbers) → Aligned n → (base : ℕ) → tpUnmap s n base .reason ≡ 0 → tpUnmap s n base .aside ≡ 0 → tpUnmap s n base .ticket ≡ 0
-unmap-no-ticket s n a base e z = no-ticket _ _ (spaceOf n) base _ (unmap-says s n a base .done e) z
 
 -- TOLD AFTER UNMAP takes its ticket, as long as fewer than 2^62 tables were ever set aside
 module _ (s : List ℕ) (n : Numbers) (w : WholeAt s n) (base : ℕ) (done : tpUnmap s n base .reason ≡ 0) (early : tpUnmap s n base .ticket ≤ 2 ^ 62) where

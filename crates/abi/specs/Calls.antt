@@ -1,16 +1,17 @@
--- What each call answers and leaves, as functions of the bytes at entry and the numbers that were given. A space is refused by the number
+-- What each call answers and bytesAfter, as functions of the bytes at entry and the numbers that were given. A space is refused by the number
 -- of its reason; what is then left are the bytes at entry.
 use Prim.Native.Nat.{ℕ, _/_, _%_}
 use mathlib.Core.Bool.{cond}
-use mathlib.Core.List.{List}
+use mathlib.Core.List.{List, []}
 use mathlib.Core.Path.{_≡_}
 use lib.Dec.{eqb}
 use lib.ListN.{length}
 use Rattle.word.specs.Memory.{memory, holds}
-use Rattle.word.specs.Writes.{carried}
+use Rattle.word.specs.Writes.{Write, Wrote, carried}
 use Rattle.entry.specs.declared.Rights.{Rights}
 use Rattle.walk.specs.Walk.{walk}
-use Rattle.pool.specs.Create.{createdOf, createWrites}
+use Rattle.pool.specs.Create.{createdOf}
+use Rattle.pool.specs.Create as made
 use Rattle.pool.specs.declared.Space.{Space}
 use Rattle.plan.specs.Map.{shapeOf, decideOf}
 use Rattle.plan.specs.AtOnce as plan
@@ -59,6 +60,18 @@ misplacedOf q y = misplacedBy y (shapeOf (q .size) (q .base) (q .frame))
 abbrev pub ask : ℕ → ℕ → ℕ → ℕ → Asked
 ask base frame size rights = record { base = base; frame = frame; size = size; rights = rightsIn rights }
 
+-- Bytes and writes -----------------------------------------------------------------------------------------------------------------
+
+-- what these writes of a space leave; where there is no space, nothing is written
+unfoldable pub bytesAfter : List ℕ → Sited → (Space → List Write) → List ℕ
+bytesAfter s (At sp) ws = carried s (sp .origin) (ws sp)
+bytesAfter s (Refused y) ws = s
+
+-- and they are done in this order, so many as are left: from the bytes s to the bytes t
+abbrev pub InOrder : Sited → (Space → List Write) → ℕ → ℕ → List ℕ → List ℕ → Type 0
+InOrder (At sp) ws left rest s t = Wrote (sp .origin) (ws sp) left rest s t
+InOrder (Refused y) ws left rest s t = (t ≡ s) × (rest ≡ left)
+
 -- Create ------------------------------------------------------------------------------------------------------------------------
 
 unfoldable pub createAnswer : List ℕ → ℕ → ℕ → ℕ → Created
@@ -71,13 +84,16 @@ createAnswer s origin pool pages =
     (record { reason = 13; root = 0 }))
     (record { reason = 12; root = 0 })
 
-unfoldable pub createBytes : List ℕ → ℕ → ℕ → ℕ → List ℕ
-createBytes s origin pool pages =
+unfoldable pub createWrites : List ℕ → ℕ → ℕ → ℕ → List Write
+createWrites s origin pool pages =
     cond (eqb (origin % 4096) 0)
     (cond (eqb (length s % 4096) 0)
-    (cond (eqb (pool % 4096) 0) (carried s origin (createWrites (length s) (holds s origin) origin (pool / 4096) pages)) s)
-    s)
-    s
+    (cond (eqb (pool % 4096) 0) (made.createWrites (length s) (holds s origin) origin (pool / 4096) pages) [])
+    [])
+    []
+
+abbrev pub createBytes : List ℕ → ℕ → ℕ → ℕ → List ℕ
+createBytes s origin pool pages = carried s origin (createWrites s origin pool pages)
 
 -- Map ---------------------------------------------------------------------------------------------------------------------------
 
@@ -85,14 +101,16 @@ unfoldable pub mapAnswer : List ℕ → Asked → Sited → Mapped
 mapAnswer s q (At sp) = mapped (the.mapAnswer (holds s (sp .origin)) (memory s (sp .origin)) sp q)
 mapAnswer s q (Refused y) = record { reason = y; tables = 0 }
 
-unfoldable pub mapBytes : List ℕ → Asked → Sited → List ℕ
-mapBytes s q (At sp) = carried s (sp .origin) (the.mapWrites (holds s (sp .origin)) (memory s (sp .origin)) sp q)
-mapBytes s q (Refused y) = s
+abbrev pub mapWrites : List ℕ → Asked → Space → List Write
+mapWrites s q sp = the.mapWrites (holds s (sp .origin)) (memory s (sp .origin)) sp q
+
+abbrev pub mapBytes : List ℕ → Asked → Sited → List ℕ
+mapBytes s q x = bytesAfter s x (mapWrites s q)
 
 -- what is done at once in a space is what was decided; where there is none, it changes nothing and says nothing
-abbrev pub AtOnce : List ℕ → List ℕ → Asked → Sited → Once → Type 0
-AtOnce s after q (At sp) o = plan.AtOnce s after sp (decideOf (holds s (sp .origin)) (memory s (sp .origin)) sp q) o
-AtOnce s after q (Refused y) o = (o ≡ Unsaid) × (after ≡ s)
+abbrev pub AtOnce : ℕ → ℕ → List ℕ → List ℕ → Asked → Sited → Once → Type 0
+AtOnce left rest s after q (At sp) o = plan.AtOnce left rest s after sp (decideOf (holds s (sp .origin)) (memory s (sp .origin)) sp q) o
+AtOnce left rest s after q (Refused y) o = (o ≡ Unsaid) × (after ≡ s) × (rest ≡ left)
 
 -- Unmap -------------------------------------------------------------------------------------------------------------------------
 
@@ -100,9 +118,11 @@ unfoldable pub unmapAnswer : List ℕ → ℕ → Sited → Unmapped
 unmapAnswer s base (At sp) = unmapped (the.unmapAnswer (holds s (sp .origin)) (memory s (sp .origin)) sp base)
 unmapAnswer s base (Refused y) = record { reason = y; frame = 0; size = 0; aside = 0; ticket = 0 }
 
-unfoldable pub unmapBytes : List ℕ → ℕ → Sited → List ℕ
-unmapBytes s base (At sp) = carried s (sp .origin) (the.unmapWrites (holds s (sp .origin)) (memory s (sp .origin)) sp base)
-unmapBytes s base (Refused y) = s
+abbrev pub unmapWrites : List ℕ → ℕ → Space → List Write
+unmapWrites s base sp = the.unmapWrites (holds s (sp .origin)) (memory s (sp .origin)) sp base
+
+abbrev pub unmapBytes : List ℕ → ℕ → Sited → List ℕ
+unmapBytes s base x = bytesAfter s x (unmapWrites s base)
 
 -- Protect -----------------------------------------------------------------------------------------------------------------------
 
@@ -110,9 +130,11 @@ unfoldable pub protectAnswer : List ℕ → ℕ → Rights → Sited → Protect
 protectAnswer s base r (At sp) = protected (the.protectAnswer (holds s (sp .origin)) (memory s (sp .origin)) sp base r)
 protectAnswer s base r (Refused y) = record { reason = y; frame = 0; size = 0 }
 
-unfoldable pub protectBytes : List ℕ → ℕ → Rights → Sited → List ℕ
-protectBytes s base r (At sp) = carried s (sp .origin) (the.protectWrites (holds s (sp .origin)) (memory s (sp .origin)) sp base r)
-protectBytes s base r (Refused y) = s
+abbrev pub protectWrites : List ℕ → ℕ → Rights → Space → List Write
+protectWrites s base r sp = the.protectWrites (holds s (sp .origin)) (memory s (sp .origin)) sp base r
+
+abbrev pub protectBytes : List ℕ → ℕ → Rights → Sited → List ℕ
+protectBytes s base r x = bytesAfter s x (protectWrites s base r)
 
 -- Told --------------------------------------------------------------------------------------------------------------------------
 
@@ -120,9 +142,11 @@ unfoldable pub toldAnswer : List ℕ → ℕ → Sited → Told
 toldAnswer s ticket (At sp) = told (the.toldAnswer (holds s (sp .origin)) (memory s (sp .origin)) sp ticket)
 toldAnswer s ticket (Refused y) = record { reason = y; released = 0 }
 
-unfoldable pub toldBytes : List ℕ → ℕ → Sited → List ℕ
-toldBytes s ticket (At sp) = carried s (sp .origin) (the.toldWrites (holds s (sp .origin)) (memory s (sp .origin)) sp ticket)
-toldBytes s ticket (Refused y) = s
+abbrev pub toldWrites : List ℕ → ℕ → Space → List Write
+toldWrites s ticket sp = the.toldWrites (holds s (sp .origin)) (memory s (sp .origin)) sp ticket
+
+abbrev pub toldBytes : List ℕ → ℕ → Sited → List ℕ
+toldBytes s ticket x = bytesAfter s x (toldWrites s ticket)
 
 -- Look-up -----------------------------------------------------------------------------------------------------------------------
 

@@ -2,6 +2,7 @@
 // of the window's first byte, that of the pool's first page, how many pages the pool has, and the physical address of the root table.
 // Rights are bits: bit 0 writable, bit 1 user, bit 2 not executable.
 ghost use mathlib.Core.Path.{_≡_};
+ghost use Rattle.word.specs.Writes.{Wrote};
 ghost use Rattle.abi.specs.Answers as the;
 ghost use Rattle.abi.specs.Calls as call;
 ghost use Rattle.abi.specs.Entries as one;
@@ -58,11 +59,10 @@ fn misplaced(q: Asked, y: u64) -> u64
     }
 }
 
-// Makes a pool of these pages, with its book and an empty root.
-#[no_mangle]
-pub extern "C" fn tp_create(mem: &mut [u8], origin: u64, pool: u64, pages: u64) -> Created
+// Create, up to so many writes.
+fn create_up_to(mem: &mut [u8], left: &mut u64, origin: u64, pool: u64, pages: u64) -> Created
     ensures answer { λ r. ⌜ r ≡ call.createAnswer (now (mem .entry)) origin pool pages ⌝ }
-    ensures bytes { λ _. ⌜ now (mem .exit) ≡ call.createBytes (now (mem .entry)) origin pool pages ⌝ }
+    ensures order { λ _. ⌜ Wrote origin (call.createWrites (now (mem .entry)) origin pool pages) (now (left .entry)) (now (left .exit)) (now (mem .entry)) (now (mem .exit)) ⌝ }
 {
     if origin % 4096 != 0 {
         return Created {
@@ -82,12 +82,23 @@ pub extern "C" fn tp_create(mem: &mut [u8], origin: u64, pool: u64, pages: u64) 
             root: 0,
         };
     }
-    answers::of_create(tablepath::create(mem, origin, pool / 4096, pages))
+    answers::of_create(tablepath::create_up_to(mem, left, origin, pool / 4096, pages))
+}
+
+// Makes a pool of these pages, with its book and an empty root.
+#[no_mangle]
+pub extern "C" fn tp_create(mem: &mut [u8], origin: u64, pool: u64, pages: u64) -> Created
+    ensures answer { λ r. ⌜ r ≡ call.createAnswer (now (mem .entry)) origin pool pages ⌝ }
+    ensures bytes { λ _. ⌜ now (mem .exit) ≡ call.createBytes (now (mem .entry)) origin pool pages ⌝ }
+{
+    let mut left: u64 = word::ENDLESS;
+    create_up_to(mem, &mut left, origin, pool, pages)
 }
 
 // Map, whatever is asked.
 fn whole(
     mem: &mut [u8],
+    left: &mut u64,
     origin: u64,
     pool: u64,
     pages: u64,
@@ -98,7 +109,7 @@ fn whole(
     rights: u64,
 ) -> Mapped
     ensures answer { λ r. ⌜ r ≡ call.mapAnswer (now (mem .entry)) (call.ask base frame size rights) (call.askedSite origin pool pages root (call.ask base frame size rights)) ⌝ }
-    ensures bytes { λ _. ⌜ now (mem .exit) ≡ call.mapBytes (now (mem .entry)) (call.ask base frame size rights) (call.askedSite origin pool pages root (call.ask base frame size rights)) ⌝ }
+    ensures order { λ _. ⌜ call.InOrder (call.askedSite origin pool pages root (call.ask base frame size rights)) (call.mapWrites (now (mem .entry)) (call.ask base frame size rights)) (now (left .entry)) (now (left .exit)) (now (mem .entry)) (now (mem .exit)) ⌝ }
 {
     let q = Asked {
         base: base,
@@ -112,24 +123,34 @@ fn whole(
             reason: misplaced(q, y),
             tables: 0,
         },
-        Sited::At(space) => answers::of_map(tablepath::map(mem, space, q)),
+        Sited::At(space) => answers::of_map(tablepath::map_up_to(mem, left, space, q)),
     }
 }
 
 // A page of level n, where no table is missing.
-fn at_once(mem: &mut [u8], origin: u64, pool: u64, pages: u64, root: u64, q: Asked, n: u64) -> Once
-    ensures { λ r. ⌜ call.AtOnce (now (mem .entry)) (now (mem .exit)) q (call.siteOf origin pool pages root) r ⌝ }
+fn at_once(
+    mem: &mut [u8],
+    left: &mut u64,
+    origin: u64,
+    pool: u64,
+    pages: u64,
+    root: u64,
+    q: Asked,
+    n: u64,
+) -> Once
+    ensures { λ r. ⌜ call.AtOnce (now (left .entry)) (now (left .exit)) (now (mem .entry)) (now (mem .exit)) q (call.siteOf origin pool pages root) r ⌝ }
 {
     let s = site(origin, pool, pages, root);
     match s {
         Sited::Refused(_) => Once::Unsaid,
-        Sited::At(space) => plan::at_once(mem, space, q, n),
+        Sited::At(space) => plan::at_once(mem, left, space, q, n),
     }
 }
 
 // Map, for pages of level n: what is asked is made anew for the whole, so that the compiler need not keep it in memory.
 fn sized(
     mem: &mut [u8],
+    left: &mut u64,
     origin: u64,
     pool: u64,
     pages: u64,
@@ -141,7 +162,7 @@ fn sized(
     n: u64,
 ) -> Mapped
     ensures answer { λ r. ⌜ r ≡ call.mapAnswer (now (mem .entry)) (call.ask base frame size rights) (call.askedSite origin pool pages root (call.ask base frame size rights)) ⌝ }
-    ensures bytes { λ _. ⌜ now (mem .exit) ≡ call.mapBytes (now (mem .entry)) (call.ask base frame size rights) (call.askedSite origin pool pages root (call.ask base frame size rights)) ⌝ }
+    ensures order { λ _. ⌜ call.InOrder (call.askedSite origin pool pages root (call.ask base frame size rights)) (call.mapWrites (now (mem .entry)) (call.ask base frame size rights)) (now (left .entry)) (now (left .exit)) (now (mem .entry)) (now (mem .exit)) ⌝ }
 {
     let q = Asked {
         base: base,
@@ -149,7 +170,7 @@ fn sized(
         size: size,
         rights: answers::rights(rights),
     };
-    let o = at_once(mem, origin, pool, pages, root, q, n);
+    let o = at_once(mem, left, origin, pool, pages, root, q, n);
     match o {
         Once::Done => Mapped {
             reason: 0,
@@ -159,11 +180,97 @@ fn sized(
             reason: 7,
             tables: 0,
         },
-        Once::Unsaid => whole(mem, origin, pool, pages, root, base, frame, size, rights),
+        Once::Unsaid => whole(
+            mem,
+            left,
+            origin,
+            pool,
+            pages,
+            root,
+            base,
+            frame,
+            size,
+            rights,
+        ),
     }
 }
 
-// Maps the frame at the base, with these rights. Each size has a piece of its own.
+// Map, up to so many writes. Each size has a piece of its own.
+fn map_up_to(
+    mem: &mut [u8],
+    left: &mut u64,
+    origin: u64,
+    pool: u64,
+    pages: u64,
+    root: u64,
+    base: u64,
+    frame: u64,
+    size: u64,
+    rights: u64,
+) -> Mapped
+    ensures answer { λ r. ⌜ r ≡ call.mapAnswer (now (mem .entry)) (call.ask base frame size rights) (call.askedSite origin pool pages root (call.ask base frame size rights)) ⌝ }
+    ensures order { λ _. ⌜ call.InOrder (call.askedSite origin pool pages root (call.ask base frame size rights)) (call.mapWrites (now (mem .entry)) (call.ask base frame size rights)) (now (left .entry)) (now (left .exit)) (now (mem .entry)) (now (mem .exit)) ⌝ }
+{
+    if size == 4096 {
+        return sized(
+            mem,
+            left,
+            origin,
+            pool,
+            pages,
+            root,
+            base,
+            frame,
+            4096,
+            rights,
+            0,
+        );
+    }
+    if size == 2097152 {
+        return sized(
+            mem,
+            left,
+            origin,
+            pool,
+            pages,
+            root,
+            base,
+            frame,
+            2097152,
+            rights,
+            1,
+        );
+    }
+    if size == 1073741824 {
+        return sized(
+            mem,
+            left,
+            origin,
+            pool,
+            pages,
+            root,
+            base,
+            frame,
+            1073741824,
+            rights,
+            2,
+        );
+    }
+    whole(
+        mem,
+        left,
+        origin,
+        pool,
+        pages,
+        root,
+        base,
+        frame,
+        size,
+        rights,
+    )
+}
+
+// Maps the frame at the base, with these rights.
 #[no_mangle]
 pub extern "C" fn tp_map(
     mem: &mut [u8],
@@ -179,38 +286,45 @@ pub extern "C" fn tp_map(
     ensures answer { λ r. ⌜ r ≡ call.mapAnswer (now (mem .entry)) (call.ask base frame size rights) (call.askedSite origin pool pages root (call.ask base frame size rights)) ⌝ }
     ensures bytes { λ _. ⌜ now (mem .exit) ≡ call.mapBytes (now (mem .entry)) (call.ask base frame size rights) (call.askedSite origin pool pages root (call.ask base frame size rights)) ⌝ }
 {
-    if size == 4096 {
-        return sized(mem, origin, pool, pages, root, base, frame, 4096, rights, 0);
+    let mut left: u64 = word::ENDLESS;
+    map_up_to(
+        mem,
+        &mut left,
+        origin,
+        pool,
+        pages,
+        root,
+        base,
+        frame,
+        size,
+        rights,
+    )
+}
+
+// Unmap, up to so many writes.
+fn unmap_up_to(
+    mem: &mut [u8],
+    left: &mut u64,
+    origin: u64,
+    pool: u64,
+    pages: u64,
+    root: u64,
+    base: u64,
+) -> Unmapped
+    ensures answer { λ r. ⌜ r ≡ call.unmapAnswer (now (mem .entry)) base (call.siteOf origin pool pages root) ⌝ }
+    ensures order { λ _. ⌜ call.InOrder (call.siteOf origin pool pages root) (call.unmapWrites (now (mem .entry)) base) (now (left .entry)) (now (left .exit)) (now (mem .entry)) (now (mem .exit)) ⌝ }
+{
+    let s = site(origin, pool, pages, root);
+    match s {
+        Sited::Refused(y) => Unmapped {
+            reason: y,
+            frame: 0,
+            size: 0,
+            aside: 0,
+            ticket: 0,
+        },
+        Sited::At(space) => answers::of_unmap(tablepath::unmap_up_to(mem, left, space, base)),
     }
-    if size == 2097152 {
-        return sized(
-            mem,
-            origin,
-            pool,
-            pages,
-            root,
-            base,
-            frame,
-            2097152,
-            rights,
-            1,
-        );
-    }
-    if size == 1073741824 {
-        return sized(
-            mem,
-            origin,
-            pool,
-            pages,
-            root,
-            base,
-            frame,
-            1073741824,
-            rights,
-            2,
-        );
-    }
-    whole(mem, origin, pool, pages, root, base, frame, size, rights)
 }
 
 // Unmaps the page that starts exactly at the base, and sets aside the tables that become empty.
@@ -226,16 +340,38 @@ pub extern "C" fn tp_unmap(
     ensures answer { λ r. ⌜ r ≡ call.unmapAnswer (now (mem .entry)) base (call.siteOf origin pool pages root) ⌝ }
     ensures bytes { λ _. ⌜ now (mem .exit) ≡ call.unmapBytes (now (mem .entry)) base (call.siteOf origin pool pages root) ⌝ }
 {
+    let mut left: u64 = word::ENDLESS;
+    unmap_up_to(mem, &mut left, origin, pool, pages, root, base)
+}
+
+// Protect, up to so many writes.
+fn protect_up_to(
+    mem: &mut [u8],
+    left: &mut u64,
+    origin: u64,
+    pool: u64,
+    pages: u64,
+    root: u64,
+    base: u64,
+    rights: u64,
+) -> Protected
+    ensures answer { λ r. ⌜ r ≡ call.protectAnswer (now (mem .entry)) base (the.rightsIn rights) (call.siteOf origin pool pages root) ⌝ }
+    ensures order { λ _. ⌜ call.InOrder (call.siteOf origin pool pages root) (call.protectWrites (now (mem .entry)) base (the.rightsIn rights)) (now (left .entry)) (now (left .exit)) (now (mem .entry)) (now (mem .exit)) ⌝ }
+{
     let s = site(origin, pool, pages, root);
     match s {
-        Sited::Refused(y) => Unmapped {
+        Sited::Refused(y) => Protected {
             reason: y,
             frame: 0,
             size: 0,
-            aside: 0,
-            ticket: 0,
         },
-        Sited::At(space) => answers::of_unmap(tablepath::unmap(mem, space, base)),
+        Sited::At(space) => answers::of_protect(tablepath::protect_up_to(
+            mem,
+            left,
+            space,
+            base,
+            answers::rights(rights),
+        )),
     }
 }
 
@@ -253,16 +389,30 @@ pub extern "C" fn tp_protect(
     ensures answer { λ r. ⌜ r ≡ call.protectAnswer (now (mem .entry)) base (the.rightsIn rights) (call.siteOf origin pool pages root) ⌝ }
     ensures bytes { λ _. ⌜ now (mem .exit) ≡ call.protectBytes (now (mem .entry)) base (the.rightsIn rights) (call.siteOf origin pool pages root) ⌝ }
 {
+    let mut left: u64 = word::ENDLESS;
+    protect_up_to(mem, &mut left, origin, pool, pages, root, base, rights)
+}
+
+// Told, up to so many writes.
+fn told_up_to(
+    mem: &mut [u8],
+    left: &mut u64,
+    origin: u64,
+    pool: u64,
+    pages: u64,
+    root: u64,
+    ticket: u64,
+) -> Told
+    ensures answer { λ r. ⌜ r ≡ call.toldAnswer (now (mem .entry)) ticket (call.siteOf origin pool pages root) ⌝ }
+    ensures order { λ _. ⌜ call.InOrder (call.siteOf origin pool pages root) (call.toldWrites (now (mem .entry)) ticket) (now (left .entry)) (now (left .exit)) (now (mem .entry)) (now (mem .exit)) ⌝ }
+{
     let s = site(origin, pool, pages, root);
     match s {
-        Sited::Refused(y) => Protected {
+        Sited::Refused(y) => Told {
             reason: y,
-            frame: 0,
-            size: 0,
+            released: 0,
         },
-        Sited::At(space) => {
-            answers::of_protect(tablepath::protect(mem, space, base, answers::rights(rights)))
-        }
+        Sited::At(space) => answers::of_told(tablepath::told_up_to(mem, left, space, ticket)),
     }
 }
 
@@ -279,14 +429,8 @@ pub extern "C" fn tp_told(
     ensures answer { λ r. ⌜ r ≡ call.toldAnswer (now (mem .entry)) ticket (call.siteOf origin pool pages root) ⌝ }
     ensures bytes { λ _. ⌜ now (mem .exit) ≡ call.toldBytes (now (mem .entry)) ticket (call.siteOf origin pool pages root) ⌝ }
 {
-    let s = site(origin, pool, pages, root);
-    match s {
-        Sited::Refused(y) => Told {
-            reason: y,
-            released: 0,
-        },
-        Sited::At(space) => answers::of_told(tablepath::told(mem, space, ticket)),
-    }
+    let mut left: u64 = word::ENDLESS;
+    told_up_to(mem, &mut left, origin, pool, pages, root, ticket)
 }
 
 // What the address means in the tables below this root, for any bytes and any numbers; the root is given as in CR3.

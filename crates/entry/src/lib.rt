@@ -1,6 +1,6 @@
 // Entries of page tables: what a word says at each level, and the words that we write.
 ghost use mathlib.Core.Path.{_≡_};
-ghost use Prim.Native.Nat.{_<_};
+ghost use Prim.Native.Nat.{_<_, _≤_};
 ghost use Rattle.entry.specs.Entry as the;
 ghost use Rattle.entry.specs.Words as made;
 
@@ -25,7 +25,7 @@ pub enum Made {
 
 // What one entry of level n covers; there are four levels.
 pub fn size(n: u64) -> u64
-    ensures { λ r. ⌜ (n < 4 → r ≡ the.sizeOf n) × (0 < r) ⌝ }
+    ensures { λ r. ⌜ (n < 4 → r ≡ the.sizeOf n) × (0 < r) × (4 ≤ n → r ≡ the.sizeOf 3) ⌝ }
 {
     if n == 0 {
         return 4096;

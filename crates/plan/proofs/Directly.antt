@@ -5,7 +5,7 @@ use mathlib.Core.List.{List, [], _∷_}
 use mathlib.Core.Path.{_≡_, refl, sym, ap, _∙_}
 use native.Mathlib.Omega.{arith}
 use Rattle.word.specs.Memory.{memory, holds}
-use Rattle.word.specs.Writes.{carried}
+use Rattle.word.specs.Writes.{Wrote}
 use Rattle.entry.specs.Entry.{sizeOf}
 use Rattle.entry.specs.Words.{madePage}
 use Rattle.entry.specs.declared.Made.the-variants.{Word}
@@ -32,7 +32,7 @@ use Rattle.plan.proofs.Shapes.{shape-fits, fits-level, shaped}
 use Rattle.plan.proofs.Standing.{stands}
 
 -- the way came to the table in page t, whose entry was looked at, and set where nothing was there
-module _ (s : List ℕ) (sp : Space) (n va x t : ℕ)
+module _ (left rest : ℕ) (s after : List ℕ) (sp : Space) (n va x t : ℕ)
     (come : Comes (holds s (sp .origin)) (memory s (sp .origin)) sp n va (downOf (holds s (sp .origin)) (memory s (sp .origin)) sp n va 4 (startOf sp)) t) where
   stops : (y : Why) (v : ℕ) (w : Way)
       → downOf (holds s (sp .origin)) (memory s (sp .origin)) sp n va (suc n) (At t (come .way)) ≡ stopOf y n v w
@@ -41,16 +41,16 @@ module _ (s : List ℕ) (sp : Space) (n va x t : ℕ)
   stops y v w e = ap endOf (come .trail ∙ e)
 
   pub settled : (l : Lead) → leadOf (holds s (sp .origin)) (memory s (sp .origin)) sp va n t ≡ l
-      → Found s (carried s (sp .origin) (onceWrites t (indexOf n va) x l)) sp n va x (onceOf l)
-  unfolding onceOf onceWrites carried pushOf
-  settled lead.Nothing e =
+      → Wrote (sp .origin) (onceWrites t (indexOf n va) x l) left rest s after → Found left rest s after sp n va x (onceOf l)
+  unfolding onceOf onceWrites pushOf
+  settled lead.Nothing e f =
       let k = stops why.Nothing _ _ (lead-nothing _ _ sp n va n t (come .way) e) in
-      record { table = t; why = ap (λ w. w .why) k; level = ap (λ w. w .level) k; last = ap (λ w. w .a) k; bytes = refl }
-  settled lead.Page e =
-      record { by = true; why = ap (λ w. w .why) (stops why.Page _ _ (lead-page _ _ sp n va n t (come .way) e)); bytes = refl }
-  settled (lead.Table u) e =
-      record { by = false; why = ap (λ w. w .why) (stops why.Table _ _ (lead-table _ _ sp n va t u (come .way) e)); bytes = refl }
-  settled lead.Stray e = refl
+      record { table = t; why = ap (λ w. w .why) k; level = ap (λ w. w .level) k; last = ap (λ w. w .a) k; order = f }
+  settled lead.Page e f =
+      record { by = true; why = ap (λ w. w .why) (stops why.Page _ _ (lead-page _ _ sp n va n t (come .way) e)); order = f }
+  settled (lead.Table u) e f =
+      record { by = false; why = ap (λ w. w .why) (stops why.Table _ _ (lead-table _ _ sp n va t u (come .way) e)); order = f }
+  settled lead.Stray e f = f
 
 module _ (h : ℕ → Bool) (m : ℕ → ℕ) (sp : Space) (q : Asked) (n : ℕ) where
   -- where all but the way was found right, the way decides
@@ -59,22 +59,22 @@ module _ (h : ℕ → Bool) (m : ℕ → ℕ) (sp : Space) (q : Asked) (n : ℕ)
   unfolding decideOf shapedOf standingOf fittingOf
   by-the-way a b c = rw (a, b, c)
 
-module _ (s after : List ℕ) (sp : Space) (q : Asked) (n x : ℕ) (made-so : madePage n (q .frame) (q .rights) ≡ Word x) where
+module _ (left rest : ℕ) (s after : List ℕ) (sp : Space) (q : Asked) (n x : ℕ) (made-so : madePage n (q .frame) (q .rights) ≡ Word x) where
   abbrev H : ℕ → Bool
   H = holds s (sp .origin)
 
   abbrev M : ℕ → ℕ
   M = memory s (sp .origin)
 
-  at-once : (d : Placed) (o : Once) → d ≡ stoppedOf H M sp q n (wayOf H M sp (q .base) n) → Found s after sp n (q .base) x o → AtOnce s after sp d o
+  at-once : (d : Placed) (o : Once) → d ≡ stoppedOf H M sp q n (wayOf H M sp (q .base) n) → Found left rest s after sp n (q .base) x o → AtOnce left rest s after sp d o
   unfolding stoppedOf becauseOf
   at-once d once.Done e f =
       record {
         leaf = record { table = f .table; index = indexOf n (q .base); word = x };
         decided = rw (e, f .why, f .level, f .last) (sym (place-here q n n (f .table) x made-so H M sp (indexOf n (q .base)) (omega arith) refl));
-        bytes = f .bytes;
+        order = f .order;
       }
-  at-once d once.Overlap e f = (rw (e, f .why) (go (f .by)), f .bytes)
+  at-once d once.Overlap e f = (rw (e, f .why) (go (f .by)), f .order)
     where
       go : (b : Bool) → becauseOf H M sp q n (wayOf H M sp (q .base) n .level) (wayOf H M sp (q .base) n .a) (cond b why.Page why.Table) ≡ Refused Overlap
       go true = refl
@@ -84,7 +84,7 @@ module _ (s after : List ℕ) (sp : Space) (q : Asked) (n x : ℕ) (made-so : ma
   -- the tests in the order of the code: size, alignment and range, the pool, whether the frame meets it
   pub found-at-once : (k size : ℕ) (met : Bool) → n ≤ 2 → q .size ≡ size → size ≡ sizeOf n → fitsOf n size (q .base) (q .frame) ≡ Level k → standsOf H sp ≡ Fits
       → (q .frame + size ≤ 2 ^ 52 → sp .pages ≤ 2 ^ 32 → met ≡ meetsOf sp (q .frame) size) → met ≡ false
-      → (o : Once) → Found s after sp n (q .base) x o → AtOnce s after sp (decideOf H M sp q) o
+      → (o : Once) → Found left rest s after sp n (q .base) x o → AtOnce left rest s after sp (decideOf H M sp q) o
   found-at-once k size met low asked sized fit st m free o =
       let shape : shapeOf (q .size) (q .base) (q .frame) ≡ Level n = shape-fits n (q .size) (q .base) (q .frame) low (asked ∙ sized) ∙ (rw asked fit ∙ ap Level (fits-level n k size (q .base) (q .frame) fit)) in
       let ends : q .frame + size ≤ 2 ^ 52 = rw (← asked) (shaped (q .base) (q .frame) n (q .size) shape .frame-fits) in

@@ -8,3 +8,5 @@ pub mod Leads
 pub mod Directly
 pub mod Standing
 pub mod Carrying
+pub mod Low
+pub mod Unmappings

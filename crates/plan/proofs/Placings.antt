@@ -20,9 +20,10 @@ use Rattle.plan.specs.declared.maps.Mapping.{Mapping}
 use Rattle.plan.specs.declared.maps.Supply.{Supply}
 use Rattle.plan.specs.declared.maps.Supply.the-variants.{Pages, Lacking}
 use Rattle.plan.specs.declared.maps.Leaf.{Leaf}
+use Rattle.plan.specs.declared.building.Making.the-variants as making
 use Rattle.plan.specs.declared.maps.Placing.{Placing}
 use Rattle.plan.specs.declared.maps.Placing.the-variants as placing
-use Rattle.plan.specs.Map.{Placed, Go, Refused, supplyOf, madeOf, placeOf, nextOf, growOf, buildOf, writesOf, leafOf, leafWrites, placingOf}
+use Rattle.plan.specs.Map.{Placed, Go, Refused, supplyOf, madeOf, placeOf, nextOf, growOf, buildOf, writesOf, leafOf, leafWrites, didOf, makingOf, placingOf}
 use Rattle.plan.proofs.Shapes.{Shaped}
 
 pub refused-placing : (r : Reason) → placingOf (Refused r) ≡ placing.Refused r
@@ -99,3 +100,23 @@ placing-here (Go x) c e = go (leb (x .level) (x .target) && eqb (x .fresh .need)
 pub leaf-writes : (sp : Space) (p : Mapping) → p .level ≤ p .target → p .fresh .need ≡ 0 → leafWrites (leafOf p) ≡ writesOf sp p
 unfolding writesOf buildOf growOf nextOf
 leaf-writes sp p u v = rw v (simp (le-leb (p .level) (p .target) u))
+
+pub here-did : (sp : Space) (d : Placed) (c : Leaf) → Leafed d c → leafWrites c ≡ didOf sp d
+unfolding didOf
+here-did sp d c k = ap leafWrites (k .same) ∙ (leaf-writes sp (k .mapping) (k .level) (k .need) ∙ sym (rw (k .decided)))
+
+-- What map answers shows what was decided ---------------------------------------------------------------------------------------------
+
+pub here-made : (d : Placed) (c : Leaf) → Leafed d c → making.Done 0 ≡ makingOf d
+unfolding makingOf
+here-made d c k = sym (rw (k .decided) (ap making.Done (k .need)))
+
+pub making-refused : (d : Placed) (r : Reason) → makingOf d ≡ making.Refused r → d ≡ Refused r
+unfolding makingOf
+making-refused (Refused s) r e = cc
+making-refused (Go p) r e = let z : _≡_ {A = ℕ} 0 1 = cc in absurd (omega arith)
+
+pub making-done : (d : Placed) (k : ℕ) → makingOf d ≡ making.Done k → (p : Mapping) × (d ≡ Go p) × (p .fresh .need ≡ k)
+unfolding makingOf
+making-done (Refused s) k e = let z : _≡_ {A = ℕ} 0 1 = cc in absurd (omega arith)
+making-done (Go p) k e = (p, refl, cc)

@@ -1,21 +1,22 @@
 -- A step of the way by what it read; and an entry of the way that is set.
 use Prim.Native.Nat.{ℕ}
 use mathlib.Core.Bool.{Bool, true, false, cond}
-use mathlib.Core.List.{List}
+use mathlib.Core.List.{List, [], _∷_}
 use mathlib.Core.Path.{_≡_, refl, sym, _∙_}
 use native.Mathlib.Omega.{arith}
 use borrow.Author.Tests.{le-leb}
-use Rattle.word.specs.Memory.{memory, holds, written}
+use Rattle.word.specs.Memory.{memory, holds}
+use Rattle.word.specs.Writes.{write}
 use Rattle.word.specs.Runs.{amongOf}
 use Rattle.word.specs.declared.Cell.{Cell}
 use Rattle.word.specs.declared.Cell.the-variants.{Word, Outside}
-use Rattle.word.proofs.Runs.{run-holds, Among, word-among, outside-among, among-written}
+use Rattle.word.proofs.Runs.{run-holds, Among, word-among, outside-among, among-is, one-among}
 use Rattle.entry.specs.Entry.{says}
 use Rattle.walk.specs.Walk.{indexOf}
 use Rattle.walk.specs.Walk as walk
 use Rattle.walk.proofs.Digits.{index-lt}
 use Rattle.pool.specs.Book.{bookPages, inPool}
-use Rattle.pool.specs.Stands.{standsOf, entryOf, entryWritten}
+use Rattle.pool.specs.Stands.{standsOf, entryOf, entryWrites}
 use Rattle.pool.specs.declared.Space.{Space}
 use Rattle.pool.specs.declared.Fit.the-variants.{Fits}
 use Rattle.pool.proofs.Counts.{in-pool, pool-in}
@@ -89,9 +90,10 @@ module _ (s : List ℕ) (sp : Space) (e : standsOf (holds s (sp .origin)) sp ≡
         go true here k = refl
         go false here k = let z : _≡_ {A = ℕ} 0 1 = cc in absurd (omega arith)
 
-    -- where an entry leads to nothing it can be set
-    pub lead-written : (x : ℕ) → leadOf (holds s (sp .origin)) (memory s (sp .origin)) sp va n t ≡ lead.Nothing
-        → entryWritten s sp t (indexOf n va) x ≡ written s (sp .origin) t (indexOf n va) x
-    unfolding entryWritten
-    lead-written x r =
-        simp (le-leb _ _ (stands (holds s (sp .origin)) sp e .fits .small)) (among-written _ _ _ _ _ _ _ x (pool-among n va t (lead-in r)))
+    -- where an entry leads to nothing, setting it is one write
+    pub lead-entry : (x : ℕ) → leadOf (holds s (sp .origin)) (memory s (sp .origin)) sp va n t ≡ lead.Nothing
+        → entryWrites s sp t (indexOf n va) x ≡ write t (indexOf n va) x ∷ []
+    unfolding entryWrites
+    lead-entry x r =
+        simp (le-leb _ _ (stands (holds s (sp .origin)) sp e .fits .small))
+        (one-among _ _ _ _ _ _ _ x (among-is _ _ _ _ _ _ _ (pool-among n va t (lead-in r))))

@@ -4,7 +4,7 @@ use mathlib.Core.Bool.{Bool, cond}
 use mathlib.Core.List.{List, [], _∷_}
 use mathlib.Core.Path.{_≡_}
 use Rattle.word.specs.Memory.{memory, holds}
-use Rattle.word.specs.Writes.{Write, write, carried}
+use Rattle.word.specs.Writes.{Write, write, Wrote}
 use Rattle.entry.specs.Entry.{says}
 use Rattle.entry.specs.declared.Entry.{Entry}
 use Rattle.entry.specs.declared.Entry.the-variants as entry
@@ -61,33 +61,33 @@ onceWrites t i x lead.Nothing = write t i x ∷ []
 onceWrites t i x lead.Stray = []
 
 -- nothing was there, in the table in this page, and the word was written
-pub record Free (s after : List ℕ) (sp : Space) (n va x : ℕ) : Type 0 where
+pub record Free (left rest : ℕ) (s after : List ℕ) (sp : Space) (n va x : ℕ) : Type 0 where
   pub table : ℕ
   pub why : wayOf (holds s (sp .origin)) (memory s (sp .origin)) sp va n .why ≡ why.Nothing
   pub level : wayOf (holds s (sp .origin)) (memory s (sp .origin)) sp va n .level ≡ n
   pub last : wayOf (holds s (sp .origin)) (memory s (sp .origin)) sp va n .a ≡ table
-  pub bytes : after ≡ carried s (sp .origin) (write table (indexOf n va) x ∷ [])
+  pub order : Wrote (sp .origin) (write table (indexOf n va) x ∷ []) left rest s after
 
 -- the way stopped at something, and nothing was written
-pub record Taken (s after : List ℕ) (sp : Space) (n va : ℕ) : Type 0 where
+pub record Taken (left rest : ℕ) (s after : List ℕ) (sp : Space) (n va : ℕ) : Type 0 where
   pub by : Bool
   pub why : wayOf (holds s (sp .origin)) (memory s (sp .origin)) sp va n .why ≡ cond by why.Page why.Table
-  pub bytes : after ≡ s
+  pub order : Wrote (sp .origin) [] left rest s after
 
-abbrev pub Found : List ℕ → List ℕ → Space → ℕ → ℕ → ℕ → Once → Type 0
-Found s after sp n va x once.Done = Free s after sp n va x
-Found s after sp n va x once.Overlap = Taken s after sp n va
-Found s after sp n va x once.Unsaid = after ≡ s
+abbrev pub Found : ℕ → ℕ → List ℕ → List ℕ → Space → ℕ → ℕ → ℕ → Once → Type 0
+Found left rest s after sp n va x once.Done = Free left rest s after sp n va x
+Found left rest s after sp n va x once.Overlap = Taken left rest s after sp n va
+Found left rest s after sp n va x once.Unsaid = Wrote (sp .origin) [] left rest s after
 
 -- The decision -----------------------------------------------------------------------------------------------------------------------
 
-pub record Done (s after : List ℕ) (sp : Space) (d : Placed) : Type 0 where
+pub record Done (left rest : ℕ) (s after : List ℕ) (sp : Space) (d : Placed) : Type 0 where
   pub leaf : Leaf
   pub decided : placingOf d ≡ Here leaf
-  pub bytes : after ≡ carried s (sp .origin) (leafWrites leaf)
+  pub order : Wrote (sp .origin) (leafWrites leaf) left rest s after
 
 -- WHAT IS DONE AT ONCE is what was decided: the one entry is written, or the overlap refused; what is left unsaid has changed nothing
-abbrev pub AtOnce : List ℕ → List ℕ → Space → Placed → Once → Type 0
-AtOnce s after sp d once.Done = Done s after sp d
-AtOnce s after sp d once.Overlap = (d ≡ Refused Overlap) × (after ≡ s)
-AtOnce s after sp d once.Unsaid = after ≡ s
+abbrev pub AtOnce : ℕ → ℕ → List ℕ → List ℕ → Space → Placed → Once → Type 0
+AtOnce left rest s after sp d once.Done = Done left rest s after sp d
+AtOnce left rest s after sp d once.Overlap = (d ≡ Refused Overlap) × Wrote (sp .origin) [] left rest s after
+AtOnce left rest s after sp d once.Unsaid = Wrote (sp .origin) [] left rest s after

@@ -1,5 +1,5 @@
 -- Map: the decision, a function of the memory and what is asked, and the writes of its plan.
-use Prim.Native.Nat.{ℕ, _+_, _-_, _*_, _%_, _^_, _≤_}
+use Prim.Native.Nat.{ℕ, _+_, _-_, _*_, _%_, _^_, _≤_, _<_}
 use mathlib.Core.Bool.{Bool, true, false, cond, _&&_}
 use mathlib.Core.List.{List, [], _∷_, _++_}
 use lib.Dec.{eqb, leb, ltb}
@@ -35,6 +35,8 @@ use Rattle.plan.specs.declared.maps.Leaf.{Leaf}
 use Rattle.plan.specs.declared.maps.Placing.{Placing}
 use Rattle.plan.specs.declared.maps.Placing.the-variants as placing
 use Rattle.plan.specs.declared.building.Reached.{Reached}
+use Rattle.plan.specs.declared.building.Making.{Making}
+use Rattle.plan.specs.declared.building.Making.the-variants as making
 use Rattle.plan.specs.Descend.{wayOf}
 
 -- Sizes, alignment, range --------------------------------------------------------------------------------------------------------
@@ -129,6 +131,19 @@ shapedOf h m sp q (Bad r) = Refused r
 unfoldable pub decideOf : (ℕ → Bool) → (ℕ → ℕ) → Space → Asked → Placed
 decideOf h m sp q = shapedOf h m sp q (shapeOf (q .size) (q .base) (q .frame))
 
+-- What is built ------------------------------------------------------------------------------------------------------------------------
+
+-- pages whose numbers have 40 bits
+pub record Low (f : Fresh) : Type 0 where
+  pub a : f .a < 2 ^ 40
+  pub b : f .b < 2 ^ 40
+  pub c : f .c < 2 ^ 40
+
+-- what is built: at a level, of such pages
+pub record Buildable (p : Mapping) : Type 0 where
+  pub level : p .level < 4
+  pub fresh : Low (p .fresh)
+
 -- The plan ---------------------------------------------------------------------------------------------------------------------------
 
 unfoldable pub linkOf : ℕ → ℕ
@@ -164,6 +179,16 @@ buildOf p =
 -- WHAT MAP WRITES: the tables, the page, and in the book that pages were taken
 unfoldable pub writesOf : Space → Mapping → List Write
 writesOf sp p = buildOf p ++ cond (ltb 0 (p .fresh .need)) (tookWrites sp (p .fresh .book) (p .fresh .need)) []
+
+-- a refusal writes nothing
+unfoldable pub didOf : Space → Placed → List Write
+didOf sp (Go p) = writesOf sp p
+didOf sp (Refused r) = []
+
+-- what is answered: how many tables were made
+unfoldable pub makingOf : Placed → Making
+makingOf (Go p) = making.Done (p .fresh .need)
+makingOf (Refused r) = making.Refused r
 
 -- The same as the code hands it on: where no table is missing, the one entry and its word ------------------------------------------
 

@@ -35,3 +35,7 @@ decideOf h m sp va r = changingOf va r (foundOf h m sp va)
 -- what it writes
 unfoldable pub writesOf : Change → List Write
 writesOf c = write (c .table) (c .index) (c .word) ∷ []
+
+unfoldable pub didOf : Changing → List Write
+didOf (Go c) = writesOf c
+didOf (Refused y) = []

@@ -7,7 +7,7 @@ use Rattle.word.specs.Scan.{besidesOf}
 use Rattle.word.specs.Writes.{Write, write}
 use Rattle.walk.specs.Walk.{indexOf}
 use Rattle.pool.specs.Stands.{takesOf}
-use Rattle.pool.specs.Book.{openedOf}
+use Rattle.pool.specs.Book.{openedOf, ticketOf}
 use Rattle.pool.specs.Changes.{asideWrites, asideBook}
 use Rattle.pool.specs.declared.Space.{Space}
 use Rattle.pool.specs.declared.Book.{Book}
@@ -23,6 +23,8 @@ use Rattle.plan.specs.declared.finding.Sought.the-variants as sought
 use Rattle.plan.specs.declared.unmaps.Removal.{Removal}
 use Rattle.plan.specs.declared.unmaps.Removing.{Removing}
 use Rattle.plan.specs.declared.unmaps.Removing.the-variants.{Go, Refused}
+use Rattle.plan.specs.declared.unmaps.Unmapping.{Unmapping}
+use Rattle.plan.specs.declared.unmaps.Unmapping.the-variants as unmapping
 use Rattle.plan.specs.Find.{foundOf}
 use Rattle.plan.specs.Map.{noBook}
 
@@ -88,3 +90,12 @@ writesOf sp va r =
     ++ (cutWrites sp 0 (r .empties) (r .spot .way .b) (indexOf (r .spot .way .level + 1) va) (r .spot .way .a) (r .book)
     ++ (cutWrites sp 1 (r .empties) (r .spot .way .c) (indexOf (r .spot .way .level + 2) va) (r .spot .way .b) (book1 sp r)
     ++ cutWrites sp 2 (r .empties) (r .spot .way .d) (indexOf (r .spot .way .level + 3) va) (r .spot .way .c) (book2 sp r)))
+
+unfoldable pub didOf : Space → ℕ → Removing → List Write
+didOf sp va (Go r) = writesOf sp va r
+didOf sp va (Refused y) = []
+
+-- what is done, and the ticket of the book after it
+unfoldable pub unmappingOf : Space → Removing → Unmapping
+unmappingOf sp (Go r) = unmapping.Done r (ticketOf (bookAfter sp r))
+unmappingOf sp (Refused y) = unmapping.Refused y

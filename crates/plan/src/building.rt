@@ -1,11 +1,22 @@
-// Map's plan carried out: for each missing level, from the top, a page is cleared and then linked; the page's own entry is written last.
+// Map: what was decided is carried out. For each missing level, from the top, a page is cleared and then linked; the page's own entry is written last.
 ghost use mathlib.Core.Path.{_≡_};
-ghost use Prim.Native.Nat.{_<_};
-ghost use Rattle.word.specs.Writes.{carried};
+ghost use Prim.Native.Nat.{_^_, _<_};
+ghost use Rattle.word.specs.Memory.{memory, holds};
+ghost use Rattle.word.specs.Writes.{Wrote};
 ghost use Rattle.plan.specs.Map as the;
+use crate::Reason;
+use crate::maps::Asked;
 use crate::maps::Leaf;
 use crate::maps::Mapping;
+use crate::maps::Placing;
+use crate::maps::decide_map;
 use pool::Space;
+
+// What came of it: so many tables were made.
+pub enum Making {
+    Done(u64),
+    Refused(Reason),
+}
 
 pub struct Reached {
     pub level: u64,
@@ -14,58 +25,102 @@ pub struct Reached {
 
 // The word that names the table in page p.
 fn link(p: u64) -> u64
+    requires { ⌜ p < 2 ^ 40 ⌝ }
     ensures { λ r. ⌜ r ≡ the.linkOf p ⌝ }
 {
-    if 1099511627776 <= p {
-        return 0;
-    }
     4096 * p + 7
 }
 
 // Above the target page p is cleared and then linked, and the way goes on there.
-fn grow(mem: &mut [u8], origin: u64, va: u64, target: u64, p: u64, s: Reached) -> Reached
+fn grow(
+    mem: &mut [u8],
+    left: &mut u64,
+    origin: u64,
+    va: u64,
+    target: u64,
+    p: u64,
+    s: Reached,
+) -> Reached
+    requires { ⌜ (s .level < 4) × (p < 2 ^ 40) ⌝ }
     ensures { λ r. ⌜ r ≡ the.nextOf target p s ⌝ }
-    ensures { λ _. ⌜ (s .level < 4 → now (mem .exit) ≡ carried (now (mem .entry)) origin (the.growOf va target p s)) ⌝ }
+    ensures { λ _. ⌜ Wrote origin (the.growOf va target p s) (now (left .entry)) (now (left .exit)) (now (mem .entry)) (now (mem .exit)) ⌝ }
 {
     if s.level <= target {
         return s;
     }
-    word::clear(mem, origin, p);
-    word::write(mem, origin, s.table, walk::index(s.level, va), link(p));
+    word::clear(mem, left, origin, p);
+    word::write(
+        mem,
+        left,
+        origin,
+        s.table,
+        walk::index(s.level, va),
+        link(p),
+    );
     Reached {
         level: s.level - 1,
         table: p,
     }
 }
 
-fn build(mem: &mut [u8], origin: u64, m: Mapping)
-    ensures { λ _. ⌜ (m .level < 4 → now (mem .exit) ≡ carried (now (mem .entry)) origin (the.buildOf m)) ⌝ }
+fn build(mem: &mut [u8], left: &mut u64, origin: u64, m: Mapping)
+    requires { ⌜ the.Buildable m ⌝ }
+    ensures { λ _. ⌜ Wrote origin (the.buildOf m) (now (left .entry)) (now (left .exit)) (now (mem .entry)) (now (mem .exit)) ⌝ }
 {
     let f = m.fresh;
     let s0 = Reached {
         level: m.level,
         table: m.table,
     };
-    let s1 = grow(mem, origin, m.base, m.target, f.a, s0);
-    let s2 = grow(mem, origin, m.base, m.target, f.b, s1);
-    let s3 = grow(mem, origin, m.base, m.target, f.c, s2);
-    word::write(mem, origin, s3.table, walk::index(s3.level, m.base), m.word);
+    let s1 = grow(mem, left, origin, m.base, m.target, f.a, s0);
+    let s2 = grow(mem, left, origin, m.base, m.target, f.b, s1);
+    let s3 = grow(mem, left, origin, m.base, m.target, f.c, s2);
+    word::write(
+        mem,
+        left,
+        origin,
+        s3.table,
+        walk::index(s3.level, m.base),
+        m.word,
+    );
 }
 
 // Where no table is missing: one write.
-pub fn carry_here(mem: &mut [u8], space: Space, c: Leaf)
-    ensures { λ _. ⌜ now (mem .exit) ≡ carried (now (mem .entry)) (space .origin) (the.leafWrites c) ⌝ }
+fn carry_here(mem: &mut [u8], left: &mut u64, space: Space, c: Leaf)
+    ensures { λ _. ⌜ Wrote (space .origin) (the.leafWrites c) (now (left .entry)) (now (left .exit)) (now (mem .entry)) (now (mem .exit)) ⌝ }
 {
-    word::write(mem, space.origin, c.table, c.index, c.word)
+    word::write(mem, left, space.origin, c.table, c.index, c.word)
 }
 
-pub fn carry_map(mem: &mut [u8], space: Space, m: Mapping)
-    ensures { λ _. ⌜ (m .level < 4 → now (mem .exit) ≡ carried (now (mem .entry)) (space .origin) (the.writesOf space m)) ⌝ }
+// The tables and the page, and then the book.
+fn carry_map(mem: &mut [u8], left: &mut u64, space: Space, m: Mapping)
+    requires { ⌜ the.Buildable m ⌝ }
+    ensures { λ _. ⌜ Wrote (space .origin) (the.writesOf space m) (now (left .entry)) (now (left .exit)) (now (mem .entry)) (now (mem .exit)) ⌝ }
 {
-    build(mem, space.origin, m);
+    build(mem, left, space.origin, m);
     let f = m.fresh;
     let b = f.book;
     if 0 < f.need {
-        pool::took(mem, space, b, f.need);
+        pool::took(mem, left, space, b, f.need);
+    }
+}
+
+// Maps, or refuses and writes nothing.
+pub fn map(mem: &mut [u8], left: &mut u64, space: Space, q: Asked) -> Making
+    ensures answer { λ r. ⌜ r ≡ the.makingOf (the.decideOf (holds (now (mem .entry)) (space .origin)) (memory (now (mem .entry)) (space .origin)) space q) ⌝ }
+    ensures order { λ _. ⌜ Wrote (space .origin) (the.didOf space (the.decideOf (holds (now (mem .entry)) (space .origin)) (memory (now (mem .entry)) (space .origin)) space q)) (now (left .entry)) (now (left .exit)) (now (mem .entry)) (now (mem .exit)) ⌝ }
+{
+    let d = decide_map(mem, space, q);
+    match d {
+        Placing::Refused(r) => Making::Refused(r),
+        Placing::Here(c) => {
+            carry_here(mem, left, space, c);
+            Making::Done(0)
+        }
+        Placing::Built(p) => {
+            carry_map(mem, left, space, p);
+            let f = p.fresh;
+            Making::Done(f.need)
+        }
     }
 }

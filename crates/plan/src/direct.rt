@@ -3,7 +3,7 @@
 ghost use mathlib.Core.Path.{_≡_};
 ghost use Prim.Native.Nat.{ℕ, _<_, _≤_};
 ghost use Rattle.word.specs.Memory.{memory, holds};
-ghost use Rattle.word.specs.Writes.{carried};
+ghost use Rattle.word.specs.Writes.{Wrote};
 ghost use Rattle.walk.specs.Walk.{indexOf};
 ghost use Rattle.pool.specs.Stands.{standsOf};
 ghost use Rattle.pool.specs.declared.Fit.the-variants.{Fits};
@@ -92,15 +92,15 @@ fn last(mem: &[u8], space: Space, target: u64, va: u64) -> Lead
 }
 
 // The entry in the table in page t, of level n, is set where nothing is there.
-fn settle(mem: &mut [u8], space: Space, n: u64, va: u64, t: u64, x: u64) -> Once
+fn settle(mem: &mut [u8], left: &mut u64, space: Space, n: u64, va: u64, t: u64, x: u64) -> Once
     requires { ⌜ (n < 4) × (standsOf (holds (now mem) (space .origin)) space ≡ Fits) ⌝ }
     ensures { λ r. ⌜ r ≡ the.onceOf (the.leadOf (holds (now (mem .entry)) (space .origin)) (memory (now (mem .entry)) (space .origin)) space va n t) ⌝ }
-    ensures { λ _. ⌜ now (mem .exit) ≡ carried (now (mem .entry)) (space .origin) (the.onceWrites t (indexOf n va) x (the.leadOf (holds (now (mem .entry)) (space .origin)) (memory (now (mem .entry)) (space .origin)) space va n t)) ⌝ }
+    ensures { λ _. ⌜ Wrote (space .origin) (the.onceWrites t (indexOf n va) x (the.leadOf (holds (now (mem .entry)) (space .origin)) (memory (now (mem .entry)) (space .origin)) space va n t)) (now (left .entry)) (now (left .exit)) (now (mem .entry)) (now (mem .exit)) ⌝ }
 {
     let l = follow(mem, space, n, va, t);
     match l {
         Lead::Nothing => {
-            pool::set_entry(mem, space, t, walk::index(n, va), x);
+            pool::set_entry(mem, left, space, t, walk::index(n, va), x);
             Once::Done
         }
         Lead::Page => Once::Overlap,
@@ -110,13 +110,13 @@ fn settle(mem: &mut [u8], space: Space, n: u64, va: u64, t: u64, x: u64) -> Once
 }
 
 // The way of what is asked, where all else was found right; x is the page's word.
-fn placed(mem: &mut [u8], space: Space, n: u64, va: u64, x: u64) -> Once
+fn placed(mem: &mut [u8], left: &mut u64, space: Space, n: u64, va: u64, x: u64) -> Once
     requires { ⌜ (n ≤ 2) × (standsOf (holds (now mem) (space .origin)) space ≡ Fits) ⌝ }
-    ensures { λ r. ⌜ the.Found (now (mem .entry)) (now (mem .exit)) space n va x r ⌝ }
+    ensures { λ r. ⌜ the.Found (now (left .entry)) (now (left .exit)) (now (mem .entry)) (now (mem .exit)) space n va x r ⌝ }
 {
     let l = last(mem, space, n, va);
     match l {
-        Lead::Table(t) => settle(mem, space, n, va, t, x),
+        Lead::Table(t) => settle(mem, left, space, n, va, t, x),
         Lead::Page => Once::Overlap,
         Lead::Nothing => Once::Unsaid,
         Lead::Stray => Once::Unsaid,
@@ -124,8 +124,8 @@ fn placed(mem: &mut [u8], space: Space, n: u64, va: u64, x: u64) -> Once
 }
 
 // Maps a page of level n where no table is missing.
-pub fn at_once(mem: &mut [u8], space: Space, q: Asked, n: u64) -> Once
-    ensures { λ r. ⌜ the.AtOnce (now (mem .entry)) (now (mem .exit)) space (decideOf (holds (now (mem .entry)) (space .origin)) (memory (now (mem .entry)) (space .origin)) space q) r ⌝ }
+pub fn at_once(mem: &mut [u8], left: &mut u64, space: Space, q: Asked, n: u64) -> Once
+    ensures { λ r. ⌜ the.AtOnce (now (left .entry)) (now (left .exit)) (now (mem .entry)) (now (mem .exit)) space (decideOf (holds (now (mem .entry)) (space .origin)) (memory (now (mem .entry)) (space .origin)) space q) r ⌝ }
 {
     if 2 < n {
         return Once::Unsaid;
@@ -150,5 +150,5 @@ pub fn at_once(mem: &mut [u8], space: Space, q: Asked, n: u64) -> Once
     if meets(space, q.frame, size) {
         return Once::Unsaid;
     }
-    placed(mem, space, n, q.base, x)
+    placed(mem, left, space, n, q.base, x)
 }

@@ -1,4 +1,4 @@
-// What map, unmap and protect would write: decisions, which only read, and plans, in which every word is computed already.
+// Map, unmap and protect: each decides first, only reading, and then carries out a plan in which every word is computed already.
 mod building;
 mod descent;
 mod direct;
@@ -7,27 +7,21 @@ mod maps;
 mod protects;
 mod unmaps;
 
-pub use building::carry_here;
-pub use building::carry_map;
+pub use building::Making;
+pub use building::map;
 pub use descent::Way;
 pub use descent::Why;
 pub use direct::Once;
 pub use direct::at_once;
 pub use maps::Asked;
-pub use maps::Leaf;
-pub use maps::Mapping;
-pub use maps::Placing;
 pub use maps::Shape;
-pub use maps::decide_map;
 pub use maps::shaped;
 pub use protects::Change;
 pub use protects::Changing;
-pub use protects::carry_protect;
-pub use protects::decide_protect;
+pub use protects::protect;
 pub use unmaps::Removal;
-pub use unmaps::Removing;
-pub use unmaps::carry_unmap;
-pub use unmaps::decide_unmap;
+pub use unmaps::Unmapping;
+pub use unmaps::unmap;
 
 // Why an operation is refused: one reason for each cause.
 pub enum Reason {

@@ -1,7 +1,7 @@
 // Protect: the page that starts at a base gets other rights, by one write.
 ghost use mathlib.Core.Path.{_≡_};
 ghost use Rattle.word.specs.Memory.{memory, holds};
-ghost use Rattle.word.specs.Writes.{carried};
+ghost use Rattle.word.specs.Writes.{Wrote};
 ghost use Rattle.walk.specs.Walk.{indexOf};
 ghost use Rattle.plan.specs.Protect as the;
 use crate::Reason;
@@ -39,7 +39,7 @@ fn changed(va: u64, s: Spot, rights: Rights) -> Change
 }
 
 // What protect would write.
-pub fn decide_protect(mem: &[u8], space: Space, va: u64, rights: Rights) -> Changing
+fn decide_protect(mem: &[u8], space: Space, va: u64, rights: Rights) -> Changing
     ensures { λ r. ⌜ r ≡ the.decideOf (holds (now (mem .entry)) (space .origin)) (memory (now (mem .entry)) (space .origin)) space va rights ⌝ }
 {
     let s = find(mem, space, va);
@@ -49,8 +49,23 @@ pub fn decide_protect(mem: &[u8], space: Space, va: u64, rights: Rights) -> Chan
     }
 }
 
-pub fn carry_protect(mem: &mut [u8], space: Space, c: Change)
-    ensures { λ _. ⌜ now (mem .exit) ≡ carried (now (mem .entry)) (space .origin) (the.writesOf c) ⌝ }
+fn carry_protect(mem: &mut [u8], left: &mut u64, space: Space, c: Change)
+    ensures { λ _. ⌜ Wrote (space .origin) (the.writesOf c) (now (left .entry)) (now (left .exit)) (now (mem .entry)) (now (mem .exit)) ⌝ }
 {
-    word::write(mem, space.origin, c.table, c.index, c.word)
+    word::write(mem, left, space.origin, c.table, c.index, c.word)
+}
+
+// Gives the page that starts at va other rights, or refuses and writes nothing.
+pub fn protect(mem: &mut [u8], left: &mut u64, space: Space, va: u64, rights: Rights) -> Changing
+    ensures answer { λ r. ⌜ r ≡ the.decideOf (holds (now (mem .entry)) (space .origin)) (memory (now (mem .entry)) (space .origin)) space va rights ⌝ }
+    ensures order { λ _. ⌜ Wrote (space .origin) (the.didOf (the.decideOf (holds (now (mem .entry)) (space .origin)) (memory (now (mem .entry)) (space .origin)) space va rights)) (now (left .entry)) (now (left .exit)) (now (mem .entry)) (now (mem .exit)) ⌝ }
+{
+    let d = decide_protect(mem, space, va, rights);
+    match d {
+        Changing::Refused(r) => Changing::Refused(r),
+        Changing::Go(c) => {
+            carry_protect(mem, left, space, c);
+            Changing::Go(c)
+        }
+    }
 }

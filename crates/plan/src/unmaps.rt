@@ -3,7 +3,7 @@ ghost use mathlib.Core.Path.{_≡_};
 ghost use mathlib.Core.Bool.{true};
 ghost use Prim.Native.Nat.{_+_, _-_, _<_, _≤_};
 ghost use Rattle.word.specs.Memory.{memory, holds};
-ghost use Rattle.word.specs.Writes.{carried};
+ghost use Rattle.word.specs.Writes.{Wrote};
 ghost use Rattle.walk.specs.Walk.{indexOf};
 ghost use Rattle.plan.specs.Unmap as the;
 use crate::Reason;
@@ -24,6 +24,12 @@ pub struct Removal {
 
 pub enum Removing {
     Go(Removal),
+    Refused(Reason),
+}
+
+// What was done, and the ticket after it.
+pub enum Unmapping {
+    Done(Removal, u64),
     Refused(Reason),
 }
 
@@ -92,7 +98,7 @@ fn remove(mem: &[u8], space: Space, s: Spot, n: u64) -> Removing
 }
 
 // What unmap would write.
-pub fn decide_unmap(mem: &[u8], space: Space, va: u64) -> Removing
+fn decide_unmap(mem: &[u8], space: Space, va: u64) -> Removing
     ensures { λ r. ⌜ r ≡ the.decideOf (holds (now (mem .entry)) (space .origin)) (memory (now (mem .entry)) (space .origin)) space va ⌝ }
 {
     let s = find(mem, space, va);
@@ -108,6 +114,7 @@ pub fn decide_unmap(mem: &[u8], space: Space, va: u64) -> Removing
 // Where k is below n, the table `child` is the k-th that became empty: its entry in its parent, of level l, is cleared, and it is set aside.
 fn cut(
     mem: &mut [u8],
+    left: &mut u64,
     space: Space,
     va: u64,
     k: u64,
@@ -117,36 +124,50 @@ fn cut(
     child: u64,
     b: Book,
 ) -> Book
+    requires { ⌜ (k < n → l < 4) ⌝ }
     ensures { λ r. ⌜ r ≡ the.cutBook space k n b ⌝ }
-    ensures { λ _. ⌜ ((k < n → l < 4) → now (mem .exit) ≡ carried (now (mem .entry)) (space .origin) (the.cutWrites space k n parent (indexOf l va) child b)) ⌝ }
+    ensures { λ _. ⌜ Wrote (space .origin) (the.cutWrites space k n parent (indexOf l va) child b) (now (left .entry)) (now (left .exit)) (now (mem .entry)) (now (mem .exit)) ⌝ }
 {
     if n <= k {
         return b;
     }
-    word::write(mem, space.origin, parent, walk::index(l, va), 0);
-    pool::set_aside(mem, space, b, child)
+    word::write(mem, left, space.origin, parent, walk::index(l, va), 0);
+    pool::set_aside(mem, left, space, b, child)
 }
 
 // Answers the book after it.
-pub fn carry_unmap(mem: &mut [u8], space: Space, va: u64, r: Removal) -> Book
-    ensures { λ b. ⌜ (the.low r → r .spot .index ≡ indexOf (r .spot .way .level) va → b ≡ the.bookAfter space r) ⌝ }
-    ensures { λ _. ⌜ (the.low r → r .spot .index ≡ indexOf (r .spot .way .level) va → now (mem .exit) ≡ carried (now (mem .entry)) (space .origin) (the.writesOf space va r)) ⌝ }
+fn carry_unmap(mem: &mut [u8], left: &mut u64, space: Space, va: u64, r: Removal) -> Book
+    requires { ⌜ (the.low r) × (r .spot .index ≡ indexOf (r .spot .way .level) va) ⌝ }
+    ensures { λ b. ⌜ b ≡ the.bookAfter space r ⌝ }
+    ensures { λ _. ⌜ Wrote (space .origin) (the.writesOf space va r) (now (left .entry)) (now (left .exit)) (now (mem .entry)) (now (mem .exit)) ⌝ }
 {
     let s = r.spot;
     let w = s.way;
     let n = r.empties;
     let l = w.level;
     let b0 = r.book;
-    if 3 < l {
-        return b0;
-    }
-    word::write(mem, space.origin, w.a, s.index, 0);
+    word::write(mem, left, space.origin, w.a, s.index, 0);
     if n == 0 {
         return b0;
     }
     // A copy, so that the space itself need not lie in memory where nothing becomes empty.
     let sp = space;
-    let b1 = cut(mem, sp, va, 0, n, w.b, l + 1, w.a, b0);
-    let b2 = cut(mem, sp, va, 1, n, w.c, l + 2, w.b, b1);
-    cut(mem, sp, va, 2, n, w.d, l + 3, w.c, b2)
+    let b1 = cut(mem, left, sp, va, 0, n, w.b, l + 1, w.a, b0);
+    let b2 = cut(mem, left, sp, va, 1, n, w.c, l + 2, w.b, b1);
+    cut(mem, left, sp, va, 2, n, w.d, l + 3, w.c, b2)
+}
+
+// Unmaps, and answers the ticket of the book after it; or refuses and writes nothing.
+pub fn unmap(mem: &mut [u8], left: &mut u64, space: Space, va: u64) -> Unmapping
+    ensures answer { λ r. ⌜ r ≡ the.unmappingOf space (the.decideOf (holds (now (mem .entry)) (space .origin)) (memory (now (mem .entry)) (space .origin)) space va) ⌝ }
+    ensures order { λ _. ⌜ Wrote (space .origin) (the.didOf space va (the.decideOf (holds (now (mem .entry)) (space .origin)) (memory (now (mem .entry)) (space .origin)) space va)) (now (left .entry)) (now (left .exit)) (now (mem .entry)) (now (mem .exit)) ⌝ }
+{
+    let d = decide_unmap(mem, space, va);
+    match d {
+        Removing::Refused(r) => Unmapping::Refused(r),
+        Removing::Go(p) => {
+            let b = carry_unmap(mem, left, space, va, p);
+            Unmapping::Done(p, pool::ticket(b))
+        }
+    }
 }

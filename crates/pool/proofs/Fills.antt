@@ -1,34 +1,18 @@
--- The loop that fills the slots.
-use Prim.Native.Nat.{ℕ, _+_, _/_, _%_}
+-- The loop that fills the slots, as it writes them.
+use Prim.Native.Nat.{ℕ, _+_}
 use mathlib.Core.List.{List, [], _∷_}
-use mathlib.Core.Path.{_≡_, refl, sym, _∙_}
 use native.Mathlib.Numerals.{add-one}
-use Rattle.word.specs.Memory.{written}
-use Rattle.word.specs.Writes.{carried, zeros}
-use Rattle.word.proofs.Writes.{carried-append}
+use Rattle.word.specs.Writes.{Wrote}
+use Rattle.word.proofs.Budget.{wrote-none, wrote-then}
 use Rattle.pool.specs.declared.Space.{Space}
 use Rattle.pool.specs.Changes.{put}
-use Rattle.pool.specs.Book.{mark}
-use Rattle.pool.specs.Create.{fills, counts, layOut, newFree}
+use Rattle.pool.specs.Create.{fills}
 
-pub fills-none : (s : List ℕ) (sp : Space) (from : ℕ) → s ≡ carried s (sp .origin) (fills sp from 0)
-unfolding fills carried
-fills-none s sp from = refl
+pub wrote-no-slot : (sp : Space) (from left : ℕ) (s : List ℕ) → Wrote (sp .origin) (fills sp from 0) left left s s
+unfolding fills
+wrote-no-slot sp from left s = wrote-none (sp .origin) left s
 
-pub fills-next : (s : List ℕ) (sp : Space) (from n : ℕ)
-    → written (carried s (sp .origin) (fills sp from n)) (sp .origin) (sp .first + (8 + n) / 512) ((8 + n) % 512) (from + n) ≡ carried s (sp .origin) (fills sp from (n + 1))
-unfolding fills carried
-fills-next s sp from n = rw add-one (sym (carried-append s (sp .origin) (fills sp from n) (put sp (8 + n) (from + n) ∷ [])))
-
--- the parts of a layout, one after the other
-pub laid-out : (s : List ℕ) (sp : Space)
-    → written
-    (carried (carried (carried s (sp .origin) (fills sp (sp .root + 1) (newFree sp))) (sp .origin) (counts sp (newFree sp))) (sp .origin) (zeros (sp .root) 512))
-    (sp .origin) (sp .first + 0 / 512) (0 % 512) mark
-    ≡ carried s (sp .origin) (layOut sp)
-unfolding layOut carried
-laid-out s sp =
-    sym
-    (carried-append s (sp .origin) (fills sp (sp .root + 1) (newFree sp)) _
-    ∙ carried-append _ (sp .origin) (counts sp (newFree sp)) _
-    ∙ carried-append _ (sp .origin) (zeros (sp .root) 512) (put sp 0 mark ∷ []))
+pub wrote-slot : (sp : Space) (from n l0 l1 l2 : ℕ) (s0 s1 s2 : List ℕ) → Wrote (sp .origin) (fills sp from n) l0 l1 s0 s1
+    → Wrote (sp .origin) (put sp (8 + n) (from + n) ∷ []) l1 l2 s1 s2 → Wrote (sp .origin) (fills sp from (n + 1)) l0 l2 s0 s2
+unfolding fills
+wrote-slot sp from n l0 l1 l2 s0 s1 s2 f g = rw add-one (wrote-then (sp .origin) (fills sp from n) (put sp (8 + n) (from + n) ∷ []) l0 l1 l2 s0 s1 s2 f g)

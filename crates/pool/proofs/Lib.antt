@@ -14,3 +14,4 @@ pub mod Proper
 pub mod NewRoles
 pub mod Fresh
 pub mod Makes
+pub mod Interrupted

@@ -104,6 +104,10 @@ listedOf h m sp b k =
 abbrev pub ticketOf : Book → ℕ
 ticketOf b = b .tickets + b .aside
 
+-- the same as a number of 64 bits; a book that was opened has no larger one
+unfoldable pub ticketIn : Book → ℕ
+ticketIn b = cond (ltb (ticketOf b) (2 ^ 64)) (ticketOf b) 0
+
 -- how many pages a report of this ticket releases: those whose number is below it
 unfoldable pub dueOf : Book → ℕ → Due
 dueOf b t =

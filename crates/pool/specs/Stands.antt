@@ -1,9 +1,10 @@
 -- A space that makes sense, before any book is read; and a book with room for pages to be set aside.
 use Prim.Native.Nat.{ℕ, _+_, _^_, _<_, _≤_}
 use mathlib.Core.Bool.{Bool, cond, _&&_}
-use mathlib.Core.List.{List}
+use mathlib.Core.List.{List, []}
 use lib.Dec.{leb}
-use Rattle.word.specs.Runs.{amongOf, amongWritten}
+use Rattle.word.specs.Runs.{amongOf, amongWrites}
+use Rattle.word.specs.Writes.{Write}
 use Rattle.word.specs.declared.Cell.{Cell}
 use Rattle.word.specs.declared.Cell.the-variants.{Outside}
 use Rattle.pool.specs.declared.Space.{Space}
@@ -25,9 +26,9 @@ standsOf h sp = standsIn sp (roomOf h (sp .first) (sp .pages))
 unfoldable pub entryOf : List ℕ → Space → ℕ → ℕ → Cell
 entryOf s sp p i = cond (leb (sp .pages) (2 ^ 32)) (amongOf s (sp .origin) (sp .first) (bookPages (sp .pages)) (sp .pages) p i) Outside
 
--- the window with that entry set to w; as it is where there is none
-unfoldable pub entryWritten : List ℕ → Space → ℕ → ℕ → ℕ → List ℕ
-entryWritten s sp p i w = cond (leb (sp .pages) (2 ^ 32)) (amongWritten s (sp .origin) (sp .first) (bookPages (sp .pages)) (sp .pages) p i w) s
+-- setting that entry to w is one write; where there is none, no write
+unfoldable pub entryWrites : List ℕ → Space → ℕ → ℕ → ℕ → List Write
+entryWrites s sp p i w = cond (leb (sp .pages) (2 ^ 32)) (amongWrites s (sp .origin) (sp .first) (bookPages (sp .pages)) (sp .pages) p i w) []
 
 -- n pages more can be set aside
 unfoldable pub takesOf : Space → Book → ℕ → Bool

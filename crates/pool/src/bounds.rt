@@ -1,6 +1,7 @@
 // Where a pool lies, by as few comparisons as it takes: every operation asks for it.
 ghost use mathlib.Core.Path.{_≡_};
 ghost use Prim.Native.Nat.{_+_, _-_, _^_, _<_, _≤_};
+ghost use Rattle.word.specs.Writes.{Wrote};
 ghost use Rattle.pool.specs.Book as the;
 ghost use Rattle.pool.specs.Stands as stand;
 use crate::Space;
@@ -80,15 +81,16 @@ pub fn entry(mem: &[u8], space: Space, p: u64, i: u64) -> Cell
     )
 }
 
-// Sets entry i of page p, where the pool lies in the window and p is a page of it, and not the book's; and else nothing.
-pub fn set_entry(mem: &mut [u8], sp: Space, p: u64, i: u64, w: u64)
-    ensures { λ _. ⌜ now (mem .exit) ≡ stand.entryWritten (now (mem .entry)) sp p i w ⌝ }
+// Sets entry i of page p, where the pool lies in the window and p is a page of it, and not the book's: one write of the budget; else no write.
+pub fn set_entry(mem: &mut [u8], left: &mut u64, sp: Space, p: u64, i: u64, w: u64)
+    ensures { λ _. ⌜ Wrote (sp .origin) (stand.entryWrites (now (mem .entry)) sp p i w) (now (left .entry)) (now (left .exit)) (now (mem .entry)) (now (mem .exit)) ⌝ }
 {
     if 4294967296 < sp.pages {
         return;
     }
     word::write_among(
         mem,
+        left,
         sp.origin,
         sp.first,
         book_of(sp.pages),

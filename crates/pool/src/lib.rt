@@ -3,8 +3,9 @@
 ghost use mathlib.Core.Path.{_≡_};
 ghost use Prim.Native.Nat.{_+_, _*_, _/_, _%_, _^_, _<_, _≤_};
 ghost use mathlib.Core.Bool.{true};
-ghost use Rattle.word.specs.Memory.{memory, holds, readOf, written};
-ghost use Rattle.word.specs.Writes.{carried};
+ghost use Rattle.word.specs.Memory.{memory, holds};
+ghost use mathlib.Core.List.{[], _∷_};
+ghost use Rattle.word.specs.Writes.{Wrote};
 ghost use Rattle.pool.specs.Book as the;
 ghost use Rattle.pool.specs.Changes as to;
 ghost use Rattle.pool.specs.Stands as stand;
@@ -249,7 +250,7 @@ pub fn free_page(mem: &[u8], space: Space, book: Book, k: u64) -> Listed
 
 // The ticket of this moment: every page set aside so far has a smaller number, every later one has not.
 pub fn ticket(book: Book) -> u64
-    ensures { λ r. ⌜ (the.ticketOf book < 2 ^ 64 → r ≡ the.ticketOf book) ⌝ }
+    ensures { λ r. ⌜ r ≡ the.ticketIn book ⌝ }
 {
     if 18446744073709551615 - book.tickets < book.aside {
         return 0;
@@ -275,38 +276,39 @@ pub fn due_by(book: Book, ticket: u64) -> Due
     Due::Pages(k)
 }
 
-// Sets word k of the book.
-fn put(mem: &mut [u8], space: Space, k: u64, w: u64)
-    ensures { λ _. ⌜ now (mem .exit) ≡ written (now (mem .entry)) (space .origin) (space .first + k / 512) (k % 512) w ⌝ }
+// Sets word k of the book: one write of the budget. A page from 2^40 on lies in no window, so any such page will do.
+fn put(mem: &mut [u8], left: &mut u64, space: Space, k: u64, w: u64)
+    ensures { λ _. ⌜ Wrote (space .origin) (to.put space k w ∷ []) (now (left .entry)) (now (left .exit)) (now (mem .entry)) (now (mem .exit)) ⌝ }
 {
     if 1099511627776 <= space.first {
+        word::write(mem, left, space.origin, 1099511627776, k % 512, w);
         return;
     }
-    word::write(mem, space.origin, space.first + k / 512, k % 512, w)
+    word::write(mem, left, space.origin, space.first + k / 512, k % 512, w)
 }
 
 // The k oldest free pages were taken.
-pub fn took(mem: &mut [u8], space: Space, book: Book, k: u64)
-    ensures { λ _. ⌜ now (mem .exit) ≡ carried (now (mem .entry)) (space .origin) (to.tookWrites space book k) ⌝ }
+pub fn took(mem: &mut [u8], left: &mut u64, space: Space, book: Book, k: u64)
+    ensures { λ _. ⌜ Wrote (space .origin) (to.tookWrites space book k) (now (left .entry)) (now (left .exit)) (now (mem .entry)) (now (mem .exit)) ⌝ }
 {
     if book.free < k {
         return;
     }
     if sound(space.pages, book) {
-        put(mem, space, 2, spot(space.pages, book.head, k));
-        put(mem, space, 3, book.free - k);
+        put(mem, left, space, 2, spot(space.pages, book.head, k));
+        put(mem, left, space, 3, book.free - k);
     }
 }
 
 // Sets page p aside, behind all others, and answers the book after it.
-pub fn set_aside(mem: &mut [u8], space: Space, book: Book, p: u64) -> Book
+pub fn set_aside(mem: &mut [u8], left: &mut u64, space: Space, book: Book, p: u64) -> Book
     ensures { λ r. ⌜ r ≡ to.asideBook space book ⌝ }
-    ensures { λ _. ⌜ now (mem .exit) ≡ carried (now (mem .entry)) (space .origin) (to.asideWrites space book p) ⌝ }
+    ensures { λ _. ⌜ Wrote (space .origin) (to.asideWrites space book p) (now (left .entry)) (now (left .exit)) (now (mem .entry)) (now (mem .exit)) ⌝ }
 {
     if sound(space.pages, book) {
         let at = spot(space.pages, book.head, book.free + book.aside);
-        put(mem, space, 8 + at, p);
-        put(mem, space, 4, book.aside + 1);
+        put(mem, left, space, 8 + at, p);
+        put(mem, left, space, 4, book.aside + 1);
         return Book {
             head: book.head,
             free: book.free,
@@ -318,16 +320,16 @@ pub fn set_aside(mem: &mut [u8], space: Space, book: Book, p: u64) -> Book
 }
 
 // The k oldest pages set aside become free: the border moves, no slot is written.
-pub fn release(mem: &mut [u8], space: Space, book: Book, k: u64)
-    ensures { λ _. ⌜ now (mem .exit) ≡ carried (now (mem .entry)) (space .origin) (to.releaseWrites space book k) ⌝ }
+pub fn release(mem: &mut [u8], left: &mut u64, space: Space, book: Book, k: u64)
+    ensures { λ _. ⌜ Wrote (space .origin) (to.releaseWrites space book k) (now (left .entry)) (now (left .exit)) (now (mem .entry)) (now (mem .exit)) ⌝ }
 {
     if book.aside < k {
         return;
     }
     if sound(space.pages, book) {
-        put(mem, space, 3, book.free + k);
-        put(mem, space, 4, book.aside - k);
-        put(mem, space, 5, book.tickets + k);
+        put(mem, left, space, 3, book.free + k);
+        put(mem, left, space, 4, book.aside - k);
+        put(mem, left, space, 5, book.tickets + k);
     }
 }
 

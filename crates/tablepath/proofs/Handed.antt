@@ -2,16 +2,13 @@
 use Prim.Native.Nat.{ℕ}
 use mathlib.Core.Bool.{Bool}
 use mathlib.Core.Path.{_≡_, sym, ap, _∙_}
-use mathlib.Core.List.{List}
-use Rattle.word.specs.Writes.{Write}
 use Rattle.pool.specs.declared.Space.{Space}
 use Rattle.plan.specs.declared.maps.Asked.{Asked}
 use Rattle.plan.specs.declared.maps.Leaf.{Leaf}
 use Rattle.plan.specs.Map as map
-use Rattle.plan.proofs.Placings.{Leafed, leaf-writes}
-use Rattle.tablepath.specs.declared.Mapped.{Mapped}
+use Rattle.plan.proofs.Placings.{Leafed, here-did}
+use Rattle.tablepath.specs.Answers.{mapAnswer, mapWrites, mapSaid}
 use Rattle.tablepath.specs.declared.Mapped.the-variants as mapped
-use Rattle.tablepath.specs.Answers.{mapAnswer, mapWrites, mapSaid, mapDid}
 
 module _ (h : ℕ → Bool) (m : ℕ → ℕ) (sp : Space) (q : Asked) (c : Leaf) (k : Leafed (map.decideOf h m sp q) c) where
   pub here-answer : mapped.Done 0 ≡ mapAnswer h m sp q
@@ -19,5 +16,5 @@ module _ (h : ℕ → Bool) (m : ℕ → ℕ) (sp : Space) (q : Asked) (c : Leaf
   here-answer = sym (rw (k .decided) (ap mapped.Done (k .need)))
 
   pub here-writes : map.leafWrites c ≡ mapWrites h m sp q
-  unfolding mapWrites mapDid
-  here-writes = ap map.leafWrites (k .same) ∙ (leaf-writes sp (k .mapping) (k .level) (k .need) ∙ sym (rw (k .decided)))
+  unfolding mapWrites
+  here-writes = here-did sp (map.decideOf h m sp q) c k

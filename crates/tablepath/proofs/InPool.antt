@@ -36,23 +36,23 @@ use Rattle.effect.specs.OfPool.{OfPool}
 use Rattle.effect.proofs.MapInPool.{map-in-pool}
 use Rattle.effect.proofs.UnmapInPool.{unmap-in-pool}
 use Rattle.effect.proofs.InPool.{protect-in-pool, told-in-pool}
-use Rattle.tablepath.specs.Answers.{mapWrites, mapDid, unmapWrites, unmapDid, protectWrites, protectDid, toldWrites, toldDid, dueDid}
+use Rattle.tablepath.specs.Answers.{mapWrites, unmapWrites, protectWrites, toldWrites, toldDid, dueDid}
 use Rattle.tablepath.specs.Calls.{Call, callWrites}
 use Rattle.tablepath.specs.Calls as calls
 
 module _ (h : ℕ → Bool) (m : ℕ → ℕ) (sp : Space) where
-  did-map : (q : Asked) (x : Placed) → map.decideOf h m sp q ≡ x → Every (OfPool sp) (mapDid sp x)
-  unfolding mapDid
+  did-map : (q : Asked) (x : Placed) → map.decideOf h m sp q ≡ x → Every (OfPool sp) (map.didOf sp x)
+  unfolding map.didOf
   did-map q (map.Go p) e = map-in-pool h m sp q p e
   did-map q (map.Refused r) e = none
 
-  did-unmap : (va : ℕ) (x : Removing) → unmap.decideOf h m sp va ≡ x → Every (OfPool sp) (unmapDid sp va x)
-  unfolding unmapDid
+  did-unmap : (va : ℕ) (x : Removing) → unmap.decideOf h m sp va ≡ x → Every (OfPool sp) (unmap.didOf sp va x)
+  unfolding unmap.didOf
   did-unmap va (removing.Go r) e = unmap-in-pool h m sp va r e
   did-unmap va (removing.Refused y) e = none
 
-  did-protect : (va : ℕ) (g : Rights) (x : Changing) → protect.decideOf h m sp va g ≡ x → Every (OfPool sp) (protectDid x)
-  unfolding protectDid
+  did-protect : (va : ℕ) (g : Rights) (x : Changing) → protect.decideOf h m sp va g ≡ x → Every (OfPool sp) (protect.didOf x)
+  unfolding protect.didOf
   did-protect va g (changing.Go c) e = protect-in-pool h m sp va g c e
   did-protect va g (changing.Refused y) e = none
 

@@ -1,4 +1,3 @@
-pub mod Low
 pub mod Handed
 pub mod Marking
 pub mod Serving
@@ -11,4 +10,7 @@ pub mod Reported
 pub mod MapUnmap
 pub mod InPool
 pub mod Witness
+pub mod SaysAny
+pub mod SaysCreate
+pub mod Says
 pub mod Tickets

@@ -39,7 +39,7 @@ use Rattle.effect.proofs.UnmapDone.{unmapped}
 use Rattle.effect.proofs.ProtectDone.{protected}
 use Rattle.effect.proofs.ToldDone.{told}
 use Rattle.effect.proofs.Exactly.{unmap-exactly}
-use Rattle.tablepath.specs.Answers.{mapAnswer, mapWrites, mapSaid, mapDid, unmapAnswer, unmapWrites, unmapSaid, unmapDid, goneOf, protectAnswer, protectWrites, protectSaid, protectDid, toldWrites, toldDid, dueDid}
+use Rattle.tablepath.specs.Answers.{mapAnswer, mapWrites, mapSaid, unmapAnswer, unmapWrites, unmapSaid, goneOf, protectAnswer, protectWrites, protectSaid, toldWrites, toldDid, dueDid}
 use Rattle.tablepath.specs.declared.Mapped.the-variants as mapped
 use Rattle.tablepath.specs.declared.Unmapped.the-variants as unmapped′
 use Rattle.tablepath.specs.declared.Gone.{Gone}
@@ -68,9 +68,9 @@ module _ (s : List ℕ) (sp : Space) (role : ℕ → Role) (w : Whole (holds s (
     withPage = carried s (sp .origin) (mapWrites (holds s (sp .origin)) (memory s (sp .origin)) sp q)
 
     map-looks : (x : Placed) → map.decideOf (holds s (sp .origin)) (memory s (sp .origin)) sp q ≡ x → mapSaid x ≡ mapped.Done k → (va : ℕ)
-        → (In (q .base) (q .size) va → lookUp (carried s (sp .origin) (mapDid sp x)) sp va ≡ Page (q .base) (q .size) (q .frame) (q .rights))
-        × ((In (q .base) (q .size) va → ⊥) → lookUp (carried s (sp .origin) (mapDid sp x)) sp va ≡ lookUp s sp va)
-    unfolding mapSaid mapDid
+        → (In (q .base) (q .size) va → lookUp (carried s (sp .origin) (map.didOf sp x)) sp va ≡ Page (q .base) (q .size) (q .frame) (q .rights))
+        × ((In (q .base) (q .size) va → ⊥) → lookUp (carried s (sp .origin) (map.didOf sp x)) sp va ≡ lookUp s sp va)
+    unfolding mapSaid map.didOf
     map-looks (map.Refused r) e f va = let z : _≡_ {A = ℕ} 0 1 = cc in absurd (omega arith)
     map-looks (map.Go p) e f va =
         let d = decided-done w q p e in
@@ -97,8 +97,8 @@ pub record Swapped (s s' : List ℕ) (sp : Space) (base size frame : ℕ) (o : F
 
 module _ (s : List ℕ) (sp : Space) (role : ℕ → Role) (w : Whole (holds s (sp .origin)) sp (memory s (sp .origin)) role) where
   unmap-swaps : (base : ℕ) (g : Gone) (x : Removing) → unmap.decideOf (holds s (sp .origin)) (memory s (sp .origin)) sp base ≡ x → unmapSaid sp x ≡ unmapped′.Done g
-      → Swapped s (carried s (sp .origin) (unmapDid sp base x)) sp base (g .size) (g .frame) Nothing
-  unfolding unmapSaid unmapDid goneOf
+      → Swapped s (carried s (sp .origin) (unmap.didOf sp base x)) sp base (g .size) (g .frame) Nothing
+  unfolding unmapSaid unmap.didOf goneOf
   unmap-swaps base g (removing.Refused y) e f = let z : _≡_ {A = ℕ} 0 1 = cc in absurd (omega arith)
   unmap-swaps base g (removing.Go r) e f =
       let same : goneOf sp r ≡ g = cc in
@@ -126,8 +126,8 @@ module _ (s : List ℕ) (sp : Space) (role : ℕ → Role) (w : Whole (holds s (
   look-up-after-unmap base g e = unmap-swaps base g (unmap.decideOf (holds s (sp .origin)) (memory s (sp .origin)) sp base) refl e
 
   protect-swaps : (base : ℕ) (r : Rights) (g : Same) (x : Changing) → protect.decideOf (holds s (sp .origin)) (memory s (sp .origin)) sp base r ≡ x
-      → protectSaid x ≡ protected′.Done g → Swapped s (carried s (sp .origin) (protectDid x)) sp base (g .size) (g .frame) (Page base (g .size) (g .frame) r)
-  unfolding protectSaid protectDid
+      → protectSaid x ≡ protected′.Done g → Swapped s (carried s (sp .origin) (protect.didOf x)) sp base (g .size) (g .frame) (Page base (g .size) (g .frame) r)
+  unfolding protectSaid protect.didOf
   protect-swaps base r g (changing.Refused y) e f = let z : _≡_ {A = ℕ} 0 1 = cc in absurd (omega arith)
   protect-swaps base r g (changing.Go c) e f =
       let same : record { frame = c .frame; size = c .size } ≡ g = cc in

@@ -35,7 +35,7 @@ use Rattle.effect.proofs.ToldDone as effect
 use Rattle.effect.proofs.Exactly.{unmap-exactly, protect-exactly, told-exactly}
 use Rattle.tablepath.specs.declared.Same.{Same}
 use Rattle.tablepath.specs.declared.Report.the-variants as told
-use Rattle.tablepath.specs.Answers.{mapAnswer, mapWrites, mapSaid, mapDid, unmapAnswer, unmapWrites, unmapSaid, unmapDid, goneOf, protectAnswer, protectSaid, toldAnswer, toldWrites, toldSaid, toldDid, dueSaid, dueDid}
+use Rattle.tablepath.specs.Answers.{mapAnswer, mapWrites, mapSaid, unmapAnswer, unmapWrites, unmapSaid, goneOf, protectAnswer, protectSaid, toldAnswer, toldWrites, toldSaid, toldDid, dueSaid, dueDid}
 use Rattle.tablepath.proofs.SaysAny.{map-refused-by, map-done-by, unmap-refused-by, unmap-done-by, protect-refused-by, protect-done-by, due-unknown, due-spent, due-released, due-no-refusal}
 use Rattle.tablepath.specs.Says.{MapMade, MapSays, afterUnmap, UnmapGone, UnmapSays, ProtectSays, ToldReleased, ToldSays}
 
@@ -43,7 +43,7 @@ use Rattle.tablepath.specs.Says.{MapMade, MapSays, afterUnmap, UnmapGone
 
 module _ {h : ℕ → Bool} {sp : Space} {m : ℕ → ℕ} {role : ℕ → Role} (w : Whole h sp m role) where
   map-made : (q : Asked) (p : Mapping) → map.decideOf h m sp q ≡ map.Go p → MapMade h sp m role q (p .fresh .need)
-  unfolding mapWrites mapDid
+  unfolding mapWrites map.didOf
   map-made q p e =
       let d = decided-done w q p e in
       record {
@@ -129,15 +129,15 @@ module _ {h : ℕ → Bool} {sp : Space} {m : ℕ → ℕ} {role : ℕ → Role}
 
     -- the ticket that is answered
     ticket-is : ticketOf (unmap.bookAfter sp r) ≡ cond (ltb 0 (r .empties)) (ticketOf (bookOf (afterUnmap h m sp va) sp)) 0
-    unfolding unmapWrites unmapDid
+    unfolding unmapWrites unmap.didOf
     ticket-is = elim (decLt 0 (r .empties)) [ yes u ↦ rw (lt-ltb 0 (r .empties) u, e) (ap ticketOf (d .book u)) | no u ↦ rw (le-ltb 0 (r .empties) (omega arith)) (ap ticketOf (d .none (omega arith))) ]
 
     whole-now : Whole h sp (afterUnmap h m sp va) (d .role')
-    unfolding unmapWrites unmapDid
+    unfolding unmapWrites unmap.didOf
     whole-now = rw e (d .whole)
 
     unmap-gone : UnmapGone h sp m role va (goneOf sp r)
-    unfolding goneOf unmapWrites unmapDid
+    unfolding goneOf unmapWrites unmap.didOf
     unmap-gone = record {
       had = d .had;
       before = d .before;

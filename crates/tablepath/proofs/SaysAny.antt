@@ -38,7 +38,7 @@ use Rattle.tablepath.specs.declared.Unmapped.the-variants as unmapped
 use Rattle.tablepath.specs.declared.Same.{Same}
 use Rattle.tablepath.specs.declared.Protected.the-variants as protected
 use Rattle.tablepath.specs.declared.Report.the-variants as told
-use Rattle.tablepath.specs.Answers.{mapAnswer, mapWrites, mapSaid, mapDid, unmapAnswer, unmapWrites, unmapSaid, unmapDid, goneOf, protectAnswer, protectWrites, protectSaid, protectDid, toldAnswer, toldWrites, toldSaid, toldDid, dueSaid, dueDid}
+use Rattle.tablepath.specs.Answers.{mapAnswer, mapWrites, mapSaid, unmapAnswer, unmapWrites, unmapSaid, goneOf, protectAnswer, protectWrites, protectSaid, toldAnswer, toldWrites, toldSaid, toldDid, dueSaid, dueDid}
 use Rattle.tablepath.specs.Says.{ToldOpened, Declined, RefusalLeaves}
 
 -- An answer comes of one decision --------------------------------------------------------------------------------------------------
@@ -136,7 +136,7 @@ told-none s sp t (opened.Book b) d = due-none s sp b (dueOf b t) d
 told-none s sp t (opened.Refused r) d = refl
 
 pub refusal-leaves : (s : List ℕ) → RefusalLeaves s
-unfolding createdOf createWrites mapAnswer mapWrites mapDid unmapAnswer unmapWrites unmapDid protectAnswer protectWrites protectDid toldAnswer toldWrites carried
+unfolding createdOf createWrites mapAnswer mapWrites map.didOf unmapAnswer unmapWrites unmap.didOf protectAnswer protectWrites protect.didOf toldAnswer toldWrites carried
 refusal-leaves s = record {
   create = λ origin first pages y e. create-none s origin first pages y (mayCreate (length s) (holds s origin) origin first pages) e;
   map = λ sp q y e. rw (map-refused-by y (map.decideOf (holds s (sp .origin)) (memory s (sp .origin)) sp q) e);

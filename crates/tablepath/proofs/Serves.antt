@@ -42,7 +42,7 @@ use Rattle.effect.proofs.ProtectDone.{protected}
 use Rattle.effect.proofs.ToldDone as effect
 use Rattle.effect.proofs.Wholes.{book-opens}
 use Rattle.effect.proofs.Numbers.{release-ticket}
-use Rattle.tablepath.specs.Answers.{mapWrites, mapDid, unmapWrites, unmapDid, protectWrites, protectDid, toldWrites, toldDid, dueDid}
+use Rattle.tablepath.specs.Answers.{mapWrites, unmapWrites, protectWrites, toldWrites, toldDid, dueDid}
 use Rattle.tablepath.specs.Calls.{Call, Within, callWrites, From}
 use Rattle.tablepath.specs.Calls as calls
 use Rattle.tablepath.proofs.Serving.{Served, changed-serves, numbered-aside}
@@ -54,21 +54,21 @@ module _ (h : ℕ → Bool) (sp : Space) (n : ℕ) (m : ℕ → ℕ) (role : ℕ
   unfolding after eventsOf
   none-served = record { role = role; whole = w; obeys = obeys-nil (walkerOf (settingOf h sp)) (From sp n m) m; ticket = u }
 
-  map-served : (q : Asked) (x : Placed) → map.decideOf h m sp q ≡ x → Served h sp n m (mapDid sp x)
-  unfolding mapDid
+  map-served : (q : Asked) (x : Placed) → map.decideOf h m sp q ≡ x → Served h sp n m (map.didOf sp x)
+  unfolding map.didOf
   map-served q (map.Refused r) e = none-served
   map-served q (map.Go p) e = let d = decided-done w q p e in changed-serves w u (d .changed) (d .whole) (d .numbers)
 
-  unmap-served : (va : ℕ) (x : Removing) → unmap.decideOf h m sp va ≡ x → Served h sp n m (unmapDid sp va x)
-  unfolding unmapDid
+  unmap-served : (va : ℕ) (x : Removing) → unmap.decideOf h m sp va ≡ x → Served h sp n m (unmap.didOf sp va x)
+  unfolding unmap.didOf
   unmap-served va (removing.Refused y) e = none-served
   unmap-served va (removing.Go r) e =
       let d = unmapped w va r e in
       changed-serves w u (d .changed) (d .whole)
       (record { numbers = d .numbers; tickets = ap (λ (b : Book). b .tickets) (d .counts); more = omega (arith, ap (λ (b : Book). b .aside) (d .counts)) })
 
-  protect-served : (va : ℕ) (g : Rights) (x : Changing) → protect.decideOf h m sp va g ≡ x → Served h sp n m (protectDid x)
-  unfolding protectDid
+  protect-served : (va : ℕ) (g : Rights) (x : Changing) → protect.decideOf h m sp va g ≡ x → Served h sp n m (protect.didOf x)
+  unfolding protect.didOf
   protect-served va g (changing.Refused y) e = none-served
   protect-served va g (changing.Go c) e =
       let d = protected w va g c e in

@@ -41,7 +41,7 @@ use Rattle.effect.proofs.MapDone.{decided-done}
 use Rattle.effect.proofs.UnmapDone.{unmapped}
 use Rattle.effect.proofs.ProtectDone.{protected}
 use Rattle.effect.proofs.ToldDone as effect
-use Rattle.tablepath.specs.Answers.{mapWrites, mapDid, unmapWrites, unmapDid, protectWrites, protectDid, toldWrites, toldDid, dueDid}
+use Rattle.tablepath.specs.Answers.{mapWrites, unmapWrites, protectWrites, toldWrites, toldDid, dueDid}
 use Rattle.tablepath.specs.Calls.{Call, callWrites}
 use Rattle.tablepath.specs.Calls as calls
 
@@ -90,25 +90,25 @@ module _ (s : List ℕ) (origin first pages : ℕ) where
 
 module _ (h : ℕ → Bool) (sp : Space) (m : ℕ → ℕ) (role : ℕ → Role) (w : Whole h sp m role) where
   -- what a list of writes leaves
-  abbrev Leaves : List Write → Type 0
+  abbrev pub Leaves : List Write → Type 0
   Leaves ws = ((role' : ℕ → Role) × Whole h sp (after m ws) role') × Every (λ q. h q ≡ true) ws
 
   none-leaves : Leaves []
   unfolding after
   none-leaves = ((role, w), none)
 
-  map-leaves : (q : Asked) (x : Placed) → map.decideOf h m sp q ≡ x → Leaves (mapDid sp x)
-  unfolding mapDid
+  map-leaves : (q : Asked) (x : Placed) → map.decideOf h m sp q ≡ x → Leaves (map.didOf sp x)
+  unfolding map.didOf
   map-leaves q (map.Refused r) e = none-leaves
   map-leaves q (map.Go p) e = let d = decided-done w q p e in ((d .role', d .whole), every-map (λ x u. u .held) (map.writesOf sp p) (d .proper))
 
-  unmap-leaves : (va : ℕ) (x : Removing) → unmap.decideOf h m sp va ≡ x → Leaves (unmapDid sp va x)
-  unfolding unmapDid
+  unmap-leaves : (va : ℕ) (x : Removing) → unmap.decideOf h m sp va ≡ x → Leaves (unmap.didOf sp va x)
+  unfolding unmap.didOf
   unmap-leaves va (removing.Refused y) e = none-leaves
   unmap-leaves va (removing.Go r) e = let d = unmapped w va r e in ((d .role', d .whole), every-held w (unmap.writesOf sp va r) (d .proper))
 
-  protect-leaves : (va : ℕ) (g : Rights) (x : Changing) → protect.decideOf h m sp va g ≡ x → Leaves (protectDid x)
-  unfolding protectDid
+  protect-leaves : (va : ℕ) (g : Rights) (x : Changing) → protect.decideOf h m sp va g ≡ x → Leaves (protect.didOf x)
+  unfolding protect.didOf
   protect-leaves va g (changing.Refused y) e = none-leaves
   protect-leaves va g (changing.Go c) e = let d = protected w va g c e in ((role, d .whole), every-held w (protect.writesOf c) (d .proper))
 
@@ -118,7 +118,7 @@ module _ (h : ℕ → Bool) (sp : Space) (m : ℕ → ℕ) (role : ℕ → Role)
   due-leaves t due.Spent e = none-leaves
   due-leaves t (due.Pages k) e = let d = effect.told w t k e in ((_, d .whole), every-held w _ (d .proper))
 
-  call-leaves : (c : Call) → Leaves (callWrites h m sp c)
+  pub call-leaves : (c : Call) → Leaves (callWrites h m sp c)
   unfolding callWrites mapWrites unmapWrites protectWrites toldWrites toldDid
   call-leaves (calls.map q) = map-leaves q (map.decideOf h m sp q) refl
   call-leaves (calls.unmap va) = unmap-leaves va (unmap.decideOf h m sp va) refl

@@ -38,15 +38,11 @@ unfoldable pub mapSaid : Placed → Mapped
 mapSaid (map.Go p) = mapped.Done (p .fresh .need)
 mapSaid (map.Refused r) = mapped.Refused r
 
-unfoldable pub mapDid : Space → Placed → List Write
-mapDid sp (map.Go p) = map.writesOf sp p
-mapDid sp (map.Refused r) = []
-
 unfoldable pub mapAnswer : (ℕ → Bool) → (ℕ → ℕ) → Space → Asked → Mapped
 mapAnswer h m sp q = mapSaid (map.decideOf h m sp q)
 
 unfoldable pub mapWrites : (ℕ → Bool) → (ℕ → ℕ) → Space → Asked → List Write
-mapWrites h m sp q = mapDid sp (map.decideOf h m sp q)
+mapWrites h m sp q = map.didOf sp (map.decideOf h m sp q)
 
 -- Unmap ------------------------------------------------------------------------------------------------------------------------
 
@@ -63,15 +59,11 @@ unfoldable pub unmapSaid : Space → Removing → Unmapped
 unmapSaid sp (removing.Go r) = unmapped.Done (goneOf sp r)
 unmapSaid sp (removing.Refused y) = unmapped.Refused y
 
-unfoldable pub unmapDid : Space → ℕ → Removing → List Write
-unmapDid sp va (removing.Go r) = unmap.writesOf sp va r
-unmapDid sp va (removing.Refused y) = []
-
 unfoldable pub unmapAnswer : (ℕ → Bool) → (ℕ → ℕ) → Space → ℕ → Unmapped
 unmapAnswer h m sp va = unmapSaid sp (unmap.decideOf h m sp va)
 
 unfoldable pub unmapWrites : (ℕ → Bool) → (ℕ → ℕ) → Space → ℕ → List Write
-unmapWrites h m sp va = unmapDid sp va (unmap.decideOf h m sp va)
+unmapWrites h m sp va = unmap.didOf sp va (unmap.decideOf h m sp va)
 
 -- Protect ----------------------------------------------------------------------------------------------------------------------
 
@@ -79,15 +71,11 @@ unfoldable pub protectSaid : Changing → Protected
 protectSaid (changing.Go c) = protected.Done (record { frame = c .frame; size = c .size })
 protectSaid (changing.Refused y) = protected.Refused y
 
-unfoldable pub protectDid : Changing → List Write
-protectDid (changing.Go c) = protect.writesOf c
-protectDid (changing.Refused y) = []
-
 unfoldable pub protectAnswer : (ℕ → Bool) → (ℕ → ℕ) → Space → ℕ → Rights → Protected
 protectAnswer h m sp va r = protectSaid (protect.decideOf h m sp va r)
 
 unfoldable pub protectWrites : (ℕ → Bool) → (ℕ → ℕ) → Space → ℕ → Rights → List Write
-protectWrites h m sp va r = protectDid (protect.decideOf h m sp va r)
+protectWrites h m sp va r = protect.didOf (protect.decideOf h m sp va r)
 
 -- Told ---------------------------------------------------------------------------------------------------------------------------
 

@@ -139,9 +139,9 @@ pub record ToldReleased (h : ℕ → Bool) (sp : Space) (m : ℕ → ℕ) (role 
   pub others : (p : ℕ) → role p ≢ aside → role' p ≡ role p
 
 pub record ToldSays (h : ℕ → Bool) (sp : Space) (m : ℕ → ℕ) (role : ℕ → Role) (t : ℕ) : Type 0 where
-  -- unknown: exactly a ticket that was never handed out
+  -- unknown: exactly a ticket above the present one
   pub unknown : (toldAnswer h m sp t ≡ told.Unknown) ↔ (ticketOf (bookOf m sp) < t)
-  -- spent: exactly one that was, and with which the numbers would run out
+  -- spent: exactly one that is not, and with which the numbers would run out
   pub spent : (toldAnswer h m sp t ≡ told.Spent) ↔ ((t ≤ ticketOf (bookOf m sp)) × (2 ^ 62 < t))
   -- done with exactly all others
   pub done : ((k : ℕ) × (toldAnswer h m sp t ≡ told.Released k)) ↔ ((t ≤ ticketOf (bookOf m sp)) × (t ≤ 2 ^ 62))

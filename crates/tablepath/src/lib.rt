@@ -1,17 +1,19 @@
 // Page tables in lent bytes: create, map, unmap, protect, look up, and told. Each operation decides first, only reading, and then carries
 // its plan out. Any bytes and any numbers will do: what cannot be done is refused with a reason, and then no byte has changed.
+// Each operation that writes also stands here with a budget of writes (`up_to`): stopped after any of them, the bytes are those at entry
+// with the first so many planned writes carried out. That is the order in which it writes.
 ghost use mathlib.Core.Path.{_≡_};
 ghost use lib.ListN.{length};
 ghost use Rattle.word.specs.Memory.{memory, holds};
-ghost use Rattle.word.specs.Writes.{carried};
+ghost use Rattle.word.specs.Writes.{Wrote, carried};
 ghost use Rattle.walk.specs.Walk.{walk};
 ghost use Rattle.pool.specs.Create as made;
 ghost use Rattle.tablepath.specs.Answers as the;
 use plan::Asked;
 use plan::Changing;
-use plan::Placing;
+use plan::Making;
 use plan::Reason;
-use plan::Removing;
+use plan::Unmapping;
 use pool::Created;
 use pool::Due;
 use pool::Opened;
@@ -58,12 +60,33 @@ pub enum Report {
     Refused(pool::Reason),
 }
 
+// Create, up to so many writes.
+pub fn create_up_to(mem: &mut [u8], left: &mut u64, origin: u64, first: u64, pages: u64) -> Created
+    ensures answer { λ r. ⌜ r ≡ made.createdOf (length (now (mem .entry))) (holds (now (mem .entry)) origin) origin first pages ⌝ }
+    ensures order { λ _. ⌜ Wrote origin (made.createWrites (length (now (mem .entry))) (holds (now (mem .entry)) origin) origin first pages) (now (left .entry)) (now (left .exit)) (now (mem .entry)) (now (mem .exit)) ⌝ }
+{
+    pool::create(mem, left, origin, first, pages)
+}
+
 // Makes a pool of these pages, its book and an empty root; answers the root's page.
 pub fn create(mem: &mut [u8], origin: u64, first: u64, pages: u64) -> Created
     ensures answer { λ r. ⌜ r ≡ made.createdOf (length (now (mem .entry))) (holds (now (mem .entry)) origin) origin first pages ⌝ }
     ensures bytes { λ _. ⌜ now (mem .exit) ≡ carried (now (mem .entry)) origin (made.createWrites (length (now (mem .entry))) (holds (now (mem .entry)) origin) origin first pages) ⌝ }
 {
-    pool::create(mem, origin, first, pages)
+    let mut left: u64 = word::ENDLESS;
+    create_up_to(mem, &mut left, origin, first, pages)
+}
+
+// Map, up to so many writes.
+pub fn map_up_to(mem: &mut [u8], left: &mut u64, space: Space, q: Asked) -> Mapped
+    ensures answer { λ r. ⌜ r ≡ the.mapAnswer (holds (now (mem .entry)) (space .origin)) (memory (now (mem .entry)) (space .origin)) space q ⌝ }
+    ensures order { λ _. ⌜ Wrote (space .origin) (the.mapWrites (holds (now (mem .entry)) (space .origin)) (memory (now (mem .entry)) (space .origin)) space q) (now (left .entry)) (now (left .exit)) (now (mem .entry)) (now (mem .exit)) ⌝ }
+{
+    let d = plan::map(mem, left, space, q);
+    match d {
+        Making::Refused(r) => Mapped::Refused(r),
+        Making::Done(k) => Mapped::Done(k),
+    }
 }
 
 // Maps the frame at the base, with these rights.
@@ -71,17 +94,26 @@ pub fn map(mem: &mut [u8], space: Space, q: Asked) -> Mapped
     ensures answer { λ r. ⌜ r ≡ the.mapAnswer (holds (now (mem .entry)) (space .origin)) (memory (now (mem .entry)) (space .origin)) space q ⌝ }
     ensures bytes { λ _. ⌜ now (mem .exit) ≡ carried (now (mem .entry)) (space .origin) (the.mapWrites (holds (now (mem .entry)) (space .origin)) (memory (now (mem .entry)) (space .origin)) space q) ⌝ }
 {
-    let d = plan::decide_map(mem, space, q);
+    let mut left: u64 = word::ENDLESS;
+    map_up_to(mem, &mut left, space, q)
+}
+
+// Unmap, up to so many writes.
+pub fn unmap_up_to(mem: &mut [u8], left: &mut u64, space: Space, base: u64) -> Unmapped
+    ensures answer { λ r. ⌜ r ≡ the.unmapAnswer (holds (now (mem .entry)) (space .origin)) (memory (now (mem .entry)) (space .origin)) space base ⌝ }
+    ensures order { λ _. ⌜ Wrote (space .origin) (the.unmapWrites (holds (now (mem .entry)) (space .origin)) (memory (now (mem .entry)) (space .origin)) space base) (now (left .entry)) (now (left .exit)) (now (mem .entry)) (now (mem .exit)) ⌝ }
+{
+    let d = plan::unmap(mem, left, space, base);
     match d {
-        Placing::Refused(r) => Mapped::Refused(r),
-        Placing::Here(c) => {
-            plan::carry_here(mem, space, c);
-            Mapped::Done(0)
-        }
-        Placing::Built(p) => {
-            plan::carry_map(mem, space, p);
-            let f = p.fresh;
-            Mapped::Done(f.need)
+        Unmapping::Refused(r) => Unmapped::Refused(r),
+        Unmapping::Done(p, ticket) => {
+            let s = p.spot;
+            Unmapped::Done(Gone {
+                frame: s.frame,
+                size: s.size,
+                aside: p.empties,
+                ticket: ticket,
+            })
         }
     }
 }
@@ -91,19 +123,28 @@ pub fn unmap(mem: &mut [u8], space: Space, base: u64) -> Unmapped
     ensures answer { λ r. ⌜ r ≡ the.unmapAnswer (holds (now (mem .entry)) (space .origin)) (memory (now (mem .entry)) (space .origin)) space base ⌝ }
     ensures bytes { λ _. ⌜ now (mem .exit) ≡ carried (now (mem .entry)) (space .origin) (the.unmapWrites (holds (now (mem .entry)) (space .origin)) (memory (now (mem .entry)) (space .origin)) space base) ⌝ }
 {
-    let d = plan::decide_unmap(mem, space, base);
+    let mut left: u64 = word::ENDLESS;
+    unmap_up_to(mem, &mut left, space, base)
+}
+
+// Protect, up to so many writes.
+pub fn protect_up_to(
+    mem: &mut [u8],
+    left: &mut u64,
+    space: Space,
+    base: u64,
+    rights: entry::Rights,
+) -> Protected
+    ensures answer { λ r. ⌜ r ≡ the.protectAnswer (holds (now (mem .entry)) (space .origin)) (memory (now (mem .entry)) (space .origin)) space base rights ⌝ }
+    ensures order { λ _. ⌜ Wrote (space .origin) (the.protectWrites (holds (now (mem .entry)) (space .origin)) (memory (now (mem .entry)) (space .origin)) space base rights) (now (left .entry)) (now (left .exit)) (now (mem .entry)) (now (mem .exit)) ⌝ }
+{
+    let d = plan::protect(mem, left, space, base, rights);
     match d {
-        Removing::Refused(r) => Unmapped::Refused(r),
-        Removing::Go(p) => {
-            let b = plan::carry_unmap(mem, space, base, p);
-            let s = p.spot;
-            Unmapped::Done(Gone {
-                frame: s.frame,
-                size: s.size,
-                aside: p.empties,
-                ticket: pool::ticket(b),
-            })
-        }
+        Changing::Refused(r) => Protected::Refused(r),
+        Changing::Go(c) => Protected::Done(Same {
+            frame: c.frame,
+            size: c.size,
+        }),
     }
 }
 
@@ -112,30 +153,14 @@ pub fn protect(mem: &mut [u8], space: Space, base: u64, rights: entry::Rights) -
     ensures answer { λ r. ⌜ r ≡ the.protectAnswer (holds (now (mem .entry)) (space .origin)) (memory (now (mem .entry)) (space .origin)) space base rights ⌝ }
     ensures bytes { λ _. ⌜ now (mem .exit) ≡ carried (now (mem .entry)) (space .origin) (the.protectWrites (holds (now (mem .entry)) (space .origin)) (memory (now (mem .entry)) (space .origin)) space base rights) ⌝ }
 {
-    let d = plan::decide_protect(mem, space, base, rights);
-    match d {
-        Changing::Refused(r) => Protected::Refused(r),
-        Changing::Go(c) => {
-            plan::carry_protect(mem, space, c);
-            Protected::Done(Same {
-                frame: c.frame,
-                size: c.size,
-            })
-        }
-    }
+    let mut left: u64 = word::ENDLESS;
+    protect_up_to(mem, &mut left, space, base, rights)
 }
 
-// What the address means; the root is given as in CR3.
-pub fn look_up(mem: &[u8], origin: u64, root: u64, va: u64) -> Found
-    ensures answer { λ f. ⌜ f ≡ walk (holds (now (mem .entry)) origin) (memory (now (mem .entry)) origin) root va ⌝ }
-{
-    walk::look_up(mem, origin, root, va)
-}
-
-// The caller reports that every cache was told of what had happened when this ticket was handed out: the pages set aside until then are free.
-pub fn told(mem: &mut [u8], space: Space, ticket: u64) -> Report
+// Told, up to so many writes.
+pub fn told_up_to(mem: &mut [u8], left: &mut u64, space: Space, ticket: u64) -> Report
     ensures answer { λ r. ⌜ r ≡ the.toldAnswer (holds (now (mem .entry)) (space .origin)) (memory (now (mem .entry)) (space .origin)) space ticket ⌝ }
-    ensures bytes { λ _. ⌜ now (mem .exit) ≡ carried (now (mem .entry)) (space .origin) (the.toldWrites (holds (now (mem .entry)) (space .origin)) (memory (now (mem .entry)) (space .origin)) space ticket) ⌝ }
+    ensures order { λ _. ⌜ Wrote (space .origin) (the.toldWrites (holds (now (mem .entry)) (space .origin)) (memory (now (mem .entry)) (space .origin)) space ticket) (now (left .entry)) (now (left .exit)) (now (mem .entry)) (now (mem .exit)) ⌝ }
 {
     let o = pool::open(mem, space);
     match o {
@@ -146,10 +171,26 @@ pub fn told(mem: &mut [u8], space: Space, ticket: u64) -> Report
                 Due::Unknown => Report::Unknown,
                 Due::Spent => Report::Spent,
                 Due::Pages(k) => {
-                    pool::release(mem, space, b, k);
+                    pool::release(mem, left, space, b, k);
                     Report::Released(k)
                 }
             }
         }
     }
+}
+
+// The caller reports that every cache was told of what had happened when this ticket was handed out: the pages set aside until then are free.
+pub fn told(mem: &mut [u8], space: Space, ticket: u64) -> Report
+    ensures answer { λ r. ⌜ r ≡ the.toldAnswer (holds (now (mem .entry)) (space .origin)) (memory (now (mem .entry)) (space .origin)) space ticket ⌝ }
+    ensures bytes { λ _. ⌜ now (mem .exit) ≡ carried (now (mem .entry)) (space .origin) (the.toldWrites (holds (now (mem .entry)) (space .origin)) (memory (now (mem .entry)) (space .origin)) space ticket) ⌝ }
+{
+    let mut left: u64 = word::ENDLESS;
+    told_up_to(mem, &mut left, space, ticket)
+}
+
+// What the address means; the root is given as in CR3.
+pub fn look_up(mem: &[u8], origin: u64, root: u64, va: u64) -> Found
+    ensures answer { λ f. ⌜ f ≡ walk (holds (now (mem .entry)) origin) (memory (now (mem .entry)) origin) root va ⌝ }
+{
+    walk::look_up(mem, origin, root, va)
 }

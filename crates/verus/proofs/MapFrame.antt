@@ -32,7 +32,7 @@ use Rattle.effect.specs.MapRefused.{Cause, FrameApart, Mapped, no-size, base-un
 use Rattle.effect.proofs.Wholes.{root-low}
 use Rattle.effect.proofs.MapDone.{decided-done, mapped-inside, mapped-outside}
 use Rattle.effect.proofs.MapRefused.{map-refused, map-succeeds}
-use Rattle.tablepath.specs.Answers.{mapAnswer, mapWrites, mapSaid, mapDid}
+use Rattle.tablepath.specs.Answers.{mapAnswer, mapWrites, mapSaid}
 use Rattle.tablepath.specs.declared.Mapped.the-variants as mapped′
 use Rattle.verus.specs.Regions.{PTE, pteOf}
 use Rattle.verus.specs.Mappings.{CandidateOverlaps, AcceptedMapping, EntrySize, inserted, maxBase, maxPhyaddr}
@@ -132,10 +132,10 @@ module _ {h : ℕ → Bool} {sp : Space} {m : ℕ → ℕ} {role : ℕ → Role}
 
   -- MAP_FRAME, OK: the candidate overlapped nothing; the one changing write was made; the map has the page, and nothing else has changed.
   pub map-ok : (k : ℕ) → mapAnswer h m sp q ≡ mapped′.Done k → MapOk h sp m (mapWrites h m sp q) (q .base) (asked q)
-  unfolding mapAnswer mapWrites mapSaid mapDid
+  unfolding mapAnswer mapWrites mapSaid map.didOf
   map-ok k done = go (map.decideOf h m sp q) refl done
     where
-      go : (x : Placed) → map.decideOf h m sp q ≡ x → mapSaid x ≡ mapped′.Done k → MapOk h sp m (mapDid sp x) (q .base) (asked q)
+      go : (x : Placed) → map.decideOf h m sp q ≡ x → mapSaid x ≡ mapped′.Done k → MapOk h sp m (map.didOf sp x) (q .base) (asked q)
       go (map.Refused r) e f = let z : _≡_ {A = ℕ} 0 1 = cc in absurd (omega arith)
       go (map.Go p) e f = map-made p e
 
@@ -143,7 +143,7 @@ module _ {h : ℕ → Bool} {sp : Space} {m : ℕ → ℕ} {role : ℕ → Role}
   -- was written, and the candidate overlaps.
   pub map-err : (y : Reason) → mapAnswer h m sp q ≡ mapped′.Refused y → AcceptedMapping (q .base) (asked q) → FrameApart h sp q → 3 ≤ bookOf m sp .free
       → MapErr sp m (mapWrites h m sp q) (q .base) (asked q)
-  unfolding mapAnswer mapWrites mapSaid mapDid pteOf
+  unfolding mapAnswer mapWrites mapSaid map.didOf pteOf
   map-err y refused a apart enough = go (map.decideOf h m sp q) refl refused
     where
       f : Fitted (a .size .level) q
@@ -166,7 +166,7 @@ module _ {h : ℕ → Bool} {sp : Space} {m : ℕ → ℕ} {role : ℕ → Role}
       because r (mapped l g c k) = meant-overlaps w (q .base) (asked q) wide .1 k
       because r (no-room l n g c x k u) = absurd (omega (arith, comes-top (k .comes)))
 
-      go : (x : Placed) → map.decideOf h m sp q ≡ x → mapSaid x ≡ mapped′.Refused y → MapErr sp m (mapDid sp x) (q .base) (asked q)
+      go : (x : Placed) → map.decideOf h m sp q ≡ x → mapSaid x ≡ mapped′.Refused y → MapErr sp m (map.didOf sp x) (q .base) (asked q)
       go (map.Go p) e g = let z : _≡_ {A = ℕ} 0 1 = cc in absurd (omega arith)
       go (map.Refused r) e g =
           let same : r ≡ y = cc in

@@ -37,7 +37,7 @@ use Rattle.effect.proofs.Exactly.{unmap-exactly, protect-exactly}
 use Rattle.effect.proofs.UnmapDone.{unmapped}
 use Rattle.effect.proofs.ProtectDone.{protected}
 use Rattle.effect.proofs.Wholes.{root-low}
-use Rattle.tablepath.specs.Answers.{unmapAnswer, unmapWrites, unmapSaid, unmapDid, goneOf, protectAnswer, protectWrites, protectSaid, protectDid}
+use Rattle.tablepath.specs.Answers.{unmapAnswer, unmapWrites, unmapSaid, goneOf, protectAnswer, protectWrites, protectSaid}
 use Rattle.tablepath.specs.declared.Unmapped.the-variants as unmapped′
 use Rattle.tablepath.specs.declared.Gone.{Gone}
 use Rattle.tablepath.specs.declared.Protected.the-variants as protected′
@@ -106,10 +106,10 @@ module _ {h : ℕ → Bool} {sp : Space} {m : ℕ → ℕ} {role : ℕ → Role}
 
   -- UNMAP, OK: the base was mapped, and the frame and size that are answered are those; the one changing write was made, and the base is removed.
   pub unmap-ok : (g : Gone) → unmapAnswer h m sp base ≡ unmapped′.Done g → UnmapOk h sp m (unmapWrites h m sp base) base (g .frame) (g .size)
-  unfolding unmapAnswer unmapWrites unmapSaid unmapDid goneOf
+  unfolding unmapAnswer unmapWrites unmapSaid unmap.didOf goneOf
   unmap-ok g done = go (unmap.decideOf h m sp base) refl done
     where
-      go : (x : Removing) → unmap.decideOf h m sp base ≡ x → unmapSaid sp x ≡ unmapped′.Done g → UnmapOk h sp m (unmapDid sp base x) base (g .frame) (g .size)
+      go : (x : Removing) → unmap.decideOf h m sp base ≡ x → unmapSaid sp x ≡ unmapped′.Done g → UnmapOk h sp m (unmap.didOf sp base x) base (g .frame) (g .size)
       go (removing.Refused y) e f = let z : _≡_ {A = ℕ} 0 1 = cc in absurd (omega arith)
       go (removing.Go r) e f =
           let d : UnmapDone h sp m role base r = unmapped w base r e in
@@ -122,10 +122,10 @@ module _ {h : ℕ → Bool} {sp : Space} {m : ℕ → ℕ} {role : ℕ → Role}
 
   -- UNMAP, ERR: nothing was written, and the base was not mapped.
   pub unmap-err : (y : Reason) → unmapAnswer h m sp base ≡ unmapped′.Refused y → NotThere sp m (unmapWrites h m sp base) base
-  unfolding unmapAnswer unmapWrites unmapSaid unmapDid
+  unfolding unmapAnswer unmapWrites unmapSaid unmap.didOf
   unmap-err y refused = go (unmap.decideOf h m sp base) refl refused
     where
-      go : (x : Removing) → unmap.decideOf h m sp base ≡ x → unmapSaid sp x ≡ unmapped′.Refused y → NotThere sp m (unmapDid sp base x) base
+      go : (x : Removing) → unmap.decideOf h m sp base ≡ x → unmapSaid sp x ≡ unmapped′.Refused y → NotThere sp m (unmap.didOf sp base x) base
       go (removing.Go r) e f = let z : _≡_ {A = ℕ} 0 1 = cc in absurd (omega arith)
       go (removing.Refused z) e f =
           let none-other = unmap-exactly w base .only z e in
@@ -133,10 +133,10 @@ module _ {h : ℕ → Bool} {sp : Space} {m : ℕ → ℕ} {role : ℕ → Role}
 
   -- PROTECT, OK: the base was mapped; the one changing write was made; it has the same frame with the new flags.
   pub protect-ok : (r : Rights) (g : Same) → protectAnswer h m sp base r ≡ protected′.Done g → ProtectOk h sp m (protectWrites h m sp base r) base (g .frame) (g .size) r
-  unfolding protectAnswer protectWrites protectSaid protectDid
+  unfolding protectAnswer protectWrites protectSaid protect.didOf
   protect-ok r g done = go (protect.decideOf h m sp base r) refl done
     where
-      go : (x : Changing) → protect.decideOf h m sp base r ≡ x → protectSaid x ≡ protected′.Done g → ProtectOk h sp m (protectDid x) base (g .frame) (g .size) r
+      go : (x : Changing) → protect.decideOf h m sp base r ≡ x → protectSaid x ≡ protected′.Done g → ProtectOk h sp m (protect.didOf x) base (g .frame) (g .size) r
       go (changing.Refused y) e f = let z : _≡_ {A = ℕ} 0 1 = cc in absurd (omega arith)
       go (changing.Go c) e f =
           let d : ProtectDone h sp m role base r c = protected w base r c e in
@@ -149,10 +149,10 @@ module _ {h : ℕ → Bool} {sp : Space} {m : ℕ → ℕ} {role : ℕ → Role}
 
   -- PROTECT, ERR
   pub protect-err : (r : Rights) (y : Reason) → protectAnswer h m sp base r ≡ protected′.Refused y → NotThere sp m (protectWrites h m sp base r) base
-  unfolding protectAnswer protectWrites protectSaid protectDid
+  unfolding protectAnswer protectWrites protectSaid protect.didOf
   protect-err r y refused = go (protect.decideOf h m sp base r) refl refused
     where
-      go : (x : Changing) → protect.decideOf h m sp base r ≡ x → protectSaid x ≡ protected′.Refused y → NotThere sp m (protectDid x) base
+      go : (x : Changing) → protect.decideOf h m sp base r ≡ x → protectSaid x ≡ protected′.Refused y → NotThere sp m (protect.didOf x) base
       go (changing.Go c) e f = let z : _≡_ {A = ℕ} 0 1 = cc in absurd (omega arith)
       go (changing.Refused z) e f =
           let none-other = protect-exactly w base r .only z e in

@@ -1,6 +1,6 @@
 // What a walk through the tables finds: the page that an address means, for any bytes.
 ghost use mathlib.Core.Path.{_≡_};
-ghost use Prim.Native.Nat.{_<_};
+ghost use Prim.Native.Nat.{_<_, _≤_};
 ghost use Rattle.word.specs.Memory.{memory, holds};
 ghost use Rattle.walk.specs.Walk as the;
 use entry::Entry;
@@ -30,7 +30,7 @@ pub enum Place {
 
 // Which entry of a table of level n the address goes through.
 pub fn index(n: u64, va: u64) -> u64
-    ensures { λ r. ⌜ (n < 4 → r ≡ the.indexOf n va) ⌝ }
+    ensures { λ r. ⌜ (n < 4 → r ≡ the.indexOf n va) × (4 ≤ n → r ≡ the.indexOf 3 va) ⌝ }
 {
     va / entry::size(n) % 512
 }
@@ -75,7 +75,7 @@ fn arrive(mem: &[u8], origin: u64, n: u64, va: u64, t: u64, r: Rights) -> Place
 
 // One step of a walk, at level n.
 pub fn step(mem: &[u8], origin: u64, n: u64, va: u64, p: Place) -> Place
-    ensures { λ q. ⌜ (n < 4 → q ≡ the.stepOf (holds (now (mem .entry)) origin) (memory (now (mem .entry)) origin) n va p) ⌝ }
+    ensures { λ q. ⌜ (n < 4 → q ≡ the.stepOf (holds (now (mem .entry)) origin) (memory (now (mem .entry)) origin) n va p) × (4 ≤ n → q ≡ p) ⌝ }
 {
     if 3 < n {
         return p;

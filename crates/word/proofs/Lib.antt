@@ -6,3 +6,4 @@ pub mod Holding
 pub mod Runs
 pub mod Writes
 pub mod Odds
+pub mod Budget

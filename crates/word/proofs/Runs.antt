@@ -1,18 +1,20 @@
 -- A run of pages that lies in the window, and reading in it.
 use Prim.Native.Nat.{ℕ, _+_, _-_, _*_, _%_, _^_, _<_, _≤_}
 use mathlib.Core.Bool.{Bool, true, false, false≢true, cond, _&&_}
-use mathlib.Core.List.{List}
+use mathlib.Core.List.{List, [], _∷_}
 use mathlib.Core.Path.{_≡_, refl, sym, _∙_}
 use native.Mathlib.Decide.{decLe}
 use native.Mathlib.Omega.{arith}
 use borrow.Author.Tests.{le-leb, lt-leb, lt-ltb, le-ltb, leb-true, ltb-true}
 use lib.Dec.{leb, ltb}
 use lib.ListN.{length}
+use Rattle.word.specs.Bytes.{putWord}
+use Rattle.word.specs.Writes.{write}
 use Rattle.word.specs.Memory.{at, memory, holds, written}
-use Rattle.word.specs.Runs.{spansOf, isAmong, amongOf, amongWritten}
+use Rattle.word.specs.Runs.{spansOf, isAmong, amongOf, amongWrites}
 use Rattle.word.specs.declared.Cell.the-variants.{Word, Outside}
 use Rattle.word.proofs.Tests.{and-both}
-use Rattle.word.proofs.Memory.{held}
+use Rattle.word.proofs.Memory.{held, Offset, offset}
 use Rattle.word.proofs.Holding.{within}
 
 module _ (s : List ℕ) (origin first pages : ℕ) where
@@ -107,9 +109,24 @@ module _ (s : List ℕ) (origin first pages : ℕ) where
     unfolding amongOf
     among-word a = rw (among-is a)
 
-    pub among-written : (w : ℕ) → Among → amongWritten s origin first kept pages p i w ≡ written s origin p i w
-    unfolding amongWritten
-    among-written w a = rw (among-is a)
+    -- the entry's bytes, by the code's own test
+    pub among-offset : isAmong s origin first kept pages p i ≡ true → Offset s origin p i
+    among-offset e = let a = is-among e in offset s origin p i (among-holds a) (a .small)
+
+    pub among-index : isAmong s origin first kept pages p i ≡ true → i < 512
+    among-index e = is-among e .small
+
+    pub among-written : (w : ℕ) → isAmong s origin first kept pages p i ≡ true → putWord s (p * 4096 - origin + i * 8) w ≡ written s origin p i w
+    unfolding written
+    among-written w e = let a = is-among e in simp (lt-ltb i 512 (a .small), among-holds a, among-offset e .same)
+
+    pub one-among : (w : ℕ) → isAmong s origin first kept pages p i ≡ true → amongWrites s origin first kept pages p i w ≡ write p i w ∷ []
+    unfolding amongWrites
+    one-among w e = simp e
+
+    pub none-among : (w : ℕ) → isAmong s origin first kept pages p i ≡ false → amongWrites s origin first kept pages p i w ≡ []
+    unfolding amongWrites
+    none-among w e = simp e
 
     -- what it answered
     pub word-among : (w : ℕ) → amongOf s origin first kept pages p i ≡ Word w → Among × (memory s origin (at p i) ≡ w)

@@ -6,8 +6,7 @@ use mathlib.Core.Logic.{_≢_}
 use mathlib.Core.Path.{_≡_, refl, sym, ap, _∙_, subst}
 use native.Mathlib.Decide.{ℕ-discrete}
 use native.Mathlib.Omega.{arith}
-use native.Mathlib.Numerals.{add-one}
-use lib.ListN.{length}
+use lib.ListN.{length, take}
 use Rattle.word.specs.Memory.{at, set, memory, holds, written}
 use Rattle.word.specs.Writes.{Write, write, carried, after, zeros}
 use Rattle.word.proofs.Memory.{length-written, holds-written, memory-written}
@@ -35,6 +34,11 @@ pub every-map : {Q R : ℕ → Type 0} → ((p : ℕ) → Q p → R p) → (xs :
 every-map f [] none = none
 every-map f (x ∷ xs) (more o h) = more (record { in-page = f (x .page) (o .in-page); in-index = o .in-index; in-word = o .in-word }) (every-map f xs h)
 
+pub every-take : {Q : ℕ → Type 0} (n : ℕ) (xs : List Write) → Every Q xs → Every Q (take n xs)
+every-take zero xs h = none
+every-take (suc n) [] none = none
+every-take (suc n) (x ∷ xs) (more o h) = more o (every-take n xs h)
+
 pub every-zeros : {Q : ℕ → Type 0} (p n : ℕ) → Q p → n ≤ 512 → Every Q (zeros p n)
 unfolding zeros
 every-zeros p zero q u = none
@@ -46,15 +50,6 @@ pub carried-append : (s : List ℕ) (origin : ℕ) (a b : List Write) → carrie
 unfolding carried
 carried-append s origin [] b = refl
 carried-append s origin (x ∷ a) b = carried-append (written s origin (x .page) (x .index) (x .word)) origin a b
-
--- one zero more, as a loop writes them
-pub zeros-none : (s : List ℕ) (origin p : ℕ) → s ≡ carried s origin (zeros p 0)
-unfolding zeros carried
-zeros-none s origin p = refl
-
-pub zeros-next : (s : List ℕ) (origin p n : ℕ) → written (carried s origin (zeros p n)) origin p n 0 ≡ carried s origin (zeros p (n + 1))
-unfolding zeros carried
-zeros-next s origin p n = rw add-one (sym (carried-append s origin (zeros p n) (write p n 0 ∷ [])))
 
 pub length-carried : (s : List ℕ) (origin : ℕ) (xs : List Write) → length (carried s origin xs) ≡ length s
 unfolding carried

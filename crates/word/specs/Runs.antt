@@ -1,10 +1,11 @@
 -- Runs of pages that lie in the window.
 use Prim.Native.Nat.{ℕ, _+_, _*_, _^_}
 use mathlib.Core.Bool.{Bool, cond, _&&_}
-use mathlib.Core.List.{List}
+use mathlib.Core.List.{List, [], _∷_}
 use lib.Dec.{leb, ltb}
 use lib.ListN.{length}
-use Rattle.word.specs.Memory.{at, memory, written}
+use Rattle.word.specs.Memory.{at, memory}
+use Rattle.word.specs.Writes.{Write, write}
 use Rattle.word.specs.declared.Cell.{Cell}
 use Rattle.word.specs.declared.Cell.the-variants.{Word, Outside}
 
@@ -21,6 +22,6 @@ isAmong s origin first kept pages p i = spansOf s origin first pages && (ltb i 5
 unfoldable pub amongOf : List ℕ → ℕ → ℕ → ℕ → ℕ → ℕ → ℕ → Cell
 amongOf s origin first kept pages p i = cond (isAmong s origin first kept pages p i) (Word (memory s origin (at p i))) Outside
 
--- the window with such an entry set to w; as it is where there is none
-unfoldable pub amongWritten : List ℕ → ℕ → ℕ → ℕ → ℕ → ℕ → ℕ → ℕ → List ℕ
-amongWritten s origin first kept pages p i w = cond (isAmong s origin first kept pages p i) (written s origin p i w) s
+-- setting such an entry to w is one write; where there is none, no write
+unfoldable pub amongWrites : List ℕ → ℕ → ℕ → ℕ → ℕ → ℕ → ℕ → ℕ → List Write
+amongWrites s origin first kept pages p i w = cond (isAmong s origin first kept pages p i) (write p i w ∷ []) []

@@ -1,11 +1,13 @@
 // Words of eight bytes in a window of physical memory: one read and one write, each for any bytes and any numbers.
 ghost use mathlib.Core.Path.{_≡_};
-ghost use mathlib.Core.List.{List};
-ghost use Prim.Native.Nat.{ℕ, _+_, _%_, _^_, _<_, _≤_};
+ghost use mathlib.Core.Bool.{cond};
+ghost use mathlib.Core.List.{List, [], _∷_};
+ghost use Prim.Native.Nat.{ℕ, _+_, _-_, _%_, _^_, _<_, _≤_};
+ghost use lib.Dec.{leb, ltb};
 ghost use lib.ListN.{length};
 ghost use Rattle.word.specs.Bytes.{wordAt, putWord};
 ghost use Rattle.word.specs.Memory.{holds, readOf, written};
-ghost use Rattle.word.specs.Writes.{carried, zeros};
+ghost use Rattle.word.specs.Writes.{Wrote, write, zeros, endless};
 
 mod run;
 mod scan;
@@ -14,6 +16,9 @@ pub use run::read_among;
 pub use run::spans;
 pub use run::write_among;
 pub use scan::besides;
+
+// No budget: all writes are done.
+pub const ENDLESS: u64 = 18446744073709551615;
 
 // What reading an entry answers.
 pub enum Cell {
@@ -117,7 +122,7 @@ pub fn read(mem: &[u8], origin: u64, p: u64, i: u64) -> Cell
 }
 
 // Sets entry i of page p, where that page lies in the window, and else nothing.
-pub fn write(mem: &mut [u8], origin: u64, p: u64, i: u64, w: u64)
+fn put(mem: &mut [u8], origin: u64, p: u64, i: u64, w: u64)
     ensures { λ _. ⌜ now (mem .exit) ≡ written (now (mem .entry)) origin p i w ⌝ }
 {
     if 512 <= i {
@@ -128,13 +133,38 @@ pub fn write(mem: &mut [u8], origin: u64, p: u64, i: u64, w: u64)
     }
 }
 
+// May one more write be done? This is the one function that looks at a budget, or changes it.
+fn spend(left: &mut u64) -> bool
+    ensures { λ r. ⌜ r ≡ ltb 0 (now (left .entry)) ⌝ }
+    ensures { λ _. ⌜ now (left .exit) ≡ cond (leb endless (now (left .entry))) (now (left .entry)) (now (left .entry) - 1) ⌝ }
+{
+    let n = *left;
+    if ENDLESS <= n {
+        return true;
+    }
+    if n == 0 {
+        return false;
+    }
+    *left = n - 1;
+    true
+}
+
+// Sets entry i of page p, where that page lies in the window, and else nothing: one write of the budget.
+pub fn write(mem: &mut [u8], left: &mut u64, origin: u64, p: u64, i: u64, w: u64)
+    ensures { λ _. ⌜ Wrote origin (write p i w ∷ []) (now (left .entry)) (now (left .exit)) (now (mem .entry)) (now (mem .exit)) ⌝ }
+{
+    if spend(left) {
+        put(mem, origin, p, i, w);
+    }
+}
+
 // Clears page p, entry by entry.
-pub fn clear(mem: &mut [u8], origin: u64, p: u64)
-    ensures { λ _. ⌜ now (mem .exit) ≡ carried (now (mem .entry)) origin (zeros p 512) ⌝ }
+pub fn clear(mem: &mut [u8], left: &mut u64, origin: u64, p: u64)
+    ensures { λ _. ⌜ Wrote origin (zeros p 512) (now (left .entry)) (now (left .exit)) (now (mem .entry)) (now (mem .exit)) ⌝ }
 {
     let mut i: u64 = 0;
     while i < 512 {
-        write(mem, origin, p, i, 0);
+        write(mem, left, origin, p, i, 0);
         i += 1;
     }
 }

@@ -2,8 +2,10 @@
 // before, the compiler leaves out the second one.
 ghost use mathlib.Core.Path.{_≡_};
 ghost use Rattle.word.specs.Runs as the;
+ghost use Rattle.word.specs.Writes.{Wrote};
 use crate::Cell;
 use crate::load;
+use crate::spend;
 use crate::store;
 
 // Do so many pages from the first one on lie in the window?
@@ -55,9 +57,10 @@ pub fn read_among(
     Cell::Outside
 }
 
-// Sets such an entry, and where it is none of them nothing.
+// Sets such an entry: one write of the budget; where it is none of them, no write.
 pub fn write_among(
     mem: &mut [u8],
+    left: &mut u64,
     origin: u64,
     first: u64,
     kept: u64,
@@ -66,9 +69,11 @@ pub fn write_among(
     i: u64,
     w: u64,
 )
-    ensures { λ _. ⌜ now (mem .exit) ≡ the.amongWritten (now (mem .entry)) origin first kept pages p i w ⌝ }
+    ensures { λ _. ⌜ Wrote origin (the.amongWrites (now (mem .entry)) origin first kept pages p i w) (now (left .entry)) (now (left .exit)) (now (mem .entry)) (now (mem .exit)) ⌝ }
 {
     if among(mem, origin, first, kept, pages, p, i) {
-        store(mem, (p * 4096 - origin + i * 8) as usize, w);
+        if spend(left) {
+            store(mem, (p * 4096 - origin + i * 8) as usize, w);
+        }
     }
 }

@@ -1,72 +1,22 @@
+use Rattle.abi.proofs.Shortcut.{in-order-all}
 use borrow.Author.Needs.{needs}
 use Rattle.abi.proofs.tp_map.Statement.{statement}
 use Rattle.abi.proofs.tp_map.Tie as tie
 use Rattle.abi.proofs.tp_map.Reads as reads
 use Rattle.abi.proofs.tp_map.Lts as lts
-use Rattle.abi.proofs.sized.Reads as sized-reads
-use Rattle.abi.proofs.whole.Reads as whole-reads
+use Rattle.abi.proofs.map_up_to.Reads as map-up-to-reads
 
--- src/lib.rt:185:9
-sized-requires : tie.Need-sized-requires
-sized-requires c κs = search needs
+-- src/lib.rt:292:5
+map-up-to-requires : tie.Need-map-up-to-requires
+map-up-to-requires c κs = search needs
 
--- src/lib.rt:185:9
+-- src/lib.rt:276:1
 same-length : tie.Need-same-length
 same-length c = search needs
 
--- src/lib.rt:185:9
+-- src/lib.rt:276:1
 returns : tie.Need-returns
-returns c = (rw (c .before .before .before .before .if1 .taken) (c .before .before .sized .ensures .0), rw (c .before .before .before .before .if1 .taken) (c .before .before .sized .ensures .1))
-
--- src/lib.rt:188:9
-sized-requires-2 : tie.Need-sized-requires-2
-sized-requires-2 c κs = search needs
-
--- src/lib.rt:188:9
-same-length-2 : tie.Need-same-length-2
-same-length-2 c = search needs
-
--- src/lib.rt:188:9
-returns-2 : tie.Need-returns-2
-returns-2 c = (rw (c .before .before .before .before .if2 .taken) (c .before .before .sized2 .ensures .0), rw (c .before .before .before .before .if2 .taken) (c .before .before .sized2 .ensures .1))
-
--- src/lib.rt:202:9
-sized-requires-3 : tie.Need-sized-requires-3
-sized-requires-3 c κs = search needs
-
--- src/lib.rt:202:9
-same-length-3 : tie.Need-same-length-3
-same-length-3 c = search needs
-
--- src/lib.rt:202:9
-returns-3 : tie.Need-returns-3
-returns-3 c = (rw (c .before .before .before .before .if3 .taken) (c .before .before .sized3 .ensures .0), rw (c .before .before .before .before .if3 .taken) (c .before .before .sized3 .ensures .1))
-
--- src/lib.rt:215:5
-whole-requires : tie.Need-whole-requires
-whole-requires c κs = search needs
-
--- src/lib.rt:169:1
-same-length-4 : tie.Need-same-length-4
-same-length-4 c = search needs
-
--- src/lib.rt:169:1
-returns-4 : tie.Need-returns-4
-returns-4 c = search needs
+returns c = (c .before .before .map-up-to .ensures .0, in-order-all _ _ _ _ _ (c .before .before .map-up-to .ensures .1))
 
 pub tp-map-spec : {M : Type 1} → statement M
-tp-map-spec =
-    tie.close
-    (tie.spec
-    sized-requires
-    same-length
-    returns
-    sized-requires-2
-    same-length-2
-    returns-2
-    sized-requires-3
-    same-length-3
-    returns-3
-    whole-requires
-    same-length-4
-    returns-4)
+tp-map-spec = tie.close (tie.spec map-up-to-requires same-length returns)

@@ -1,7 +1,7 @@
 use mathlib.Core.Path.{sym, _∙_}
 use native.Mathlib.Omega.{arith}
 use Prim.Native.Nat.{_+_}
-use Rattle.word.specs.Writes.{carried}
+use Rattle.word.proofs.Budget.{wrote-none, wrote-then}
 use Rattle.pool.specs.Changes.{asideWrites, asideBook}
 use Rattle.pool.proofs.Counts.{sound-is, spot-in}
 use borrow.Author.Needs.{needs}
@@ -13,51 +13,51 @@ use Rattle.pool.proofs.put.Reads as put-reads
 use Rattle.pool.proofs.sound.Reads as sound-reads
 use Rattle.pool.proofs.spot.Reads as spot-reads
 
--- src/lib.rt:313:8
+-- src/lib.rt:308:8
 sound-requires : tie.Need-sound-requires
 sound-requires c κs = search needs
 
--- src/lib.rt:314:47
+-- src/lib.rt:309:47
 add-spot : tie.Need-add-spot
 add-spot c = let s = sound-is _ _ (sym (c .before .before .sound .ensures) ∙ c .before .if1 .taken) in omega (arith, s .small, s .room)
 
--- src/lib.rt:314:13
+-- src/lib.rt:309:13
 spot-requires : tie.Need-spot-requires
 spot-requires c κs = search needs
 
--- src/lib.rt:315:25
+-- src/lib.rt:310:31
 add-put : tie.Need-add-put
-add-put c = let s = sound-is _ _ (sym (c .before .before .before .before .sound .ensures) ∙ c .before .before .before .if1 .taken) in omega (arith, s .small, c .before .spot .ensures, spot-in _ _ (c .before .before .before .before .before .before .args .book .free + c .before .before .before .before .before .before .args .book .aside) (s .head-in) (omega (arith, s .room)))
+add-put c = let s = sound-is _ _ (sym (c .before .before .before .before .before .sound .ensures) ∙ c .before .before .before .before .if1 .taken) in omega (arith, s .small, c .before .before .spot .ensures, spot-in _ _ (c .before .before .before .before .before .before .before .args .book .free + c .before .before .before .before .before .before .before .args .book .aside) (s .head-in) (omega (arith, s .room)))
 
--- src/lib.rt:315:9
+-- src/lib.rt:310:9
 put-requires : tie.Need-put-requires
 put-requires c κs = search needs
 
--- src/lib.rt:316:28
+-- src/lib.rt:311:34
 add-put-2 : tie.Need-add-put-2
-add-put-2 c = let s = sound-is _ _ (sym (c .before .before .before .before .before .before .before .before .before .sound .ensures) ∙ c .before .before .before .before .before .before .before .before .if1 .taken) in omega (arith, s .small, s .room)
+add-put-2 c = let s = sound-is _ _ (sym (c .before .before .before .before .before .before .before .before .before .before .before .sound .ensures) ∙ c .before .before .before .before .before .before .before .before .before .before .if1 .taken) in omega (arith, s .small, s .room)
 
--- src/lib.rt:316:9
+-- src/lib.rt:311:9
 put-requires-2 : tie.Need-put-requires-2
 put-requires-2 c κs = search needs
 
--- src/lib.rt:320:20
-add-t7 : tie.Need-add-t7
-add-t7 c = let s = sound-is _ _ (sym (c .before .before .before .before .before .before .before .before .before .before .before .before .before .sound .ensures) ∙ c .before .before .before .before .before .before .before .before .before .before .before .before .if1 .taken) in omega (arith, s .small, s .room)
+-- src/lib.rt:315:20
+add-t8 : tie.Need-add-t8
+add-t8 c = let s = sound-is _ _ (sym (c .before .before .before .before .before .before .before .before .before .before .before .before .before .before .before .sound .ensures) ∙ c .before .before .before .before .before .before .before .before .before .before .before .before .before .before .if1 .taken) in omega (arith, s .small, s .room)
 
--- src/lib.rt:317:9
+-- src/lib.rt:312:9
 same-length : tie.Need-same-length
 same-length c = search needs
 
--- src/lib.rt:317:9
+-- src/lib.rt:312:9
 returns : tie.Need-returns
-unfolding asideWrites asideBook carried
-returns c = (rw (sym (c .before .before .before .before .before .before .before .before .before .before .before .before .before .sound .ensures) ∙ c .before .before .before .before .before .before .before .before .before .before .before .before .if1 .taken), rw (sym (c .before .before .before .before .before .before .before .before .before .before .before .before .before .sound .ensures) ∙ c .before .before .before .before .before .before .before .before .before .before .before .before .if1 .taken, c .before .before .before .put2 .ensures, c .before .before .before .before .before .before .before .before .put .ensures, c .before .before .before .before .before .before .before .before .before .before .spot .ensures))
+unfolding asideWrites asideBook
+returns c = let e = sym (c .before .before .before .before .before .before .before .before .before .before .before .before .before .before .before .sound .ensures) ∙ c .before .before .before .before .before .before .before .before .before .before .before .before .before .before .if1 .taken in (rw e, simp e (rw (← c .before .before .before .before .before .before .before .before .before .before .before .before .spot .ensures) (wrote-then _ _ _ _ _ _ _ _ _ (c .before .before .before .before .before .before .before .before .before .put .ensures) (c .before .before .before .put2 .ensures))))
 
--- src/lib.rt:309:1
+-- src/lib.rt:304:1
 returns-2 : tie.Need-returns-2
-unfolding asideWrites asideBook carried
-returns-2 c = (rw (sym (c .before .sound .ensures) ∙ c .if1 .left), rw (sym (c .before .sound .ensures) ∙ c .if1 .left))
+unfolding asideWrites asideBook
+returns-2 c = let e = sym (c .before .sound .ensures) ∙ c .if1 .left in (rw e, simp e (wrote-none _ _ _))
 
 pub set-aside-spec : {M : Type 1} → statement M
 set-aside-spec =
@@ -70,7 +70,7 @@ set-aside-spec =
     put-requires
     add-put-2
     put-requires-2
-    add-t7
+    add-t8
     same-length
     returns
     returns-2)

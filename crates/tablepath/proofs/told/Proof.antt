@@ -1,100 +1,22 @@
-use Rattle.tablepath.specs.Answers.{toldAnswer, toldWrites, toldSaid, toldDid, dueSaid, dueDid}
-use mathlib.Core.Path.{_≡_, refl, sym, _∙_}
-use Rattle.word.specs.Writes.{carried}
+use Rattle.word.proofs.Budget.{wrote-all}
 use borrow.Author.Needs.{needs}
 use Rattle.tablepath.proofs.told.Statement.{statement}
 use Rattle.tablepath.proofs.told.Tie as tie
 use Rattle.tablepath.proofs.told.Reads as reads
 use Rattle.tablepath.proofs.told.Lts as lts
-use Rattle.pool.proofs.due_by.Reads as due-by-reads
-use Rattle.pool.proofs.open.Reads as open-reads
-use Rattle.pool.proofs.release.Reads as release-reads
+use Rattle.tablepath.proofs.told_up_to.Reads as told-up-to-reads
 
--- src/lib.rt:136:9
-open-requires : tie.Need-open-requires
-open-requires c κs = search needs
+-- src/lib.rt:186:5
+told-up-to-requires : tie.Need-told-up-to-requires
+told-up-to-requires c κs = search needs
 
--- src/lib.rt:138:25
-enum-known-o : tie.Need-enum-known-o
-enum-known-o c = search needs
-
--- src/lib.rt:139:22
-enum-known-o-2 : tie.Need-enum-known-o-2
-enum-known-o-2 c = search needs
-
--- src/lib.rt:140:17
-due-by-requires : tie.Need-due-by-requires
-due-by-requires c κs = search needs
-
--- src/lib.rt:142:33
-enum-told : tie.Need-enum-told
-enum-told c = search needs
-
--- src/lib.rt:143:31
-enum-told-2 : tie.Need-enum-told-2
-enum-told-2 c = search needs
-
--- src/lib.rt:144:28
-enum-known-d : tie.Need-enum-known-d
-enum-known-d c = search needs
-
--- src/lib.rt:145:21
-release-requires : tie.Need-release-requires
-release-requires c κs = search needs
-
--- src/lib.rt:132:1
+-- src/lib.rt:181:1
 same-length : tie.Need-same-length
 same-length c = search needs
 
--- src/lib.rt:132:1
+-- src/lib.rt:181:1
 returns : tie.Need-returns
-unfolding toldAnswer toldWrites toldSaid toldDid carried
-returns c = let e = sym (c .before .before .before .«open» .ensures) ∙ c .before .o .given .1 in (rw e, rw e)
-
--- src/lib.rt:132:1
-same-length-2 : tie.Need-same-length-2
-same-length-2 c = search needs
-
--- src/lib.rt:132:1
-returns-2 : tie.Need-returns-2
-unfolding toldAnswer toldWrites toldSaid toldDid dueSaid dueDid carried
-returns-2 c = let e = sym (c .before .before .before .before .before .before .«open» .ensures) ∙ c .before .before .before .before .o2 .given .1 in let f = sym (c .before .before .due-by .ensures) ∙ c .enum-told .given .1 in (rw (e, f), rw (e, f))
-
--- src/lib.rt:132:1
-same-length-3 : tie.Need-same-length-3
-same-length-3 c = search needs
-
--- src/lib.rt:132:1
-returns-3 : tie.Need-returns-3
-unfolding toldAnswer toldWrites toldSaid toldDid dueSaid dueDid carried
-returns-3 c = let e = sym (c .before .before .before .before .before .before .«open» .ensures) ∙ c .before .before .before .before .o2 .given .1 in let f = sym (c .before .before .due-by .ensures) ∙ c .enum-told2 .given .1 in (rw (e, f), rw (e, f))
-
--- src/lib.rt:132:1
-same-length-4 : tie.Need-same-length-4
-same-length-4 c = search needs
-
--- src/lib.rt:132:1
-returns-4 : tie.Need-returns-4
-unfolding toldAnswer toldWrites toldSaid toldDid dueSaid dueDid
-returns-4 c = let e = sym (c .before .before .before .before .before .before .before .before .before .before .before .«open» .ensures) ∙ c .before .before .before .before .before .before .before .before .before .o2 .given .1 in let f = sym (c .before .before .before .before .before .before .before .due-by .ensures) ∙ c .before .before .before .before .before .d .given .1 in (rw (e, f), rw (e, f) (c .before .before .release .ensures))
+returns c = (c .before .before .told-up-to .ensures .0, wrote-all _ _ _ _ _ (c .before .before .told-up-to .ensures .1))
 
 pub told-spec : {M : Type 1} → statement M
-told-spec =
-    tie.close
-    (tie.spec
-    open-requires
-    enum-known-o
-    enum-known-o-2
-    due-by-requires
-    enum-told
-    enum-told-2
-    enum-known-d
-    release-requires
-    same-length
-    returns
-    same-length-2
-    returns-2
-    same-length-3
-    returns-3
-    same-length-4
-    returns-4)
+told-spec = tie.close (tie.spec told-up-to-requires same-length returns)

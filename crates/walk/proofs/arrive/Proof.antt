@@ -37,11 +37,11 @@ enum-told c = search needs
 
 -- src/lib.rt:65:1
 returns : tie.Need-returns
-returns c = rw (c .enter .ensures, c .before .decode .ensures) (sym (step-read _ _ _ _ _ _ _ (c .before .before .before .before .before .before .index .ensures (omega arith)) _ (sym (c .before .before .before .before .before .read .ensures) ∙ c .before .before .before .c .given .1)))
+returns c = rw (c .enter .ensures, c .before .decode .ensures) (sym (step-read _ _ _ _ _ _ _ (c .before .before .before .before .before .before .index .ensures .0 (omega arith)) _ (sym (c .before .before .before .before .before .read .ensures) ∙ c .before .before .before .c .given .1)))
 
 -- src/lib.rt:65:1
 returns-2 : tie.Need-returns-2
-returns-2 c = sym (step-outside _ _ _ _ _ _ _ (c .before .before .before .index .ensures (omega arith)) (sym (c .before .before .read .ensures) ∙ c .enum-told .given .1))
+returns-2 c = sym (step-outside _ _ _ _ _ _ _ (c .before .before .before .index .ensures .0 (omega arith)) (sym (c .before .before .read .ensures) ∙ c .enum-told .given .1))
 
 pub arrive-spec : {M : Type 1} → statement M
 arrive-spec =

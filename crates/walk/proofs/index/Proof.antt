@@ -17,7 +17,7 @@ div-result c = c .size .ensures .1
 -- src/lib.rt:32:1
 returns : tie.Need-returns
 unfolding indexOf
-returns c = λ u. rw (c .size .ensures .0 u)
+returns c = (λ u. rw (c .size .ensures .0 u), λ u. rw (c .size .ensures .2 u))
 
 pub index-spec : {M : Type 1} → statement M
 index-spec = tie.close (tie.spec size-requires div-result returns)

@@ -41,7 +41,7 @@ loop-less c = omega arith
 
 -- src/lib.rt:122:5
 loop-again : tie.Need-loop-again Inv-loop μ-loop
-loop-again c = (omega arith, c .before .before .loop .inv .1 ∙ (run-down _ _ _ _ _ (omega arith) ∙ rw (c .step .ensures (omega arith))))
+loop-again c = (omega arith, c .before .before .loop .inv .1 ∙ (run-down _ _ _ _ _ (omega arith) ∙ rw (c .step .ensures .0 (omega arith))))
 
 -- src/lib.rt:126:5
 answer-requires : tie.Need-answer-requires Inv-loop μ-loop

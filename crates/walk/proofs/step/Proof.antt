@@ -1,3 +1,4 @@
+use mathlib.Core.Path.{refl}
 use Rattle.walk.specs.Walk.{stepOf, going}
 use native.Mathlib.Omega.{arith}
 use borrow.Author.Needs.{needs}
@@ -9,7 +10,7 @@ use Rattle.walk.proofs.arrive.Reads as arrive-reads
 
 -- src/lib.rt:81:9
 returns : tie.Need-returns
-returns c = λ u. absurd (omega arith)
+returns c = (λ u. absurd (omega arith), λ u. refl)
 
 -- src/lib.rt:84:22
 enum-known-p : tie.Need-enum-known-p
@@ -26,12 +27,12 @@ enum-known-p-2 c = search needs
 -- src/lib.rt:77:1
 returns-2 : tie.Need-returns-2
 unfolding stepOf
-returns-2 c = λ u. rw (c .arrive .ensures, c .before .before .p .given .1)
+returns-2 c = (λ u. rw (c .arrive .ensures, c .before .before .p .given .1), λ u. absurd (omega arith))
 
 -- src/lib.rt:77:1
 returns-3 : tie.Need-returns-3
 unfolding stepOf
-returns-3 c = λ u. rw (c .before .p2 .given .1)
+returns-3 c = (λ u. rw (c .before .p2 .given .1), λ u. absurd (omega arith))
 
 pub step-spec : {M : Type 1} → statement M
 step-spec =

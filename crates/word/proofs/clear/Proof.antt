@@ -1,9 +1,8 @@
 use Prim.Native.Nat.{_≤_, _-_}
 use mathlib.Core.Path.{_≡_, ap, _∙_}
 use native.Mathlib.Omega.{arith}
-use lib.ListN.{length}
-use Rattle.word.specs.Writes.{carried, zeros}
-use Rattle.word.proofs.Writes.{zeros-none, zeros-next, length-carried}
+use Rattle.word.specs.Writes.{Wrote, zeros}
+use Rattle.word.proofs.Budget.{wrote-no-zero, wrote-zero, length-wrote}
 use Rattle.word.proofs.clear.Statement.{statement}
 use Rattle.word.proofs.clear.Tie as tie
 use Rattle.word.proofs.clear.Reads as reads
@@ -11,36 +10,36 @@ use Rattle.word.proofs.clear.Lts as lts
 use Rattle.word.proofs.write.Reads as write-reads
 
 abbrev Inv-loop : tie.InvT-loop
-Inv-loop mem₀ origin p i₀ mem i = (i ≤ 512) × (mem ≡ carried mem₀ origin (zeros p i))
+Inv-loop mem₀ left₀ origin p i₀ mem left i = (i ≤ 512) × Wrote origin (zeros p i) left₀ left mem₀ mem
 
 abbrev μ-loop : tie.MeasureT-loop
-μ-loop mem₀ origin p i₀ mem i = 512 - i
+μ-loop mem₀ left₀ origin p i₀ mem left i = 512 - i
 
--- src/lib.rt:108:5
+-- src/lib.rt:174:5
 loop-holds : tie.Need-loop-holds Inv-loop μ-loop
-loop-holds c = (omega arith, zeros-none _ _ _)
+loop-holds c = (omega arith, wrote-no-zero _ _ _ _)
 
--- src/lib.rt:109:9
+-- src/lib.rt:175:9
 write-requires : tie.Need-write-requires Inv-loop μ-loop
 write-requires c κs = tt
 
--- src/lib.rt:110:9
+-- src/lib.rt:176:9
 add-i : tie.Need-add-i Inv-loop μ-loop
 add-i c = omega arith
 
--- src/lib.rt:108:5
+-- src/lib.rt:174:5
 loop-less : tie.Need-loop-less Inv-loop μ-loop
 loop-less c = omega arith
 
--- src/lib.rt:108:5
+-- src/lib.rt:174:5
 loop-again : tie.Need-loop-again Inv-loop μ-loop
-loop-again c = (omega arith, c .before .before .write .ensures ∙ rw (c .before .before .before .before .before .loop .inv .1) (zeros-next _ _ _ _))
+loop-again c = (omega arith, wrote-zero _ _ _ _ _ _ _ _ _ (c .before .before .before .before .before .before .loop .inv .1) (c .before .before .write .ensures))
 
--- src/lib.rt:104:1
+-- src/lib.rt:170:1
 same-length : tie.Need-same-length Inv-loop μ-loop
-same-length c = ap length (c .before .loop .inv .1) ∙ length-carried _ _ _
+same-length c = length-wrote _ _ _ _ _ _ (c .before .loop .inv .1)
 
--- src/lib.rt:104:1
+-- src/lib.rt:170:1
 returns : tie.Need-returns Inv-loop μ-loop
 returns c = let e : c .before .loop .i ≡ 512 = omega arith in rw e at (c .before .loop .inv .1)
 

@@ -48,11 +48,11 @@ stop-requires c κs = search needs
 
 -- src/descent.rt:98:1
 returns : tie.Need-returns
-returns c = rw (c .told .ensures _ (c .before .before .before .before .before .before .before .index .ensures (c .before .before .before .before .before .before .before .before .before .pre .0)) (c .before .decode .ensures), c .before .decode .ensures, c .before .before .push .ensures) (ap (trackOf _) (sym (arrive-word _ _ (c .before .before .before .before .before .before .before .before .before .pre .1) _ _ _ _ _ _ (rw (c .before .before .before .before .before .before .before .index .ensures (c .before .before .before .before .before .before .before .before .before .pre .0)) at (sym (c .before .before .before .before .before .before .«entry» .ensures) ∙ c .before .before .before .before .c .given .1)))))
+returns c = rw (c .told .ensures _ (c .before .before .before .before .before .before .before .index .ensures .0 (c .before .before .before .before .before .before .before .before .before .pre .0)) (c .before .decode .ensures), c .before .decode .ensures, c .before .before .push .ensures) (ap (trackOf _) (sym (arrive-word _ _ (c .before .before .before .before .before .before .before .before .before .pre .1) _ _ _ _ _ _ (rw (c .before .before .before .before .before .before .before .index .ensures .0 (c .before .before .before .before .before .before .before .before .before .pre .0)) at (sym (c .before .before .before .before .before .before .«entry» .ensures) ∙ c .before .before .before .before .c .given .1)))))
 
 -- src/descent.rt:98:1
 returns-2 : tie.Need-returns-2
-returns-2 c = c .stop .ensures ∙ (told-stop _ _ _ _ _ _ _ (c .before .before .before .before .index .ensures (c .before .before .before .before .before .before .pre .0)) (nothing-framed _) ∙ ap (trackOf _) (sym (arrive-outside _ _ (c .before .before .before .before .before .before .pre .1) _ _ _ _ _ (rw (c .before .before .before .before .index .ensures (c .before .before .before .before .before .before .pre .0)) at (sym (c .before .before .before .«entry» .ensures) ∙ c .before .enum-told .given .1)))))
+returns-2 c = c .stop .ensures ∙ (told-stop _ _ _ _ _ _ _ (c .before .before .before .before .index .ensures .0 (c .before .before .before .before .before .before .pre .0)) (nothing-framed _) ∙ ap (trackOf _) (sym (arrive-outside _ _ (c .before .before .before .before .before .before .pre .1) _ _ _ _ _ (rw (c .before .before .before .before .index .ensures .0 (c .before .before .before .before .before .before .pre .0)) at (sym (c .before .before .before .«entry» .ensures) ∙ c .before .enum-told .given .1)))))
 
 pub arrive-spec : {M : Type 1} → statement M
 arrive-spec =

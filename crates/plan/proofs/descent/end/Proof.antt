@@ -33,7 +33,7 @@ enum-known-s-2 c = search needs
 -- src/descent.rt:149:1
 returns : tie.Need-returns
 unfolding endOf stopAt
-returns c = λ o u e. let k = track-at _ o _ _ (sym (c .before .before .before .before .s .given .1) ∙ e) in rw (k, c .framed .ensures, c .before .decode .ensures, c .before .before .index .ensures (rw k at u))
+returns c = λ o u e. let k = track-at _ o _ _ (sym (c .before .before .before .before .s .given .1) ∙ e) in rw (k, c .framed .ensures, c .before .decode .ensures, c .before .before .index .ensures .0 (rw k at u))
 
 -- src/descent.rt:149:1
 returns-2 : tie.Need-returns-2

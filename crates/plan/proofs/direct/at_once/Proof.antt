@@ -1,5 +1,6 @@
 use mathlib.Core.Path.{sym, _∙_}
 use native.Mathlib.Omega.{arith}
+use Rattle.word.proofs.Budget.{wrote-none}
 use Rattle.plan.proofs.Directly.{found-at-once}
 use borrow.Author.Needs.{needs}
 use Rattle.plan.proofs.direct.at_once.Statement.{statement}
@@ -15,7 +16,7 @@ use Rattle.pool.proofs.stands.Reads as stands-reads
 
 -- src/direct.rt:131:9
 returns : tie.Need-returns
-returns c = search needs
+returns c = wrote-none _ _ _
 
 -- src/direct.rt:133:9
 size-requires : tie.Need-size-requires
@@ -23,7 +24,7 @@ size-requires c κs = search needs
 
 -- src/direct.rt:135:9
 returns-2 : tie.Need-returns-2
-returns-2 c = search needs
+returns-2 c = wrote-none _ _ _
 
 -- src/direct.rt:137:9
 fits-requires : tie.Need-fits-requires
@@ -38,7 +39,7 @@ enum-told-2 c = search needs
 
 -- src/direct.rt:139:9
 returns-3 : tie.Need-returns-3
-returns-3 c = search needs
+returns-3 c = wrote-none _ _ _
 
 -- src/direct.rt:142:9
 page-word-requires : tie.Need-page-word-requires
@@ -54,7 +55,7 @@ enum-told-3 c = search needs
 
 -- src/direct.rt:144:9
 returns-4 : tie.Need-returns-4
-returns-4 c = search needs
+returns-4 c = wrote-none _ _ _
 
 -- src/direct.rt:146:9
 stands-requires : tie.Need-stands-requires
@@ -73,7 +74,7 @@ same-length c = search needs
 
 -- src/direct.rt:148:9
 returns-5 : tie.Need-returns-5
-returns-5 c = search needs
+returns-5 c = wrote-none _ _ _
 
 -- src/direct.rt:150:8
 meets-requires : tie.Need-meets-requires
@@ -85,11 +86,11 @@ same-length-2 c = search needs
 
 -- src/direct.rt:151:9
 returns-6 : tie.Need-returns-6
-returns-6 c = search needs
+returns-6 c = wrote-none _ _ _
 
 -- src/direct.rt:153:5
 placed-requires : tie.Need-placed-requires
-placed-requires c κs = (c .before .before .before .before .before .before .before .before .before .before .before .before .before .before .before .before .before .before .if1 .left, sym (c .before .before .before .before .before .stands .ensures) ∙ c .before .before .before .enum-told4 .given .1)
+placed-requires c κs = (c .before .before .before .before .before .before .before .before .before .before .before .before .before .before .before .before .before .before .before .if1 .left, sym (c .before .before .before .before .before .before .stands .ensures) ∙ c .before .before .before .before .enum-told4 .given .1)
 
 -- src/direct.rt:127:1
 same-length-3 : tie.Need-same-length-3
@@ -97,7 +98,7 @@ same-length-3 c = search needs
 
 -- src/direct.rt:127:1
 returns-7 : tie.Need-returns-7
-returns-7 c = found-at-once _ (c .before .before .placed .last .0) _ (c .before .before .before .before .before .before .before .before .before .before .before .before .before .before .before .before .before .before .before .before .before .before .before .args .q) _ _ (sym (c .before .before .before .before .before .before .before .before .before .before .before .before .before .page-word .ensures) ∙ c .before .before .before .before .before .before .before .before .before .before .before .m .given .1) _ _ _ (c .before .before .before .before .before .before .before .before .before .before .before .before .before .before .before .before .before .before .before .before .before .if1 .left) (c .before .before .before .before .before .before .before .before .before .before .before .before .before .before .before .before .before .before .if2 .left) (c .before .before .before .before .before .before .before .before .before .before .before .before .before .before .before .before .before .before .before .before .size .ensures .0 (omega (arith, c .before .before .before .before .before .before .before .before .before .before .before .before .before .before .before .before .before .before .before .before .before .if1 .left))) (sym (c .before .before .before .before .before .before .before .before .before .before .before .before .before .before .before .before .before .fits2 .ensures) ∙ c .before .before .before .before .before .before .before .before .before .before .before .before .before .before .before .enum-told .given .1) (sym (c .before .before .before .before .before .before .before .before .stands .ensures) ∙ c .before .before .before .before .before .before .enum-told4 .given .1) (c .before .before .before .before .before .meets .ensures) (c .before .before .before .before .if3 .left) (c .before .before .placed .result) (c .before .before .placed .ensures)
+returns-7 c = found-at-once _ _ _ (c .before .before .placed .last .0) _ (c .before .before .before .before .before .before .before .before .before .before .before .before .before .before .before .before .before .before .before .before .before .before .before .before .args .q) _ _ (sym (c .before .before .before .before .before .before .before .before .before .before .before .before .before .before .page-word .ensures) ∙ c .before .before .before .before .before .before .before .before .before .before .before .before .m .given .1) _ _ _ (c .before .before .before .before .before .before .before .before .before .before .before .before .before .before .before .before .before .before .before .before .before .before .if1 .left) (c .before .before .before .before .before .before .before .before .before .before .before .before .before .before .before .before .before .before .before .if2 .left) (c .before .before .before .before .before .before .before .before .before .before .before .before .before .before .before .before .before .before .before .before .before .size .ensures .0 (omega (arith, c .before .before .before .before .before .before .before .before .before .before .before .before .before .before .before .before .before .before .before .before .before .before .if1 .left))) (sym (c .before .before .before .before .before .before .before .before .before .before .before .before .before .before .before .before .before .before .fits2 .ensures) ∙ c .before .before .before .before .before .before .before .before .before .before .before .before .before .before .before .before .enum-told .given .1) (sym (c .before .before .before .before .before .before .before .before .before .stands .ensures) ∙ c .before .before .before .before .before .before .before .enum-told4 .given .1) (c .before .before .before .before .before .before .meets .ensures) (c .before .before .before .before .before .if3 .left) (c .before .before .placed .result) (c .before .before .placed .ensures)
 
 pub at-once-spec : {M : Type 1} → statement M
 at-once-spec =

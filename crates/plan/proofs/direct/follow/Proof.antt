@@ -45,22 +45,22 @@ enum-known-e c = search needs
 
 -- src/direct.rt:42:1
 returns : tie.Need-returns
-returns c = sym (lead-outside _ _ (c .before .before .before .before .before .pre .1) _ _ _ (rw (c .before .before .before .index .ensures (c .before .before .before .before .before .pre .0)) at (sym (c .before .before .«entry» .ensures) ∙ c .enum-told .given .1)))
+returns c = sym (lead-outside _ _ (c .before .before .before .before .before .pre .1) _ _ _ (rw (c .before .before .before .index .ensures .0 (c .before .before .before .before .before .pre .0)) at (sym (c .before .before .«entry» .ensures) ∙ c .enum-told .given .1)))
 
 -- src/direct.rt:42:1
 returns-2 : tie.Need-returns-2
 unfolding leadBy
-returns-2 c = sym (lead-word _ _ (c .before .before .before .before .before .before .before .before .before .pre .1) _ _ _ _ (rw (c .before .before .before .before .before .before .before .index .ensures (c .before .before .before .before .before .before .before .before .before .pre .0)) at (sym (c .before .before .before .before .before .before .«entry» .ensures) ∙ c .before .before .before .before .c .given .1)) ∙ ap leadBy (sym (c .before .before .decode .ensures) ∙ c .enum-told2 .given .1))
+returns-2 c = sym (lead-word _ _ (c .before .before .before .before .before .before .before .before .before .pre .1) _ _ _ _ (rw (c .before .before .before .before .before .before .before .index .ensures .0 (c .before .before .before .before .before .before .before .before .before .pre .0)) at (sym (c .before .before .before .before .before .before .«entry» .ensures) ∙ c .before .before .before .before .c .given .1)) ∙ ap leadBy (sym (c .before .before .decode .ensures) ∙ c .enum-told2 .given .1))
 
 -- src/direct.rt:42:1
 returns-3 : tie.Need-returns-3
 unfolding leadBy
-returns-3 c = sym (lead-word _ _ (c .before .before .before .before .before .before .before .before .before .pre .1) _ _ _ _ (rw (c .before .before .before .before .before .before .before .index .ensures (c .before .before .before .before .before .before .before .before .before .pre .0)) at (sym (c .before .before .before .before .before .before .«entry» .ensures) ∙ c .before .before .before .before .c .given .1)) ∙ ap leadBy (sym (c .before .before .decode .ensures) ∙ c .enum-told3 .given .1))
+returns-3 c = sym (lead-word _ _ (c .before .before .before .before .before .before .before .before .before .pre .1) _ _ _ _ (rw (c .before .before .before .before .before .before .before .index .ensures .0 (c .before .before .before .before .before .before .before .before .before .pre .0)) at (sym (c .before .before .before .before .before .before .«entry» .ensures) ∙ c .before .before .before .before .c .given .1)) ∙ ap leadBy (sym (c .before .before .decode .ensures) ∙ c .enum-told3 .given .1))
 
 -- src/direct.rt:42:1
 returns-4 : tie.Need-returns-4
 unfolding leadBy
-returns-4 c = sym (lead-word _ _ (c .before .before .before .before .before .before .before .before .before .before .pre .1) _ _ _ _ (rw (c .before .before .before .before .before .before .before .before .index .ensures (c .before .before .before .before .before .before .before .before .before .before .pre .0)) at (sym (c .before .before .before .before .before .before .before .«entry» .ensures) ∙ c .before .before .before .before .before .c .given .1)) ∙ ap leadBy (sym (c .before .before .before .decode .ensures) ∙ c .before .e .given .1))
+returns-4 c = sym (lead-word _ _ (c .before .before .before .before .before .before .before .before .before .before .pre .1) _ _ _ _ (rw (c .before .before .before .before .before .before .before .before .index .ensures .0 (c .before .before .before .before .before .before .before .before .before .before .pre .0)) at (sym (c .before .before .before .before .before .before .before .«entry» .ensures) ∙ c .before .before .before .before .before .c .given .1)) ∙ ap leadBy (sym (c .before .before .before .decode .ensures) ∙ c .before .e .given .1))
 
 pub follow-spec : {M : Type 1} → statement M
 follow-spec =

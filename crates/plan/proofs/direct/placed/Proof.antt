@@ -1,5 +1,6 @@
 use mathlib.Core.Bool.{true}
-use mathlib.Core.Path.{refl, sym, _∙_}
+use mathlib.Core.Path.{refl}
+use Rattle.word.proofs.Budget.{wrote-none}
 use Rattle.plan.specs.Descend.{wayOf}
 use Rattle.plan.proofs.Directly.{settled}
 use borrow.Author.Needs.{needs}
@@ -40,7 +41,7 @@ same-length c = search needs
 
 -- src/direct.rt:113:1
 returns : tie.Need-returns
-returns c = rw (c .before .before .settle .ensures .0, c .before .before .settle .ensures .1) (settled _ _ _ _ _ _ (rw (c .before .before .before .before .before .l .given .1) at (c .before .before .before .before .before .before .before .last .ensures (c .before .before .before .before .before .before .before .before .before .before .pre .0))) _ refl)
+returns c = rw (c .before .before .settle .ensures .0) (settled _ _ _ _ _ _ _ _ _ (rw (c .before .before .before .before .before .before .l .given .1) at (c .before .before .before .before .before .before .before .before .last .ensures (c .before .before .before .before .before .before .before .before .before .before .before .pre .0))) _ refl (c .before .before .settle .ensures .1))
 
 -- src/direct.rt:113:1
 same-length-2 : tie.Need-same-length-2
@@ -49,7 +50,7 @@ same-length-2 c = search needs
 -- src/direct.rt:113:1
 returns-2 : tie.Need-returns-2
 unfolding wayOf
-returns-2 c = record { by = true; why = rw (c .enum-told .given .1) at (c .before .before .last .ensures (c .before .before .before .before .before .pre .0)); bytes = refl }
+returns-2 c = record { by = true; why = rw (c .enum-told .given .1) at (c .before .before .last .ensures (c .before .before .before .before .before .pre .0)); order = wrote-none _ _ _ }
 
 -- src/direct.rt:113:1
 same-length-3 : tie.Need-same-length-3
@@ -57,7 +58,7 @@ same-length-3 c = search needs
 
 -- src/direct.rt:113:1
 returns-3 : tie.Need-returns-3
-returns-3 c = search needs
+returns-3 c = wrote-none _ _ _
 
 -- src/direct.rt:113:1
 same-length-4 : tie.Need-same-length-4
@@ -65,7 +66,7 @@ same-length-4 c = search needs
 
 -- src/direct.rt:113:1
 returns-4 : tie.Need-returns-4
-returns-4 c = search needs
+returns-4 c = wrote-none _ _ _
 
 pub placed-spec : {M : Type 1} → statement M
 placed-spec =

@@ -1,8 +1,8 @@
-use mathlib.Core.Path.{sym, _∙_}
+use Rattle.word.proofs.Budget.{wrote-none, wrote-as}
+use mathlib.Core.Path.{_≡_, sym, _∙_}
 use native.Mathlib.Omega.{arith}
-use Rattle.word.specs.Writes.{carried}
 use Rattle.plan.specs.AtOnce.{onceOf, onceWrites}
-use Rattle.plan.proofs.Reading.{lead-written}
+use Rattle.plan.proofs.Reading.{lead-entry}
 use borrow.Author.Needs.{needs}
 use Rattle.plan.proofs.direct.settle.Statement.{statement}
 use Rattle.plan.proofs.direct.settle.Tie as tie
@@ -20,7 +20,7 @@ follow-requires c κs = search needs
 enum-told : tie.Need-enum-told
 enum-told c = search needs
 
--- src/direct.rt:103:44
+-- src/direct.rt:103:50
 index-requires : tie.Need-index-requires
 index-requires c κs = search needs
 
@@ -46,8 +46,8 @@ same-length c = search needs
 
 -- src/direct.rt:95:1
 returns : tie.Need-returns
-unfolding onceOf onceWrites carried
-returns c = let e = sym (c .before .before .before .before .before .before .before .follow .ensures) ∙ c .before .before .before .before .before .enum-told .given .1 in (rw e, rw (e, c .before .before .set-entry .ensures, c .before .before .before .index .ensures (omega (arith, c .before .before .before .before .before .before .before .before .before .before .pre .0))) (lead-written _ _ (c .before .before .before .before .before .before .before .before .before .before .pre .1) _ _ _ _ e))
+unfolding onceOf onceWrites
+returns c = let e = sym (c .before .before .before .before .before .before .before .before .follow .ensures) ∙ c .before .before .before .before .before .before .enum-told .given .1 in let i = c .before .before .before .index .ensures .0 (omega (arith, c .before .before .before .before .before .before .before .before .before .before .before .pre .0)) in (rw e, rw e (wrote-as _ _ _ _ _ _ _ (lead-entry _ _ (c .before .before .before .before .before .before .before .before .before .before .before .pre .1) _ _ _ (c .before .before .before .before .before .before .before .before .before .before .before .args .x) e) (rw i at (c .before .before .set-entry .ensures))))
 
 -- src/direct.rt:95:1
 same-length-2 : tie.Need-same-length-2
@@ -55,8 +55,8 @@ same-length-2 c = search needs
 
 -- src/direct.rt:95:1
 returns-2 : tie.Need-returns-2
-unfolding onceOf onceWrites carried
-returns-2 c = let e = sym (c .before .before .follow .ensures) ∙ c .enum-told2 .given .1 in (rw e, rw e)
+unfolding onceOf onceWrites
+returns-2 c = let e = sym (c .before .before .follow .ensures) ∙ c .enum-told2 .given .1 in (rw e, rw e (wrote-none _ _ _))
 
 -- src/direct.rt:95:1
 same-length-3 : tie.Need-same-length-3
@@ -64,8 +64,8 @@ same-length-3 c = search needs
 
 -- src/direct.rt:95:1
 returns-3 : tie.Need-returns-3
-unfolding onceOf onceWrites carried
-returns-3 c = let e = sym (c .before .before .follow .ensures) ∙ c .enum-told3 .given .1 in (rw e, rw e)
+unfolding onceOf onceWrites
+returns-3 c = let e = sym (c .before .before .follow .ensures) ∙ c .enum-told3 .given .1 in (rw e, rw e (wrote-none _ _ _))
 
 -- src/direct.rt:95:1
 same-length-4 : tie.Need-same-length-4
@@ -73,8 +73,8 @@ same-length-4 c = search needs
 
 -- src/direct.rt:95:1
 returns-4 : tie.Need-returns-4
-unfolding onceOf onceWrites carried
-returns-4 c = let e = sym (c .before .before .follow .ensures) ∙ c .enum-told4 .given .1 in (rw e, rw e)
+unfolding onceOf onceWrites
+returns-4 c = let e = sym (c .before .before .follow .ensures) ∙ c .enum-told4 .given .1 in (rw e, rw e (wrote-none _ _ _))
 
 pub settle-spec : {M : Type 1} → statement M
 settle-spec =

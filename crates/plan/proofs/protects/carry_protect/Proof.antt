@@ -1,5 +1,4 @@
 use Rattle.plan.specs.Protect.{writesOf}
-use Rattle.word.specs.Writes.{carried}
 use borrow.Author.Needs.{needs}
 use Rattle.plan.proofs.protects.carry_protect.Statement.{statement}
 use Rattle.plan.proofs.protects.carry_protect.Tie as tie
@@ -7,18 +6,18 @@ use Rattle.plan.proofs.protects.carry_protect.Reads as reads
 use Rattle.plan.proofs.protects.carry_protect.Lts as lts
 use Rattle.word.proofs.write.Reads as write-reads
 
--- src/protects.rt:54:5
+-- src/protects.rt:55:5
 write-requires : tie.Need-write-requires
 write-requires c κs = search needs
 
--- src/protects.rt:51:1
+-- src/protects.rt:52:1
 same-length : tie.Need-same-length
 same-length c = search needs
 
--- src/protects.rt:51:1
+-- src/protects.rt:52:1
 returns : tie.Need-returns
-unfolding writesOf carried
-returns c = rw (c .before .before .write .ensures)
+unfolding writesOf
+returns c = c .before .before .write .ensures
 
 pub carry-protect-spec : {M : Type 1} → statement M
 carry-protect-spec = tie.close (tie.spec write-requires same-length returns)

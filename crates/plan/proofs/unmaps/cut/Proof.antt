@@ -1,7 +1,6 @@
+use borrow.Author.Tests.{le-leb, lt-leb}
+use Rattle.word.proofs.Budget.{wrote-none, wrote-then}
 use Rattle.plan.specs.Unmap.{cutBook, cutWrites}
-use mathlib.Core.Path.{_≡_, sym, ap, _∙_}
-use Rattle.word.specs.Writes.{carried}
-use borrow.Author.Tests.{eq-eqb, ne-eqb, le-leb, lt-leb, lt-ltb, le-ltb}
 use borrow.Author.Needs.{needs}
 use Rattle.plan.proofs.unmaps.cut.Statement.{statement}
 use Rattle.plan.proofs.unmaps.cut.Tie as tie
@@ -11,31 +10,31 @@ use Rattle.pool.proofs.set_aside.Reads as set-aside-reads
 use Rattle.walk.proofs.index.Reads as index-reads
 use Rattle.word.proofs.write.Reads as write-reads
 
--- src/unmaps.rt:140:9
+-- src/unmaps.rt:132:9
 returns : tie.Need-returns
-unfolding cutBook cutWrites carried
-returns c = (simp (le-leb _ _ (c .if1 .taken)), λ u. simp (le-leb _ _ (c .if1 .taken)))
+unfolding cutBook cutWrites
+returns c = (simp (le-leb _ _ (c .if1 .taken)), simp (le-leb _ _ (c .if1 .taken)) (wrote-none _ _ _))
 
--- src/unmaps.rt:142:44
+-- src/unmaps.rt:134:50
 index-requires : tie.Need-index-requires
 index-requires c κs = search needs
 
--- src/unmaps.rt:142:5
+-- src/unmaps.rt:134:5
 write-requires : tie.Need-write-requires
 write-requires c κs = search needs
 
--- src/unmaps.rt:143:5
+-- src/unmaps.rt:135:5
 set-aside-requires : tie.Need-set-aside-requires
 set-aside-requires c κs = search needs
 
--- src/unmaps.rt:135:1
+-- src/unmaps.rt:115:1
 same-length : tie.Need-same-length
 same-length c = search needs
 
--- src/unmaps.rt:135:1
+-- src/unmaps.rt:115:1
 returns-2 : tie.Need-returns-2
-unfolding cutBook cutWrites carried
-returns-2 c = (simp (lt-leb _ _ (c .before .before .before .before .before .before .before .before .before .if1 .left)) (c .before .before .set-aside .ensures .0), λ u. simp (lt-leb _ _ (c .before .before .before .before .before .before .before .before .before .if1 .left)) (rw (c .before .before .set-aside .ensures .1, c .before .before .before .before .before .before .write .ensures, c .before .before .before .before .before .before .before .index .ensures (u (c .before .before .before .before .before .before .before .before .before .if1 .left)))))
+unfolding cutBook cutWrites
+returns-2 c = (simp (lt-leb _ _ (c .before .before .before .before .before .before .before .before .before .before .before .if1 .left)) (c .before .before .set-aside .ensures .0), simp (lt-leb _ _ (c .before .before .before .before .before .before .before .before .before .before .before .if1 .left)) (rw (← c .before .before .before .before .before .before .before .before .index .ensures .0 (c .before .before .before .before .before .before .before .before .before .before .before .before .before .pre (c .before .before .before .before .before .before .before .before .before .before .before .if1 .left))) (wrote-then _ _ _ _ _ _ _ _ _ (c .before .before .before .before .before .before .before .write .ensures) (c .before .before .set-aside .ensures .1))))
 
 pub cut-spec : {M : Type 1} → statement M
 cut-spec =

@@ -48,12 +48,12 @@ besides-requires-2 c κs = search needs
 -- src/unmaps.rt:72:9
 returns-4 : tie.Need-returns-4
 unfolding emptiedOf
-returns-4 c = λ e. simp (lt-leb _ _ (c .before .before .before .before .before .before .before .before .if1 .left), rw e at (sym (c .before .before .before .before .before .before .before .besides .ensures) ∙ c .before .before .before .before .before .before .if2 .left), lt-leb _ _ (c .before .before .before .before .if3 .left), rw (c .before .before .index .ensures (omega arith)) at (sym (c .before .besides2 .ensures) ∙ c .if4 .taken))
+returns-4 c = λ e. simp (lt-leb _ _ (c .before .before .before .before .before .before .before .before .if1 .left), rw e at (sym (c .before .before .before .before .before .before .before .besides .ensures) ∙ c .before .before .before .before .before .before .if2 .left), lt-leb _ _ (c .before .before .before .before .if3 .left), rw (c .before .before .index .ensures .0 (omega arith)) at (sym (c .before .besides2 .ensures) ∙ c .if4 .taken))
 
 -- src/unmaps.rt:75:9
 returns-5 : tie.Need-returns-5
 unfolding emptiedOf
-returns-5 c = λ e. simp (lt-leb _ _ (c .before .before .before .before .before .before .before .before .before .before .if1 .left), rw e at (sym (c .before .before .before .before .before .before .before .before .before .besides .ensures) ∙ c .before .before .before .before .before .before .before .before .if2 .left), lt-leb _ _ (c .before .before .before .before .before .before .if3 .left), rw (c .before .before .before .before .index .ensures (omega arith)) at (sym (c .before .before .before .besides2 .ensures) ∙ c .before .before .if4 .left), le-leb _ _ (c .if5 .taken))
+returns-5 c = λ e. simp (lt-leb _ _ (c .before .before .before .before .before .before .before .before .before .before .if1 .left), rw e at (sym (c .before .before .before .before .before .before .before .before .before .besides .ensures) ∙ c .before .before .before .before .before .before .before .before .if2 .left), lt-leb _ _ (c .before .before .before .before .before .before .if3 .left), rw (c .before .before .before .before .index .ensures .0 (omega arith)) at (sym (c .before .before .before .besides2 .ensures) ∙ c .before .before .if4 .left), le-leb _ _ (c .if5 .taken))
 
 -- src/unmaps.rt:77:8
 besides-requires-3 : tie.Need-besides-requires-3
@@ -62,12 +62,12 @@ besides-requires-3 c κs = search needs
 -- src/unmaps.rt:78:9
 returns-6 : tie.Need-returns-6
 unfolding emptiedOf
-returns-6 c = λ e. simp (lt-leb _ _ (c .before .before .before .before .before .before .before .before .before .before .before .before .before .if1 .left), rw e at (sym (c .before .before .before .before .before .before .before .before .before .before .before .before .besides .ensures) ∙ c .before .before .before .before .before .before .before .before .before .before .before .if2 .left), lt-leb _ _ (c .before .before .before .before .before .before .before .before .before .if3 .left), rw (c .before .before .before .before .before .before .before .index .ensures (omega arith)) at (sym (c .before .before .before .before .before .before .besides2 .ensures) ∙ c .before .before .before .before .before .if4 .left), lt-leb _ _ (c .before .before .before .if5 .left), rw (c .before .before .index2 .ensures (omega arith)) at (sym (c .before .besides3 .ensures) ∙ c .if6 .taken))
+returns-6 c = λ e. simp (lt-leb _ _ (c .before .before .before .before .before .before .before .before .before .before .before .before .before .if1 .left), rw e at (sym (c .before .before .before .before .before .before .before .before .before .before .before .before .besides .ensures) ∙ c .before .before .before .before .before .before .before .before .before .before .before .if2 .left), lt-leb _ _ (c .before .before .before .before .before .before .before .before .before .if3 .left), rw (c .before .before .before .before .before .before .before .index .ensures .0 (omega arith)) at (sym (c .before .before .before .before .before .before .besides2 .ensures) ∙ c .before .before .before .before .before .if4 .left), lt-leb _ _ (c .before .before .before .if5 .left), rw (c .before .before .index2 .ensures .0 (omega arith)) at (sym (c .before .besides3 .ensures) ∙ c .if6 .taken))
 
 -- src/unmaps.rt:59:1
 returns-7 : tie.Need-returns-7
 unfolding emptiedOf
-returns-7 c = λ e. simp (lt-leb _ _ (c .before .before .before .before .before .before .before .before .before .before .before .before .before .if1 .left), rw e at (sym (c .before .before .before .before .before .before .before .before .before .before .before .before .besides .ensures) ∙ c .before .before .before .before .before .before .before .before .before .before .before .if2 .left), lt-leb _ _ (c .before .before .before .before .before .before .before .before .before .if3 .left), rw (c .before .before .before .before .before .before .before .index .ensures (omega arith)) at (sym (c .before .before .before .before .before .before .besides2 .ensures) ∙ c .before .before .before .before .before .if4 .left), lt-leb _ _ (c .before .before .before .if5 .left), rw (c .before .before .index2 .ensures (omega arith)) at (sym (c .before .besides3 .ensures) ∙ c .if6 .left))
+returns-7 c = λ e. simp (lt-leb _ _ (c .before .before .before .before .before .before .before .before .before .before .before .before .before .if1 .left), rw e at (sym (c .before .before .before .before .before .before .before .before .before .before .before .before .besides .ensures) ∙ c .before .before .before .before .before .before .before .before .before .before .before .if2 .left), lt-leb _ _ (c .before .before .before .before .before .before .before .before .before .if3 .left), rw (c .before .before .before .before .before .before .before .index .ensures .0 (omega arith)) at (sym (c .before .before .before .before .before .before .besides2 .ensures) ∙ c .before .before .before .before .before .if4 .left), lt-leb _ _ (c .before .before .before .if5 .left), rw (c .before .before .index2 .ensures .0 (omega arith)) at (sym (c .before .besides3 .ensures) ∙ c .if6 .left))
 
 pub emptied-spec : {M : Type 1} → statement M
 emptied-spec =

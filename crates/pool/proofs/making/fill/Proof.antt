@@ -1,11 +1,10 @@
 use Prim.Native.Nat.{_≤_, _-_}
-use mathlib.Core.Path.{_≡_, ap, _∙_}
+use mathlib.Core.Path.{_≡_}
 use native.Mathlib.Omega.{arith}
-use lib.ListN.{length}
-use Rattle.word.specs.Writes.{carried}
-use Rattle.word.proofs.Writes.{length-carried}
+use Rattle.word.specs.Writes.{Wrote}
+use Rattle.word.proofs.Budget.{length-wrote}
 use Rattle.pool.specs.Create.{fills}
-use Rattle.pool.proofs.Fills.{fills-none, fills-next}
+use Rattle.pool.proofs.Fills.{wrote-no-slot, wrote-slot}
 use Rattle.pool.proofs.making.fill.Statement.{statement}
 use Rattle.pool.proofs.making.fill.Tie as tie
 use Rattle.pool.proofs.making.fill.Reads as reads
@@ -13,44 +12,44 @@ use Rattle.pool.proofs.making.fill.Lts as lts
 use Rattle.pool.proofs.put.Reads as put-reads
 
 abbrev Inv-loop : tie.InvT-loop
-Inv-loop mem₀ space from n j₀ mem j = (j ≤ n) × (mem ≡ carried mem₀ (space .origin) (fills space from j))
+Inv-loop mem₀ left₀ space from n j₀ mem left j = (j ≤ n) × Wrote (space .origin) (fills space from j) left₀ left mem₀ mem
 
 abbrev μ-loop : tie.MeasureT-loop
-μ-loop mem₀ space from n j₀ mem j = n - j
+μ-loop mem₀ left₀ space from n j₀ mem left j = n - j
 
--- src/lib.rt:364:5
+-- src/making.rt:36:5
 loop-holds : tie.Need-loop-holds Inv-loop μ-loop
-loop-holds c = (omega arith, fills-none _ _ _)
+loop-holds c = (omega arith, wrote-no-slot _ _ _ _)
 
--- src/lib.rt:365:25
+-- src/making.rt:37:31
 add-put : tie.Need-add-put Inv-loop μ-loop
 add-put c = omega arith
 
--- src/lib.rt:365:32
+-- src/making.rt:37:38
 add-put-2 : tie.Need-add-put-2 Inv-loop μ-loop
 add-put-2 c = omega arith
 
--- src/lib.rt:365:9
+-- src/making.rt:37:9
 put-requires : tie.Need-put-requires Inv-loop μ-loop
 put-requires c κs = tt
 
--- src/lib.rt:366:9
+-- src/making.rt:38:9
 add-j : tie.Need-add-j Inv-loop μ-loop
 add-j c = omega arith
 
--- src/lib.rt:364:5
+-- src/making.rt:36:5
 loop-less : tie.Need-loop-less Inv-loop μ-loop
 loop-less c = omega arith
 
--- src/lib.rt:364:5
+-- src/making.rt:36:5
 loop-again : tie.Need-loop-again Inv-loop μ-loop
-loop-again c = (omega arith, c .before .before .put .ensures ∙ rw (c .before .before .before .before .before .loop .inv .1) (fills-next _ _ _ _))
+loop-again c = (omega arith, wrote-slot _ _ _ _ _ _ _ _ _ (c .before .before .before .before .before .before .loop .inv .1) (c .before .before .put .ensures))
 
--- src/lib.rt:359:1
+-- src/making.rt:31:1
 same-length : tie.Need-same-length Inv-loop μ-loop
-same-length c = ap length (c .before .loop .inv .1) ∙ length-carried _ _ _
+same-length c = length-wrote _ _ _ _ _ _ (c .before .loop .inv .1)
 
--- src/lib.rt:359:1
+-- src/making.rt:31:1
 returns : tie.Need-returns Inv-loop μ-loop
 returns c = let e : c .before .loop .j ≡ c .before .before .before .args .n = omega arith in rw e at (c .before .loop .inv .1)
 

@@ -1,65 +1,74 @@
 use mathlib.Core.Path.{sym, _∙_}
 use native.Mathlib.Omega.{arith}
-use borrow.Author.Tests.{lt-ltb}
-use Rattle.word.specs.Memory.{written}
-use Rattle.word.specs.Runs.{amongWritten}
-use Rattle.word.proofs.Memory.{offset}
-use Rattle.word.proofs.Runs.{is-among, among-holds}
+use Rattle.word.proofs.Budget.{wrote-none, wrote-one, wrote-stopped}
+use Rattle.word.proofs.Runs.{among-offset, among-index, among-written, one-among, none-among}
 use borrow.Author.Needs.{needs}
 use Rattle.word.proofs.run.write_among.Statement.{statement}
 use Rattle.word.proofs.run.write_among.Tie as tie
 use Rattle.word.proofs.run.write_among.Reads as reads
 use Rattle.word.proofs.run.write_among.Lts as lts
 use Rattle.word.proofs.run.among.Reads as among-reads
+use Rattle.word.proofs.spend.Reads as spend-reads
 use Rattle.word.proofs.store.Reads as store-reads
 
--- src/run.rt:71:8
+-- src/run.rt:74:8
 among-requires : tie.Need-among-requires
 among-requires c κs = search needs
 
--- src/run.rt:72:21
+-- src/run.rt:75:12
+spend-requires : tie.Need-spend-requires
+spend-requires c κs = search needs
+
+-- src/run.rt:76:25
 mul-store : tie.Need-mul-store
-mul-store c = let a = is-among _ _ _ _ (c .before .before .before .before .before .args .kept) (c .before .before .before .before .before .args .p) (c .before .before .before .before .before .args .i) (sym (c .before .before .among .ensures) ∙ c .before .if1 .taken) in let o = offset _ _ _ _ (among-holds _ _ _ _ _ _ _ a) (a .small) in omega (arith, o .product)
+mul-store c = omega (arith, among-offset _ _ _ _ (c .before .before .before .before .before .before .before .before .args .kept) _ (c .before .before .before .before .before .before .before .before .args .i) (sym (c .before .before .before .before .before .among .ensures) ∙ c .before .before .before .before .if1 .taken) .product)
 
--- src/run.rt:72:21
+-- src/run.rt:76:25
 sub-store : tie.Need-sub-store
-sub-store c = let a = is-among _ _ _ _ (c .before .before .before .before .before .args .kept) (c .before .before .before .before .before .args .p) (c .before .before .before .before .before .args .i) (sym (c .before .before .among .ensures) ∙ c .before .if1 .taken) in let o = offset _ _ _ _ (among-holds _ _ _ _ _ _ _ a) (a .small) in o .above
+sub-store c = among-offset _ _ _ _ (c .before .before .before .before .before .before .before .before .args .kept) _ (c .before .before .before .before .before .before .before .before .args .i) (sym (c .before .before .before .before .before .among .ensures) ∙ c .before .before .before .before .if1 .taken) .above
 
--- src/run.rt:72:41
+-- src/run.rt:76:45
 mul-store-2 : tie.Need-mul-store-2
-mul-store-2 c = let a = is-among _ _ _ _ (c .before .before .before .before .before .args .kept) (c .before .before .before .before .before .args .p) (c .before .before .before .before .before .args .i) (sym (c .before .before .among .ensures) ∙ c .before .if1 .taken) in let o = offset _ _ _ _ (among-holds _ _ _ _ _ _ _ a) (a .small) in omega (arith, a .small)
+mul-store-2 c = omega (arith, among-index _ _ _ _ (c .before .before .before .before .before .before .before .before .args .kept) (c .before .before .before .before .before .before .before .before .args .p) (c .before .before .before .before .before .before .before .before .args .i) (sym (c .before .before .before .before .before .among .ensures) ∙ c .before .before .before .before .if1 .taken))
 
--- src/run.rt:72:21
+-- src/run.rt:76:25
 add-store : tie.Need-add-store
-add-store c = let a = is-among _ _ _ _ (c .before .before .before .before .before .args .kept) (c .before .before .before .before .before .args .p) (c .before .before .before .before .before .args .i) (sym (c .before .before .among .ensures) ∙ c .before .if1 .taken) in let o = offset _ _ _ _ (among-holds _ _ _ _ _ _ _ a) (a .small) in omega (arith, o .fits)
+add-store c = omega (arith, among-offset _ _ _ _ (c .before .before .before .before .before .before .before .before .args .kept) _ (c .before .before .before .before .before .before .before .before .args .i) (sym (c .before .before .before .before .before .among .ensures) ∙ c .before .before .before .before .if1 .taken) .fits)
 
--- src/run.rt:72:9
+-- src/run.rt:76:13
 store-requires : tie.Need-store-requires
-store-requires c κs = let a = is-among _ _ _ _ (c .before .before .before .before .before .args .kept) (c .before .before .before .before .before .args .p) (c .before .before .before .before .before .args .i) (sym (c .before .before .among .ensures) ∙ c .before .if1 .taken) in let o = offset _ _ _ _ (among-holds _ _ _ _ _ _ _ a) (a .small) in omega (arith, o .fits)
+store-requires c κs = among-offset _ _ _ _ (c .before .before .before .before .before .before .before .before .args .kept) _ (c .before .before .before .before .before .before .before .before .args .i) (sym (c .before .before .before .before .before .among .ensures) ∙ c .before .before .before .before .if1 .taken) .fits
 
--- src/run.rt:59:1
+-- src/run.rt:61:1
 same-length : tie.Need-same-length
 same-length c = search needs
 
--- src/run.rt:59:1
+-- src/run.rt:61:1
 returns : tie.Need-returns
-unfolding amongWritten written
-returns c = let a = is-among _ _ _ _ (c .before .before .before .before .before .before .before .before .args .kept) (c .before .before .before .before .before .before .before .before .args .p) (c .before .before .before .before .before .before .before .before .args .i) (sym (c .before .before .before .before .before .among .ensures) ∙ c .before .before .before .before .if1 .taken) in let o = offset _ _ _ _ (among-holds _ _ _ _ _ _ _ a) (a .small) in simp (sym (c .before .before .before .before .before .among .ensures) ∙ c .before .before .before .before .if1 .taken, lt-ltb _ _ (a .small), among-holds _ _ _ _ _ _ _ a, c .before .before .store .ensures, o .same)
+returns c = let e = sym (c .before .before .before .before .before .before .before .before .among .ensures) ∙ c .before .before .before .before .before .before .before .if1 .taken in rw (one-among _ _ _ _ _ _ _ (c .before .before .before .before .before .before .before .before .before .before .before .args .w) e) (wrote-one _ _ _ _ _ _ _ _ (sym (c .before .before .before .before .before .spend .ensures .0) ∙ c .before .before .before .before .if2 .taken) (c .before .before .before .before .before .spend .ensures .1) (c .before .before .store .ensures ∙ among-written _ _ _ _ _ _ _ _ e))
 
--- src/run.rt:59:1
+-- src/run.rt:61:1
 same-length-2 : tie.Need-same-length-2
 same-length-2 c = search needs
 
--- src/run.rt:59:1
+-- src/run.rt:61:1
 returns-2 : tie.Need-returns-2
-unfolding amongWritten
-returns-2 c = simp (sym (c .before .among .ensures) ∙ c .if1 .left)
+returns-2 c = rw (one-among _ _ _ _ _ _ _ (c .before .before .before .before .before .before .before .args .w) (sym (c .before .before .before .before .among .ensures) ∙ c .before .before .before .if1 .taken)) (wrote-stopped _ _ _ _ _ _ _ (sym (c .before .spend .ensures .0) ∙ c .if2 .left) (c .before .spend .ensures .1))
+
+-- src/run.rt:61:1
+same-length-3 : tie.Need-same-length-3
+same-length-3 c = search needs
+
+-- src/run.rt:61:1
+returns-3 : tie.Need-returns-3
+returns-3 c = rw (none-among _ _ _ _ _ _ _ (c .before .before .before .before .args .w) (sym (c .before .among .ensures) ∙ c .if1 .left)) (wrote-none _ _ _)
 
 pub write-among-spec : {M : Type 1} → statement M
 write-among-spec =
     tie.close
     (tie.spec
     among-requires
+    spend-requires
     mul-store
     sub-store
     mul-store-2
@@ -68,4 +77,6 @@ write-among-spec =
     same-length
     returns
     same-length-2
-    returns-2)
+    returns-2
+    same-length-3
+    returns-3)

@@ -1,0 +1,258 @@
+-- Of any bytes: a plan's levels are levels, and its ticket is a number of 64 bits.
+use Prim.Native.Nat.{ℕ, zero, suc, _+_, _-_, _*_, _/_, _^_, _<_, _≤_}
+use mathlib.Core.Bool.{Bool, true, false, cond, not, _&&_}
+use mathlib.Core.List.{List}
+use mathlib.Core.Path.{_≡_, refl, sym, ap, _∙_, subst}
+use native.Mathlib.Omega.{arith}
+use borrow.Author.Tests.{leb-true, leb-false, eqb-true, ltb-true, ltb-false, lt-ltb}
+use lib.Dec.{leb, ltb, eqb}
+use Rattle.word.specs.Memory.{holds}
+use Rattle.word.specs.Scan.{besidesOf}
+use Rattle.word.proofs.Memory.{held}
+use Rattle.word.proofs.Tests.{and-both}
+use Rattle.entry.specs.Entry.{says}
+use Rattle.entry.specs.Words.{madePage}
+use Rattle.entry.specs.declared.Entry.{Entry}
+use Rattle.entry.specs.declared.Entry.the-variants as entry
+use Rattle.entry.specs.declared.Made.{Made}
+use Rattle.entry.specs.declared.Made.the-variants as made
+use Rattle.walk.specs.Walk.{entryOf, indexOf}
+use Rattle.pool.specs.Book.{inPool, Sound, soundOf, ticketOf, ticketIn, openedOf, wordOf, spotOf, usableOf, namedOf, listedOf}
+use Rattle.pool.specs.Stands.{standsOf, takesOf}
+use Rattle.pool.specs.Changes.{asideBook}
+use Rattle.pool.specs.declared.Space.{Space}
+use Rattle.pool.specs.declared.Book.{Book}
+use Rattle.pool.specs.declared.Fit.{Fit}
+use Rattle.pool.specs.declared.Fit.the-variants as fit
+use Rattle.pool.specs.declared.Opened.{Opened}
+use Rattle.pool.specs.declared.Opened.the-variants as opened
+use Rattle.pool.specs.declared.Listed.{Listed}
+use Rattle.pool.specs.declared.Listed.the-variants as listed
+use Rattle.pool.proofs.Counts.{sound-is, pool-in}
+use Rattle.pool.proofs.Opening as opening
+use Rattle.pool.proofs.Opening.{open-shows}
+use Rattle.pool.specs.declared.Reason.the-variants.{BadBook}
+use Rattle.plan.specs.Map as map
+use Rattle.plan.specs.Map.{Low, Buildable}
+use Rattle.plan.specs.Unmap as unmap
+use Rattle.plan.specs.Find.{foundOf}
+use Rattle.plan.proofs.Found.{found-at}
+use Rattle.plan.specs.declared.Reason.the-variants.{FrameInPool, NoRoom, Pool}
+use Rattle.plan.specs.declared.maps.Asked.{Asked}
+use Rattle.plan.specs.declared.maps.Mapping.{Mapping}
+use Rattle.plan.specs.declared.maps.Fresh.{Fresh}
+use Rattle.plan.specs.declared.maps.Supply.{Supply}
+use Rattle.plan.specs.declared.maps.Supply.the-variants as supply
+use Rattle.plan.specs.declared.maps.Shape.{Shape}
+use Rattle.plan.specs.declared.maps.Shape.the-variants as shape
+use Rattle.plan.specs.declared.finding.Spot.{Spot}
+use Rattle.plan.specs.declared.finding.Sought.{Sought}
+use Rattle.plan.specs.declared.finding.Sought.the-variants as sought
+use Rattle.plan.specs.declared.unmaps.Removal.{Removal}
+use Rattle.plan.specs.declared.unmaps.Removing.the-variants as removing
+use Rattle.plan.specs.Descend.{wayOf}
+use Rattle.plan.specs.declared.descent.Way.{Way}
+use Rattle.plan.specs.declared.descent.Why.{Why}
+use Rattle.plan.specs.declared.descent.Why.the-variants as why
+use Rattle.plan.proofs.Ways.{way-low}
+
+-- Map --------------------------------------------------------------------------------------------------------------------------
+
+-- a page of the pool has such a number, where the pool lies in the window
+module _ (h : ℕ → Bool) (m : ℕ → ℕ) (sp : Space) (small : (x : ℕ) → h x ≡ true → x < 2 ^ 40) where
+  module _ (end : sp .first + sp .pages ≤ 2 ^ 40) where
+    usable-low : (x y : ℕ) → usableOf sp x ≡ listed.Page y → y < 2 ^ 40
+    unfolding usableOf
+    usable-low x y e = go (not (eqb x (sp .root)) && inPool sp x) refl e
+      where
+        go : (t : Bool) → (not (eqb x (sp .root)) && inPool sp x) ≡ t → cond t (listed.Page x) listed.Bad ≡ listed.Page y → y < 2 ^ 40
+        go true f k = let same : x ≡ y = cc in omega (arith, same, pool-in sp x (and-both (not (eqb x (sp .root))) (inPool sp x) f .1) .before-end)
+        go false f k = let z : _≡_ {A = ℕ} 0 1 = cc in absurd (omega arith)
+
+    listed-low : (t : Bool) (x y : ℕ) → cond t (usableOf sp x) listed.Bad ≡ listed.Page y → y < 2 ^ 40
+    listed-low true x y e = usable-low x y e
+    listed-low false x y e = let z : _≡_ {A = ℕ} 0 1 = cc in absurd (omega arith)
+
+    nth-low : (b : Book) (need j y : ℕ) → map.nthOf h m sp b need j ≡ listed.Page y → y < 2 ^ 40
+    unfolding map.nthOf listedOf namedOf
+    nth-low b need j y e = go (leb need j) (ltb j (b .free) && soundOf (sp .pages) b) e
+      where
+        k : ℕ
+        k = 8 + spotOf (sp .pages) (b .head) j
+
+        go : (t u : Bool) → cond t (listed.Page 0) (cond u (cond (h (sp .first + k / 512)) (usableOf sp (m (wordOf sp k))) listed.Bad) listed.Bad) ≡ listed.Page y → y < 2 ^ 40
+        go true u f = let same : 0 ≡ y = cc in omega (arith, same)
+        go false true f = listed-low (h (sp .first + k / 512)) (m (wordOf sp k)) y f
+        go false false f = let z : _≡_ {A = ℕ} 0 1 = cc in absurd (omega arith)
+
+    fresh-low : (b : Book) (need : ℕ) (f : Fresh) (x y z : Listed) → ((n : ℕ) → x ≡ listed.Page n → n < 2 ^ 40) → ((n : ℕ) → y ≡ listed.Page n → n < 2 ^ 40)
+        → ((n : ℕ) → z ≡ listed.Page n → n < 2 ^ 40) → map.freshThree b need x y z ≡ supply.Pages f → Low f
+    unfolding map.freshThree
+    fresh-low b need f (listed.Page x) (listed.Page y) (listed.Page z) i j k e =
+        let same : record { need = need; a = x; b = y; c = z; book = b } ≡ f = cc in
+        subst Low same (record { a = i x refl; b = j y refl; c = k z refl })
+    fresh-low b need f listed.Bad y z i j k e = let w : _≡_ {A = ℕ} 0 1 = cc in absurd (omega arith)
+    fresh-low b need f (listed.Page x) listed.Bad z i j k e = let w : _≡_ {A = ℕ} 0 1 = cc in absurd (omega arith)
+    fresh-low b need f (listed.Page x) (listed.Page y) listed.Bad i j k e = let w : _≡_ {A = ℕ} 0 1 = cc in absurd (omega arith)
+
+  stock-low : (need : ℕ) (f : Fresh) (x : Opened) → openedOf h m sp ≡ x → map.stockOf h m sp need x ≡ supply.Pages f → Low f
+  unfolding map.stockOf map.freshOf
+  stock-low need f (opened.Refused r) o e = let z : _≡_ {A = ℕ} 0 1 = cc in absurd (omega arith)
+  stock-low need f (opened.Book b) o e = go (ltb (b .free) need) e
+    where
+      fits : opening.Fitting h (sp .first) (sp .pages)
+      fits = open-shows h m sp b o .fits
+
+      end : sp .first + sp .pages ≤ 2 ^ 40
+      end = omega (arith, small (sp .first + sp .pages - 1) (fits .upto), fits .enough)
+
+      go : (t : Bool) → cond t (supply.Lacking NoRoom) (map.freshThree b need (map.nthOf h m sp b need 0) (map.nthOf h m sp b need 1) (map.nthOf h m sp b need 2)) ≡ supply.Pages f → Low f
+      go true k = let z : _≡_ {A = ℕ} 0 1 = cc in absurd (omega arith)
+      go false k = fresh-low end b need f _ _ _ (nth-low end b need 0) (nth-low end b need 1) (nth-low end b need 2) k
+
+  supply-low : (need : ℕ) (f : Fresh) → map.supplyOf h m sp need ≡ supply.Pages f → Low f
+  unfolding map.supplyOf
+  supply-low need f e = go (eqb need 0) e
+    where
+      go : (t : Bool) → cond t map.noneOf (map.stockOf h m sp need (openedOf h m sp)) ≡ supply.Pages f → Low f
+      go true k = let same : record { need = 0; a = 0; b = 0; c = 0; book = map.noBook } ≡ f = cc in subst Low same (record { a = omega arith; b = omega arith; c = omega arith })
+      go false k = stock-low need f (openedOf h m sp) refl k
+
+  module _ (q : Asked) (p : Mapping) where
+    none-built : _≡_ {A = ℕ} 0 1 → Buildable p
+    none-built z = absurd (omega arith)
+
+    made-low : (target level table : ℕ) (f : Fresh) (x : Made) → level < 4 → Low f → map.madeOf q target level table f x ≡ map.Go p → Buildable p
+    unfolding map.madeOf
+    made-low target level table f made.Refused u l e = none-built cc
+    made-low target level table f (made.Word w) u l e =
+        let same : record { base = q .base; target = target; level = level; table = table; word = w; fresh = f } ≡ p = cc in
+        subst Buildable same (record { level = u; fresh = l })
+
+    place-low : (target level table : ℕ) (s : Supply) → level < 4 → ((f : Fresh) → s ≡ supply.Pages f → Low f) → map.placeOf q target level table s ≡ map.Go p → Buildable p
+    unfolding map.placeOf
+    place-low target level table (supply.Lacking y) u l e = none-built cc
+    place-low target level table (supply.Pages f) u l e = made-low target level table f (madePage target (q .frame) (q .rights)) u (l f refl) e
+
+    because-low : (target level table : ℕ) (y : Why) → level < 4 → map.becauseOf h m sp q target level table y ≡ map.Go p → Buildable p
+    unfolding map.becauseOf
+    because-low target level table why.Nothing u e = place-low target level table (map.supplyOf h m sp (level - target)) u (supply-low (level - target)) e
+    because-low target level table why.Page u e = none-built cc
+    because-low target level table why.Table u e = none-built cc
+    because-low target level table why.Stray u e = none-built cc
+
+    fitting-low : (target : ℕ) (x : Fit) → map.fittingOf h m sp q target x ≡ map.Go p → Buildable p
+    unfolding map.fittingOf map.stoppedOf
+    fitting-low target (fit.Refused r) e = none-built cc
+    fitting-low target fit.Fits e = go (map.meetsOf sp (q .frame) (q .size)) e
+      where
+        go : (b : Bool) → cond b (map.Refused FrameInPool) (map.stoppedOf h m sp q target (wayOf h m sp (q .base) target)) ≡ map.Go p → Buildable p
+        go true k = none-built cc
+        go false k =
+            let w : Way = wayOf h m sp (q .base) target in
+            because-low target (w .level) (w .a) (w .why) (way-low h m sp (q .base) target) k
+
+    shaped-low : (x : Shape) → map.shapedOf h m sp q x ≡ map.Go p → Buildable p
+    unfolding map.shapedOf map.standingOf
+    shaped-low (shape.Bad r) e = none-built cc
+    shaped-low (shape.Level n) e = fitting-low n (standsOf h sp) e
+
+    pub map-low : map.decideOf h m sp q ≡ map.Go p → Buildable p
+    unfolding map.decideOf
+    map-low e = shaped-low (map.shapeOf (q .size) (q .base) (q .frame)) e
+
+-- a page that lies in a window has such a number
+pub held-low : (s : List ℕ) (origin x : ℕ) → holds s origin x ≡ true → x < 2 ^ 40
+held-low s origin x e = held s origin x e .small
+
+-- Unmap ------------------------------------------------------------------------------------------------------------------------
+
+-- no more tables become empty than lie between the page and the root
+emptied-low : (h : ℕ → Bool) (m : ℕ → ℕ) (va : ℕ) (w : Way) → w .level < 4 → w .level + unmap.emptiedOf h m va w < 4
+unfolding unmap.emptiedOf
+emptied-low h m va w u =
+    go (leb 3 (w .level)) (besidesOf h m (w .a) (indexOf (w .level) va) 512) (leb 2 (w .level))
+    (besidesOf h m (w .b) (indexOf (w .level + 1) va) 512) (leb 1 (w .level)) (besidesOf h m (w .c) (indexOf 2 va) 512) refl refl refl
+  where
+    go : (a : Bool) (x : Bool) (b : Bool) (y : Bool) (c : Bool) (z : Bool) → leb 3 (w .level) ≡ a → leb 2 (w .level) ≡ b → leb 1 (w .level) ≡ c
+        → w .level + cond a 0 (cond x 0 (cond b 1 (cond y 1 (cond c 2 (cond z 2 3))))) < 4
+    go true x b y c z ea eb ec = omega arith
+    go false true b y c z ea eb ec = omega arith
+    go false false true y c z ea eb ec = omega (arith, leb-false 3 (w .level) ea)
+    go false false false true c z ea eb ec = omega (arith, leb-false 2 (w .level) eb)
+    go false false false false true z ea eb ec = omega (arith, leb-false 2 (w .level) eb)
+    go false false false false false true ea eb ec = omega (arith, leb-false 1 (w .level) ec)
+    go false false false false false false ea eb ec = omega (arith, leb-false 1 (w .level) ec)
+
+-- what a decision to go shows: the levels, the index, and that the ticket fits
+pub record Fitting (sp : Space) (va : ℕ) (r : Removal) : Type 0 where
+  pub low : unmap.low r
+  pub index : r .spot .index ≡ indexOf (r .spot .way .level) va
+  pub ticket : ticketOf (unmap.bookAfter sp r) < 2 ^ 64
+
+-- setting aside at most adds one
+aside-ticket : (sp : Space) (b : Book) → ticketOf (asideBook sp b) ≤ ticketOf b + 1
+unfolding asideBook
+aside-ticket sp b = go (soundOf (sp .pages) b)
+  where
+    go : (t : Bool) → ticketOf (cond t (record { head = b .head; free = b .free; aside = b .aside + 1; tickets = b .tickets }) b) ≤ ticketOf b + 1
+    go true = omega arith
+    go false = omega arith
+
+cut-ticket : (sp : Space) (k n : ℕ) (b : Book) → ticketOf (unmap.cutBook sp k n b) ≤ ticketOf b + 1
+unfolding unmap.cutBook
+cut-ticket sp k n b = go (leb n k)
+  where
+    go : (t : Bool) → ticketOf (cond t b (asideBook sp b)) ≤ ticketOf b + 1
+    go true = omega arith
+    go false = aside-ticket sp b
+
+after-ticket : (sp : Space) (r : Removal) → ticketOf (unmap.bookAfter sp r) ≤ ticketOf (r .book) + 3
+after-ticket sp r =
+    omega (arith, cut-ticket sp 2 (r .empties) (unmap.book2 sp r), cut-ticket sp 1 (r .empties) (unmap.book1 sp r), cut-ticket sp 0 (r .empties) (r .book))
+
+module _ (h : ℕ → Bool) (m : ℕ → ℕ) (sp : Space) (va : ℕ) (r : Removal) where
+  clash : _≡_ {A = ℕ} 0 1 → Fitting sp va r
+  clash z = absurd (omega arith)
+
+  booked-fits : (s : Spot) (n : ℕ) → s .way .level + n < 4 → s .index ≡ indexOf (s .way .level) va → (b : Book) → unmap.bookedOf sp s n b ≡ removing.Go r → Fitting sp va r
+  unfolding unmap.bookedOf
+  booked-fits s n u i b e = go (takesOf sp b n) refl e
+    where
+      go : (t : Bool) → takesOf sp b n ≡ t → cond t (removing.Go (record { spot = s; empties = n; book = b })) (removing.Refused (Pool BadBook)) ≡ removing.Go r
+          → Fitting sp va r
+      go false et k = clash cc
+      go true et k =
+          let same : record { spot = s; empties = n; book = b } ≡ r = cc in
+          let o = sound-is (sp .pages) b (unfold takesOf in and-both _ _ et .0) in
+          subst (Fitting sp va) same (record { low = u; index = i; ticket = omega (arith, after-ticket sp (record { spot = s; empties = n; book = b }), o .early, o .small, o .room) })
+
+  opened-fits : (s : Spot) (n : ℕ) → s .way .level + n < 4 → s .index ≡ indexOf (s .way .level) va → (x : Opened) → unmap.openOf sp s n x ≡ removing.Go r → Fitting sp va r
+  unfolding unmap.openOf
+  opened-fits s n u i (opened.Book b) e = booked-fits s n u i b e
+  opened-fits s n u i (opened.Refused y) e = clash cc
+
+  remove-fits : (s : Spot) (n : ℕ) → s .way .level + n < 4 → s .index ≡ indexOf (s .way .level) va → unmap.removeOf h m sp s n ≡ removing.Go r → Fitting sp va r
+  unfolding unmap.removeOf
+  remove-fits s n u i e = go (eqb n 0) e
+    where
+      go : (t : Bool) → cond t (removing.Go (record { spot = s; empties = 0; book = map.noBook })) (unmap.openOf sp s n (openedOf h m sp)) ≡ removing.Go r → Fitting sp va r
+      go true k =
+          let same : record { spot = s; empties = 0; book = map.noBook } ≡ r = cc in
+          subst (Fitting sp va) same (record { low = omega arith; index = i; ticket = omega (arith, after-ticket sp (record { spot = s; empties = 0; book = map.noBook })) })
+      go false k = opened-fits s n u i (openedOf h m sp) k
+
+  sought-fits : (x : Sought) → foundOf h m sp va ≡ x → unmap.soughtOf h m sp va x ≡ removing.Go r → Fitting sp va r
+  unfolding unmap.soughtOf
+  sought-fits (sought.Refused y) ex e = clash cc
+  sought-fits (sought.Found s) ex e =
+      let k = found-at h m sp va s ex in
+      remove-fits s (unmap.emptiedOf h m va (s .way)) (emptied-low h m va (s .way) (k .low)) (k .index) e
+
+  pub unmap-fits : unmap.decideOf h m sp va ≡ removing.Go r → Fitting sp va r
+  unfolding unmap.decideOf
+  unmap-fits e = sought-fits (foundOf h m sp va) refl e
+
+pub ticket-is : (sp : Space) (va : ℕ) (r : Removal) → Fitting sp va r → ticketIn (unmap.bookAfter sp r) ≡ ticketOf (unmap.bookAfter sp r)
+unfolding ticketIn
+ticket-is sp va r f = simp (lt-ltb (ticketOf (unmap.bookAfter sp r)) (2 ^ 64) (f .ticket))
