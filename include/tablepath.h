@@ -52,7 +52,7 @@ enum tp_reason {
     TP_OTHER_BOOK = 21,     /* a pool of another size was made here */
     TP_BAD_BOOK = 22,       /* the book does not add up */
     /* told */
-    TP_UNKNOWN = 23,        /* a ticket that was never handed out */
+    TP_UNKNOWN = 23,        /* a ticket above the present one */
     TP_SPENT = 24           /* no ticket is left: 2^62 tables were set aside */
 };
 

@@ -30,7 +30,7 @@ pub record ProtectExactly (h : ℕ → Bool) (sp : Space) (m : ℕ → ℕ) (va 
   pub only : (y : Reason) → protect.decideOf h m sp va rights ≡ changing.Refused y → y ≡ NothingStarts
   pub succeeds : ((c : Change) × (protect.decideOf h m sp va rights ≡ changing.Go c)) ↔ StartsAt (settingOf h sp) m va
 
--- TOLD: a ticket that was never handed out is unknown; one with which the numbers would run out is spent; any other is done.
+-- TOLD: a ticket above the present one is unknown; one with which the numbers would run out is spent; any other is done.
 pub record ToldExactly (b : Book) (t : ℕ) : Type 0 where
   pub unknown : (dueOf b t ≡ due.Unknown) ↔ (ticketOf b < t)
   pub spent : (dueOf b t ≡ due.Spent) ↔ ((t ≤ ticketOf b) × (2 ^ 62 < t))

@@ -83,7 +83,7 @@ pub enum Created {
 // What a report releases.
 pub enum Due {
     Pages(u64),
-    // a ticket that was never handed out
+    // a ticket above the present one
     Unknown,
     // no ticket is left
     Spent,

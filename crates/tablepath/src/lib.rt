@@ -53,7 +53,7 @@ pub enum Protected {
 pub enum Report {
     // how many pages are free again
     Released(u64),
-    // a ticket that was never handed out
+    // a ticket above the present one
     Unknown,
     // no ticket is left
     Spent,

@@ -57,7 +57,7 @@ pub enum Reason {
     OtherBook = 21,
     /// Its counts cannot be.
     BadBook = 22,
-    /// A ticket that was never handed out.
+    /// A ticket above the present one.
     UnknownTicket = 23,
     /// No ticket is left.
     SpentTickets = 24,

@@ -41,7 +41,7 @@ impl From<Ticket> for u64 {
     }
 }
 
-/// Of a number that was kept elsewhere. One that was never handed out is refused, and an older one releases less.
+/// Of a number that was kept elsewhere. One above the present one is refused, and an older one releases less.
 impl From<u64> for Ticket {
     fn from(number: u64) -> Ticket {
         Ticket(number)

@@ -89,7 +89,7 @@ reasons! {
     NoBook = 20, "no pool was made here";
     OtherBook = 21, "a pool of another size was made here";
     BadBook = 22, "the book does not add up";
-    UnknownTicket = 23, "a ticket that was never handed out";
+    UnknownTicket = 23, "a ticket above the present one";
     SpentTickets = 24, "no ticket is left: 2^62 tables were set aside";
 }
 
