@@ -1,30 +1,27 @@
-# make test   every test, from nothing; the last line counts them
-# make ground  the words, the entries and the walk alone, with their edits and programs: what all the rest stands on
-# make wrong  the wrong programs alone, each of which the prover must refuse; with what is proved already
-# make demo   the demonstration
-# make kernel a kernel that lives in tables of the library, in an emulated machine; its last line counts its checks
-# make lib    target/tablepath: the archive for x86-64, the header, the licences
-# make picture  a small example's tables as text, and as target/picture.svg
-# make bench  the library's speed beside two baselines, and its instructions counted; with what is proved already
-# make walks  the compiled library against the manual's walk alone, with what is proved already
-# make clean  removes all that was made
-.PHONY: test ground wrong demo lib kernel picture bench walks clean
+# make         this list
+# make test    every test, from nothing; the last line counts them
+# make demo    the demonstration, and a kernel that lives in tables of the library, on an emulated machine
+# make lib     target/tablepath: the archive for x86-64, the header, a pkg-config file, the licences
+# make install PREFIX=/usr/local  puts that under PREFIX
+# make kernel  the kernel alone; its last line counts its checks
+# make picture a small example's tables as text, and as target/picture.svg
+# make bench   the library's speed beside two baselines, and its instructions counted; with what is proved already
+# make ground  the words, the entries and the walk alone, with their wrong programs: what all the rest stands on
+# make wrong   the wrong programs alone, each of which the prover must refuse; with what is proved already
+# make walks   the compiled library against the manual's walk alone, with what is proved already
+# make clean   removes all that was made
+.PHONY: help test demo lib install kernel picture bench ground wrong walks clean
+
+PREFIX = /usr/local
+
+help:
+	@sed -n 's/^# //p' Makefile
 
 test:
 	@tools/test
 
-ground:
-	@tools/setup
-	@rt check word entry walk say tour vectors
-	@tools/wrong word entry walk
-
-wrong:
-	@tools/setup
-	@tools/wrong
-
 demo:
-	@mkdir -p target
-	@rt check demo tour >target/demo.log 2>&1 || { cat target/demo.log; exit 1; }
+	@tools/proved demo tour
 	@tools/run demo
 	@tools/run tour
 	@tools/lib
@@ -32,6 +29,9 @@ demo:
 
 lib:
 	@tools/lib
+
+install: lib
+	@tools/install $(PREFIX)
 
 kernel: lib
 	@tools/kernel
@@ -41,6 +41,15 @@ picture:
 
 bench:
 	@tools/bench
+
+ground:
+	@tools/setup
+	@tools/proved word entry walk say tour vectors
+	@tools/wrong word entry walk
+
+wrong:
+	@tools/setup
+	@tools/wrong
 
 walks:
 	@tools/test archive rust walks

@@ -18,6 +18,8 @@
 #include <stddef.h>
 #include <stdint.h>
 
+#define TP_VERSION "0.2.0"
+
 #ifdef __cplusplus
 extern "C" {
 #endif
