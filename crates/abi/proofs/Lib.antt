@@ -10,3 +10,4 @@ pub mod Created
 pub mod Refusals
 pub mod Causes
 pub mod Witness
+pub mod EntrySays

@@ -4,3 +4,4 @@ pub mod Entries
 pub mod Walked
 pub mod Relied
 pub mod Reasons
+pub mod EntrySays

@@ -52,7 +52,7 @@ fn count(mem: &mut [u8], left: &mut u64, space: Space, free: u64)
     put(mem, left, space, 7, 0);
 }
 
-// The book of a new pool, all of whose pages behind the root are free, and an empty root. The mark comes last: until then there is no book.
+// The book of a new pool, all of whose pages behind the root are free, and an empty root. The mark comes last: until then there is no book where there was none.
 fn lay_out(mem: &mut [u8], left: &mut u64, space: Space)
     requires { ⌜ made.Roomy space ⌝ }
     ensures { λ _. ⌜ Wrote (space .origin) (made.layOut space) (now (left .entry)) (now (left .exit)) (now (mem .entry)) (now (mem .exit)) ⌝ }

@@ -26,7 +26,7 @@ pub enum Mapped {
     Refused(Reason),
 }
 
-// The page that was unmapped, how many tables were set aside, and the ticket with which to report that every cache was told of it.
+// The page that was unmapped, how many tables were set aside, and, where some were, the ticket with which to report that every cache was told.
 pub struct Gone {
     pub frame: u64,
     pub size: u64,
