@@ -11,10 +11,15 @@ const ORIGIN: u64 = 0x10_0000;
 
 const ROOT: u64 = 0x10_0000;
 
+fn store(mem: &mut [u8], page: u64, index: u64, w: u64) {
+    let mut left: u64 = word::ENDLESS;
+    word::write(mem, &mut left, ORIGIN, page, index, w)
+}
+
 // Writes a word that was made, where it was not refused.
 fn put(mem: &mut [u8], page: u64, index: u64, made: Made) {
     match made {
-        Made::Word(w) => word::write(mem, ORIGIN, page, index, w),
+        Made::Word(w) => store(mem, page, index, w),
         Made::Refused => say::text(b"refused\n"),
     }
 }
@@ -59,11 +64,11 @@ fn pages(mem: &mut [u8]) {
 // What may go wrong: a table that grants less, a large page with a reserved bit, and a way that leaves the window.
 fn damage(mem: &mut [u8]) {
     // a table that is read-only: its pages are, whatever they say themselves
-    word::write(mem, ORIGIN, 0x101, 74, 0x102005);
+    store(mem, 0x101, 74, 0x102005);
     // a 2 MiB page whose address has bit 13 set
-    word::write(mem, ORIGIN, 0x102, 420, 0x40002087);
+    store(mem, 0x102, 420, 0x40002087);
     // a table at 0x900000, which nobody lent
-    word::write(mem, ORIGIN, 0x101, 75, 0x900007);
+    store(mem, 0x101, 75, 0x900007);
 }
 
 // What one entry, whose word is w, says in words.
