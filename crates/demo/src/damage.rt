@@ -4,8 +4,16 @@ use ask::BYTES;
 use ask::FIRST;
 use ask::ORIGIN;
 use ask::ROOT;
+use pool::FREE_AT;
+use pool::HEADER;
+use pool::TICKETS_AT;
 
 const HERE: u64 = 0x1000;
+
+fn put(mem: &mut [u8], p: u64, i: u64, w: u64) {
+    let mut left = word::ENDLESS;
+    word::write(mem, &mut left, ORIGIN, p, i, w);
+}
 
 fn begin(mem: &mut [u8]) {
     usual::create(mem);
@@ -15,32 +23,32 @@ fn begin(mem: &mut [u8]) {
 // Entry 0 of the root names the table in page 0x103.
 fn stray(mem: &mut [u8]) {
     say::text(b" the root's entry 0 now names page 0x900, which nobody lent\n");
-    word::write(mem, ORIGIN, ROOT, 0, 0x90_0007);
+    put(mem, ROOT, 0, 0x90_0007);
     usual::unmap(mem, HERE);
     usual::look_up(mem, HERE);
-    word::write(mem, ORIGIN, ROOT, 0, 0x10_3007);
+    put(mem, ROOT, 0, 0x10_3007);
 }
 
 fn book_as_table(mem: &mut [u8]) {
     say::text(b" now it names the book\n");
-    word::write(mem, ORIGIN, ROOT, 0, 0x10_1007);
+    put(mem, ROOT, 0, 0x10_1007);
     usual::map(mem, 0x1000, 0x30_0000, 0x2000);
-    word::write(mem, ORIGIN, ROOT, 0, 0x10_3007);
+    put(mem, ROOT, 0, 0x10_3007);
 }
 
-// The book's slots begin at its word 8; three pages were taken, so the free one is in slot 3.
+// Three pages were taken, so the free one is in slot 3, behind the book's header.
 fn bad_list(mem: &mut [u8]) {
     say::text(b" the book lists the root as free\n");
-    word::write(mem, ORIGIN, FIRST, 11, ROOT);
+    put(mem, FIRST, HEADER + 3, ROOT);
     usual::map(mem, 0x20_0000, 0x40_0000, 0x4000_0000);
-    word::write(mem, ORIGIN, FIRST, 11, 0x106);
+    put(mem, FIRST, HEADER + 3, 0x106);
 }
 
 fn bad_count(mem: &mut [u8]) {
     say::text(b" the book counts a thousand free pages\n");
-    word::write(mem, ORIGIN, FIRST, 3, 1000);
+    put(mem, FIRST, FREE_AT, 1000);
     usual::unmap(mem, HERE);
-    word::write(mem, ORIGIN, FIRST, 3, 1);
+    put(mem, FIRST, FREE_AT, 1);
 }
 
 fn go_on(mem: &mut [u8]) {
@@ -52,7 +60,7 @@ fn go_on(mem: &mut [u8]) {
 // Tickets end at 2^62.
 fn spent(mem: &mut [u8]) {
     say::text(b" as if 2^62 tickets had been used up\n");
-    word::write(mem, ORIGIN, FIRST, 5, 0x4000_0000_0000_0000);
+    put(mem, FIRST, TICKETS_AT, 0x4000_0000_0000_0000);
     usual::unmap(mem, HERE);
     usual::told(mem, 0x4000_0000_0000_0002);
 }
