@@ -1,5 +1,5 @@
 -- Reading a book: by what was read, and what an opened book shows.
-use Prim.Native.Nat.{ℕ, _+_, _-_, _*_, _/_, _%_, _^_, _<_, _≤_}
+use Prim.Native.Nat.{ℕ, _+_, _-_, _/_, _%_, _^_, _<_, _≤_}
 use mathlib.Core.Bool.{Bool, true, false, cond, _&&_}
 use mathlib.Core.List.{List}
 use mathlib.Core.Path.{_≡_, refl, sym, ap, _∙_, subst}
@@ -15,10 +15,11 @@ use Rattle.pool.specs.declared.Fit.{Fit}
 use Rattle.pool.specs.declared.Fit.the-variants as fit
 use Rattle.pool.specs.declared.Reason.{Reason}
 use Rattle.pool.specs.declared.Listed.the-variants.{Bad}
-use Rattle.pool.specs.Book.{bookPages, wordOf, mark, bookOf, roomOf, inPool, soundOf, Sound, openedOf, openedIn, headerOf, checkedOf, namedOf, usableOf}
+use Rattle.pool.specs.Layout.{markAt, pagesAt, rootAt, bookPages}
+use Rattle.pool.specs.Book.{wordOf, mark, bookOf, roomOf, inPool, soundOf, Sound, openedOf, openedIn, headerOf, checkedOf, namedOf, usableOf}
 use Rattle.pool.specs.Create.{mayCreate, newSpace, Roomy}
 use Rattle.pool.proofs.Far.{word-at}
-use borrow.Author.Tests.{leb-true, le-leb, lt-ltb, eqb-true, eq-eqb}
+use borrow.Author.Tests.{leb-true, le-leb, eqb-true, eq-eqb}
 use Rattle.pool.specs.declared.Book.{Book}
 use Rattle.pool.specs.declared.Opened.{Opened}
 use Rattle.pool.specs.declared.Opened.the-variants as opened
@@ -79,9 +80,10 @@ fit-inside s origin first pages f = run-holds s origin first pages (fit-runs s o
 -- WHAT AN OPENED BOOK SHOWS, for any bytes
 pub record Open (h : ℕ → Bool) (m : ℕ → ℕ) (sp : Space) (b : Book) : Type 0 where
   pub fits : Fitting h (sp .first) (sp .pages)
-  pub rooted : InPool sp (sp .root)
-  pub marked : m (wordOf sp 0) ≡ mark
-  pub sized : m (wordOf sp 1) ≡ sp .pages
+  pub inside : InPool sp (sp .root)
+  pub marked : m (wordOf sp markAt) ≡ mark
+  pub sized : m (wordOf sp pagesAt) ≡ sp .pages
+  pub rooted : m (wordOf sp rootAt) ≡ sp .root
   pub sound : Sound (sp .pages) b
   pub read : bookOf m sp ≡ b
 
@@ -100,22 +102,24 @@ open-shows h m sp b e = go (roomOf h (sp .first) (sp .pages)) refl e
     go (fit.Refused r) f e = let z : _≡_ {A = ℕ} 0 1 = cc in absurd (omega arith)
     go fit.Fits f e =
         let a = open-yes (inPool sp (sp .root)) _ _ b e in
-        let d = open-yes (eqb (m (wordOf sp 0)) mark) _ _ b (a .1) in
-        let g = open-yes (eqb (m (wordOf sp 1)) (sp .pages)) _ _ b (d .1) in
-        let k = open-yes (soundOf (sp .pages) (bookOf m sp)) _ _ b (g .1) in
+        let d = open-yes (eqb (m (wordOf sp markAt)) mark) _ _ b (a .1) in
+        let g = open-yes (eqb (m (wordOf sp pagesAt)) (sp .pages)) _ _ b (d .1) in
+        let o = open-yes (eqb (m (wordOf sp rootAt)) (sp .root)) _ _ b (g .1) in
+        let k = open-yes (soundOf (sp .pages) (bookOf m sp)) _ _ b (o .1) in
         let same = same-book (bookOf m sp) b (k .1) in
         record {
           fits = fitting h (sp .first) (sp .pages) f;
-          rooted = pool-in sp (sp .root) (a .0);
+          inside = pool-in sp (sp .root) (a .0);
           marked = eqb-true _ _ (d .0);
           sized = eqb-true _ _ (g .0);
+          rooted = eqb-true _ _ (o .0);
           sound = subst (λ (x : Book). Sound (sp .pages) x) same (sound-is (sp .pages) (bookOf m sp) (k .0));
           read = same;
         }
 
 -- and so it is opened
-pub opens : (h : ℕ → Bool) (m : ℕ → ℕ) (sp : Space) → Fitting h (sp .first) (sp .pages) → InPool sp (sp .root) → m (wordOf sp 0) ≡ mark → m (wordOf sp 1) ≡ sp .pages
-    → Sound (sp .pages) (bookOf m sp) → openedOf h m sp ≡ opened.Book (bookOf m sp)
+pub opens : (h : ℕ → Bool) (m : ℕ → ℕ) (sp : Space) → Fitting h (sp .first) (sp .pages) → InPool sp (sp .root) → m (wordOf sp markAt) ≡ mark → m (wordOf sp pagesAt) ≡ sp .pages
+    → m (wordOf sp rootAt) ≡ sp .root → Sound (sp .pages) (bookOf m sp) → openedOf h m sp ≡ opened.Book (bookOf m sp)
 unfolding openedOf openedIn headerOf checkedOf roomOf
-opens h m sp f r a b s =
-    simp (le-leb _ _ (f .small), le-leb _ _ (f .enough), f .from, f .upto, in-pool sp (sp .root) r, eq-eqb _ _ a, eq-eqb _ _ b, is-sound (sp .pages) (bookOf m sp) s)
+opens h m sp f r a b c s =
+    simp (le-leb _ _ (f .small), le-leb _ _ (f .enough), f .from, f .upto, in-pool sp (sp .root) r, eq-eqb _ _ a, eq-eqb _ _ b, eq-eqb _ _ c, is-sound (sp .pages) (bookOf m sp) s)

@@ -12,7 +12,8 @@ use Rattle.pool.specs.declared.Book.{Book}
 use Rattle.pool.specs.declared.Reason.the-variants.{BadRoot}
 use Rattle.pool.specs.declared.Fit.{Fit}
 use Rattle.pool.specs.declared.Fit.the-variants.{Fits, Refused}
-use Rattle.pool.specs.Book.{bookPages, inPool, roomOf, soundOf}
+use Rattle.pool.specs.Layout.{bookPages}
+use Rattle.pool.specs.Book.{inPool, roomOf, soundOf}
 
 unfoldable pub standsIn : Space → Fit → Fit
 standsIn sp Fits = cond (inPool sp (sp .root)) Fits (Refused BadRoot)

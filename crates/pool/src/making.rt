@@ -11,6 +11,13 @@ use crate::MARK;
 use crate::Reason;
 use crate::Space;
 use crate::book_pages;
+use crate::layout::ASIDE_AT;
+use crate::layout::FREE_AT;
+use crate::layout::HEADER;
+use crate::layout::MARK_AT;
+use crate::layout::PAGES_AT;
+use crate::layout::ROOT_AT;
+use crate::layout::TICKETS_AT;
 use crate::put;
 use crate::room;
 
@@ -34,22 +41,32 @@ fn fill(mem: &mut [u8], left: &mut u64, space: Space, from: u64, n: u64)
 {
     let mut j: u64 = 0;
     while j < n {
-        put(mem, left, space, 8 + j, from + j);
+        put(mem, left, space, HEADER + j, from + j);
+        j += 1;
+    }
+}
+
+// n words from word k on become 0.
+fn blank(mem: &mut [u8], left: &mut u64, space: Space, k: u64, n: u64)
+    requires { ⌜ k + n < 2 ^ 63 ⌝ }
+    ensures { λ _. ⌜ Wrote (space .origin) (made.blanks space k n) (now (left .entry)) (now (left .exit)) (now (mem .entry)) (now (mem .exit)) ⌝ }
+{
+    let mut j: u64 = 0;
+    while j < n {
+        put(mem, left, space, k + j, 0);
         j += 1;
     }
 }
 
 // All of the header but its mark: so many pages are free.
-fn count(mem: &mut [u8], left: &mut u64, space: Space, free: u64)
-    ensures { λ _. ⌜ Wrote (space .origin) (made.counts space free) (now (left .entry)) (now (left .exit)) (now (mem .entry)) (now (mem .exit)) ⌝ }
+fn put_header(mem: &mut [u8], left: &mut u64, space: Space, free: u64)
+    ensures { λ _. ⌜ Wrote (space .origin) (made.header space free) (now (left .entry)) (now (left .exit)) (now (mem .entry)) (now (mem .exit)) ⌝ }
 {
-    put(mem, left, space, 1, space.pages);
-    put(mem, left, space, 2, 0);
-    put(mem, left, space, 3, free);
-    put(mem, left, space, 4, 0);
-    put(mem, left, space, 5, 0);
-    put(mem, left, space, 6, 0);
-    put(mem, left, space, 7, 0);
+    put(mem, left, space, PAGES_AT, space.pages);
+    put(mem, left, space, ROOT_AT, space.root);
+    put(mem, left, space, TICKETS_AT, 0);
+    put(mem, left, space, FREE_AT, free);
+    blank(mem, left, space, ASIDE_AT, HEADER - ASIDE_AT);
 }
 
 // The book of a new pool, all of whose pages behind the root are free, and an empty root. The mark comes last: until then there is no book where there was none.
@@ -59,9 +76,10 @@ fn lay_out(mem: &mut [u8], left: &mut u64, space: Space)
 {
     let free = space.pages - book_pages(space.pages) - 1;
     fill(mem, left, space, space.root + 1, free);
-    count(mem, left, space, free);
+    blank(mem, left, space, HEADER + space.pages, space.pages);
+    put_header(mem, left, space, free);
     word::clear(mem, left, space.origin, space.root);
-    put(mem, left, space, 0, MARK);
+    put(mem, left, space, MARK_AT, MARK);
 }
 
 // Makes a pool of these pages, with its book and an empty root, or refuses and changes nothing.

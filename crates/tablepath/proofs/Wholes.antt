@@ -11,7 +11,8 @@ use Rattle.word.specs.Writes.{Write, after, carried}
 use Rattle.word.proofs.Writes.{Every, none, every-map, holds-carried, memory-carried}
 use Rattle.entry.specs.declared.Rights.{Rights}
 use Rattle.tables.specs.Roles.{Role}
-use Rattle.pool.specs.Book.{bookPages, bookOf, roomOf, inPool, dueOf}
+use Rattle.pool.specs.Layout.{bookPages}
+use Rattle.pool.specs.Book.{bookOf, roomOf, inPool, dueOf}
 use Rattle.pool.specs.Booked.{newRole}
 use Rattle.pool.specs.Create.{createdOf, createdIn, createWrites, newSpace, mayCreate}
 use Rattle.pool.specs.Stands.{standsOf, standsIn}
