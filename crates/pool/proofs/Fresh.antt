@@ -1,6 +1,6 @@
 -- A NEW POOL: what `create` writes makes a true book, an empty root, and every other page free.
-use Prim.Native.Nat.{ℕ, _+_, _-_, _/_, _%_, _<_, _≤_}
-use mathlib.Core.List.{List, [], _∷_}
+use Prim.Native.Nat.{ℕ, _+_, _-_, _*_, _/_, _%_, _<_, _≤_}
+use mathlib.Core.List.{List, [], _∷_, _++_}
 use mathlib.Core.Logic.{inl, inr, _≢_}
 use mathlib.Core.Path.{_≡_, ap, _∙_}
 use native.Mathlib.Omega.{arith}
@@ -14,7 +14,7 @@ use Rattle.pool.specs.declared.Book.{Book}
 use Rattle.pool.specs.Layout.{markAt, pagesAt, rootAt, ticketsAt, freeAt, asideAt, headAt, headerWords, slotAt, countAt, bookWords}
 use Rattle.pool.specs.Book.{wordOf, mark, bookOf, spotOf, pageAt}
 use Rattle.pool.specs.Changes.{put}
-use Rattle.pool.specs.Create.{fills, blanks, header, newFree, layOut, Roomy}
+use Rattle.pool.specs.Create.{fills, blanks, unmarks, bared, slots, header, newFree, layOut, Roomy}
 use Rattle.pool.specs.Booked.{Lists, Booked, newRole}
 use Rattle.pool.proofs.Far.{word-at}
 use Rattle.pool.proofs.Counts.{spot-ahead}
@@ -71,12 +71,15 @@ module _ (m : ℕ → ℕ) (sp : Space) (n : ℕ) where
 -- The whole layout ----------------------------------------------------------------------------------------------------------------
 
 module _ (m : ℕ → ℕ) (sp : Space) (r : Roomy sp) (n : New sp) where
-  -- with the slots; the counts; the header; then the root cleared; then the mark
+  -- without a mark; with the slots of the free pages; the other slots and the counts; the header; then the root cleared; then the mark
+  bare : ℕ → ℕ
+  bare = after m (bared sp (newFree sp))
+
   filled : ℕ → ℕ
-  filled = after m (fills sp (sp .root + 1) (newFree sp))
+  filled = after bare (fills sp (sp .root + 1) (newFree sp))
 
   counted : ℕ → ℕ
-  counted = after filled (blanks sp (countAt (sp .pages) 0) (sp .pages))
+  counted = after filled (blanks sp (slotAt (newFree sp)) (2 * sp .pages - newFree sp))
 
   headed : ℕ → ℕ
   headed = after counted (header sp (newFree sp))
@@ -85,10 +88,12 @@ module _ (m : ℕ → ℕ) (sp : Space) (r : Roomy sp) (n : New sp) where
   cleared = after headed (zeros (sp .root) 512)
 
   laid-is : after m (layOut sp) ≡ after cleared (put sp markAt mark ∷ [])
-  unfolding layOut filled counted headed cleared
+  unfolding layOut bared slots bare filled counted headed cleared
   laid-is =
-      after-append m (fills sp (sp .root + 1) (newFree sp)) _
-      ∙ after-append filled (blanks sp (countAt (sp .pages) 0) (sp .pages)) _
+      after-append m (bared sp (newFree sp)) _
+      ∙ after-append bare (slots sp (newFree sp)) _
+      ∙ ap (λ (f : ℕ → ℕ). after f (header sp (newFree sp) ++ (zeros (sp .root) 512 ++ (put sp markAt mark ∷ []))))
+      (after-append bare (fills sp (sp .root + 1) (newFree sp)) (blanks sp (slotAt (newFree sp)) (2 * sp .pages - newFree sp)))
       ∙ after-append counted (header sp (newFree sp)) _
       ∙ after-append headed (zeros (sp .root) 512) _
 
@@ -125,8 +130,8 @@ module _ (m : ℕ → ℕ) (sp : Space) (r : Roomy sp) (n : New sp) where
       ∙ ap (λ x. after m (layOut sp) (wordOf sp (slotAt x))) (spot-ahead (sp .pages) 0 k (omega (arith, r .enough)) ∙ omega arith)
       ∙ laid-word (slotAt k) (omega arith) (slot-word (sp .pages) k (omega arith))
       ∙ headed-behind counted sp (newFree sp) (slotAt k) (omega arith)
-      ∙ row-other filled sp (countAt (sp .pages) 0) (λ j. 0) (sp .pages) (slotAt k) (inl (omega arith))
-      ∙ row-word m sp (slotAt 0) (λ j. sp .root + 1 + j) (newFree sp) (slotAt k) (omega arith) (omega arith)
+      ∙ row-other filled sp (slotAt (newFree sp)) (λ j. 0) (2 * sp .pages - newFree sp) (slotAt k) (inl (omega arith))
+      ∙ row-word bare sp (slotAt 0) (λ j. sp .root + 1 + j) (newFree sp) (slotAt k) (omega arith) (omega arith)
       ∙ omega arith
 
   -- what no operation uses yet: the header's last words, and the counts
@@ -135,18 +140,18 @@ module _ (m : ℕ → ℕ) (sp : Space) (r : Roomy sp) (n : New sp) where
   laid-rest k u v = laid-header k (omega arith) v ∙ headed-rest counted sp (newFree sp) k (omega arith) v
 
   pub laid-counts : (k : ℕ) → k < sp .pages → after m (layOut sp) (wordOf sp (countAt (sp .pages) k)) ≡ 0
-  unfolding counted headed markAt countAt bookWords
+  unfolding counted headed markAt slotAt countAt bookWords
   laid-counts k u =
       laid-word (countAt (sp .pages) k) (omega arith) (omega arith)
       ∙ headed-behind counted sp (newFree sp) (countAt (sp .pages) k) (omega arith)
-      ∙ row-word filled sp (countAt (sp .pages) 0) (λ j. 0) (sp .pages) (countAt (sp .pages) k) (omega arith) (omega arith)
+      ∙ row-word filled sp (slotAt (newFree sp)) (λ j. 0) (2 * sp .pages - newFree sp) (countAt (sp .pages) k) (omega arith) (omega arith)
 
   -- the root is empty
   pub laid-root : Zero (after m (layOut sp)) (sp .root)
   unfolding cleared
   laid-root j u =
       ap (λ (f : ℕ → ℕ). f (at (sp .root) j)) laid-is
-      ∙ after-other cleared (put sp markAt mark ∷ []) (sp .root) j u (every-map (λ q e x. omega (arith, e .1, n .behind)) (put sp markAt mark ∷ []) (mark-proper sp))
+      ∙ after-other cleared (put sp markAt mark ∷ []) (sp .root) j u (every-map (λ q e x. omega (arith, e .1, n .behind)) (put sp markAt mark ∷ []) (mark-proper sp mark (omega arith)))
       ∙ after-zeros headed (sp .root) 512 j u (omega arith)
 
   laid-lists : Lists (pageAt (after m (layOut sp)) sp) (newFree sp) 0 (newRole sp)

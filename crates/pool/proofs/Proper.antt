@@ -1,5 +1,5 @@
 -- Where a change of the book writes: words of 64 bits, to pages of the book and nowhere else. For any counts.
-use Prim.Native.Nat.{ℕ, zero, suc, _+_, _-_, _^_, _<_, _≤_}
+use Prim.Native.Nat.{ℕ, zero, suc, _+_, _-_, _*_, _^_, _<_, _≤_}
 use mathlib.Core.Bool.{Bool, true, false, cond, _&&_}
 use mathlib.Core.List.{List, [], _∷_}
 use mathlib.Core.Path.{_≡_, refl}
@@ -12,8 +12,8 @@ use Rattle.word.proofs.Writes.{Proper, Every, every-append}
 use Rattle.word.proofs.Writes.Every.{none, more}
 use Rattle.pool.specs.declared.Space.{Space}
 use Rattle.pool.specs.declared.Book.{Book}
-use Rattle.pool.specs.Layout.{markAt, pagesAt, rootAt, ticketsAt, freeAt, asideAt, headAt, headerWords, slotAt, countAt, bookWords, bookPages}
-use Rattle.pool.specs.Book.{mark, spotOf, soundOf, Sound}
+use Rattle.pool.specs.Layout.{markAt, pagesAt, rootAt, ticketsAt, freeAt, asideAt, headAt, headerWords, slotAt, bookWords, bookPages}
+use Rattle.pool.specs.Book.{spotOf, soundOf, Sound}
 use Rattle.pool.specs.Changes.{put, tookWrites, asideWrites, releaseWrites}
 use Rattle.pool.specs.Create.{row, fills, blanks, header}
 use Rattle.pool.proofs.Counts.{sound-is, spot-in}
@@ -77,9 +77,9 @@ pub fills-proper : (sp : Space) (from n : ℕ) → n ≤ sp .pages → from + n 
 unfolding slotAt bookWords
 fills-proper sp from n u v = row-proper sp (slotAt 0) (λ j. from + j) n (omega arith) (λ j w. omega arith)
 
-pub counts-proper : (sp : Space) → Every (OfBook sp) (blanks sp (countAt (sp .pages) 0) (sp .pages))
-unfolding countAt bookWords
-counts-proper sp = row-proper sp (countAt (sp .pages) 0) (λ j. 0) (sp .pages) (omega arith) (λ j w. omega arith)
+pub rest-proper : (sp : Space) (n : ℕ) → n ≤ 2 * sp .pages → Every (OfBook sp) (blanks sp (slotAt n) (2 * sp .pages - n))
+unfolding slotAt bookWords
+rest-proper sp n u = row-proper sp (slotAt n) (λ j. 0) (2 * sp .pages - n) (omega arith) (λ j w. omega arith)
 
 pub header-writes-proper : (sp : Space) (free : ℕ) → sp .pages < 2 ^ 64 → sp .root < 2 ^ 64 → free < 2 ^ 64 → Every (OfBook sp) (header sp free)
 unfolding header pagesAt rootAt ticketsAt freeAt asideAt bookWords
@@ -89,6 +89,6 @@ header-writes-proper sp free u r v =
     (more (header-proper sp ticketsAt 0 (omega arith) (omega arith))
     (more (header-proper sp freeAt _ (omega arith) v) (row-proper sp asideAt (λ j. 0) (headerWords - asideAt) (omega arith) (λ j w. omega arith)))))
 
-pub mark-proper : (sp : Space) → Every (OfBook sp) (put sp markAt mark ∷ [])
+pub mark-proper : (sp : Space) (w : ℕ) → w < 2 ^ 64 → Every (OfBook sp) (put sp markAt w ∷ [])
 unfolding markAt headerWords
-mark-proper sp = more (header-proper sp markAt mark (omega arith) (omega arith)) none
+mark-proper sp w u = more (header-proper sp markAt w (omega arith) u) none

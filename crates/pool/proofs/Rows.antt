@@ -1,4 +1,4 @@
--- Rows of words in a book: the loop that writes one, and the words after it.
+-- Rows of words in a book, and first words of pages: the loops that write them, and the words after them.
 use Prim.Native.Nat.{ℕ, zero, suc, _+_, _-_, _<_, _≤_}
 use mathlib.Core.List.{List, [], _∷_}
 use mathlib.Core.Logic.{_⊎_, inl, inr, _≢_}
@@ -6,14 +6,16 @@ use mathlib.Core.Path.{_≡_, refl, ap, _∙_}
 use native.Mathlib.Decide.{ℕ-discrete}
 use native.Mathlib.Numerals.{add-one}
 use native.Mathlib.Omega.{arith}
-use Rattle.word.specs.Writes.{Wrote, after}
+use Rattle.word.specs.Memory.{at}
+use Rattle.word.specs.Writes.{write, Wrote, after}
 use Rattle.word.proofs.Budget.{wrote-none, wrote-then}
 use Rattle.word.proofs.Set.{set-same, set-other}
-use Rattle.word.proofs.Writes.{after-append}
+use Rattle.word.proofs.Writes.{Every, none, every-append, every-one, after-append}
 use Rattle.pool.specs.declared.Space.{Space}
 use Rattle.pool.specs.Book.{wordOf}
 use Rattle.pool.specs.Changes.{put}
-use Rattle.pool.specs.Create.{row}
+use Rattle.pool.specs.Layout.{markAt}
+use Rattle.pool.specs.Create.{row, unmarks}
 use Rattle.pool.proofs.Words.{after-put}
 
 -- The loop ------------------------------------------------------------------------------------------------------------------------
@@ -26,6 +28,15 @@ pub wrote-word : (sp : Space) (k : ℕ) (f : ℕ → ℕ) (n l0 l1 l2 : ℕ) (s0
     → Wrote (sp .origin) (put sp (k + n) (f n) ∷ []) l1 l2 s1 s2 → Wrote (sp .origin) (row sp k f (n + 1)) l0 l2 s0 s2
 unfolding row
 wrote-word sp k f n l0 l1 l2 s0 s1 s2 a b = rw add-one (wrote-then (sp .origin) (row sp k f n) (put sp (k + n) (f n) ∷ []) l0 l1 l2 s0 s1 s2 a b)
+
+pub wrote-no-mark : (origin p left : ℕ) (s : List ℕ) → Wrote origin (unmarks p 0) left left s s
+unfolding unmarks
+wrote-no-mark origin p left s = wrote-none origin left s
+
+pub wrote-mark : (origin p n l0 l1 l2 : ℕ) (s0 s1 s2 : List ℕ) → Wrote origin (unmarks p n) l0 l1 s0 s1
+    → Wrote origin (write (p + n) 0 0 ∷ []) l1 l2 s1 s2 → Wrote origin (unmarks p (n + 1)) l0 l2 s0 s2
+unfolding unmarks markAt
+wrote-mark origin p n l0 l1 l2 s0 s1 s2 a b = rw add-one (wrote-then origin (unmarks p n) (write (p + n) 0 0 ∷ []) l0 l1 l2 s0 s1 s2 a b)
 
 -- The words -----------------------------------------------------------------------------------------------------------------------
 
@@ -64,3 +75,23 @@ row-other m sp k f (suc n) j u = row-more m sp k f n j ∙ put-other (after m (r
     less : (j < k) ⊎ (k + suc n ≤ j) → (j < k) ⊎ (k + n ≤ j)
     less (inl v) = inl v
     less (inr v) = inr (omega arith)
+
+-- First words of pages ------------------------------------------------------------------------------------------------------------
+
+-- only these pages are written
+pub unmarks-proper : {Q : ℕ → Type 0} (p n : ℕ) → ((q : ℕ) → p ≤ q → q < p + n → Q q) → Every Q (unmarks p n)
+unfolding unmarks markAt
+unmarks-proper p zero h = none
+unmarks-proper p (suc n) h =
+    every-append (unmarks p n) _ (unmarks-proper p n (λ q u v. h q u (omega arith))) (every-one (p + n) 0 0 (h (p + n) (omega arith) (omega arith)) (omega arith) (omega arith))
+
+-- and they begin with 0
+pub unmarks-first : (m : ℕ → ℕ) (p n q : ℕ) → p ≤ q → q < p + n → after m (unmarks p n) (at q 0) ≡ 0
+unfolding unmarks markAt after
+unmarks-first m p zero q u v = absurd (omega arith)
+unmarks-first m p (suc n) q u v =
+    ap (λ (f : ℕ → ℕ). f (at q 0)) (after-append m (unmarks p n) (write (p + n) 0 0 ∷ [])) ∙ go (ℕ-discrete (p + n) q) (unmarks-first m p n q u)
+  where
+    go : Dec (p + n ≡ q) → (q < p + n → after m (unmarks p n) (at q 0) ≡ 0) → after (after m (unmarks p n)) (write (p + n) 0 0 ∷ []) (at q 0) ≡ 0
+    go (yes e) ih = rw (← e) (set-same (after m (unmarks p n)) (at (p + n) 0) 0)
+    go (no d) ih = set-other (after m (unmarks p n)) (at (p + n) 0) 0 (at q 0) (λ e. d (omega arith)) ∙ ih (omega arith)

@@ -1,6 +1,6 @@
 // Making a pool: its book, and an empty root.
 ghost use mathlib.Core.Path.{_≡_};
-ghost use Prim.Native.Nat.{_+_, _^_, _<_};
+ghost use Prim.Native.Nat.{_+_, _^_, _<_, _≤_};
 ghost use lib.ListN.{length};
 ghost use Rattle.word.specs.Memory.{holds};
 ghost use Rattle.word.specs.Writes.{Wrote};
@@ -58,6 +58,36 @@ fn blank(mem: &mut [u8], left: &mut u64, space: Space, k: u64, n: u64)
     }
 }
 
+// n pages from page p on begin with 0, where a book would have its mark.
+fn unmark(mem: &mut [u8], left: &mut u64, origin: u64, p: u64, n: u64)
+    requires { ⌜ p + n < 2 ^ 63 ⌝ }
+    ensures { λ _. ⌜ Wrote origin (made.unmarks p n) (now (left .entry)) (now (left .exit)) (now (mem .entry)) (now (mem .exit)) ⌝ }
+{
+    let mut j: u64 = 0;
+    while j < n {
+        word::write(mem, left, origin, p + j, MARK_AT, 0);
+        j += 1;
+    }
+}
+
+// No mark is left, here or in the n pages behind the root.
+fn bare(mem: &mut [u8], left: &mut u64, space: Space, n: u64)
+    requires { ⌜ (space .root < 2 ^ 41) × (n ≤ 2 ^ 32) ⌝ }
+    ensures { λ _. ⌜ Wrote (space .origin) (made.bared space n) (now (left .entry)) (now (left .exit)) (now (mem .entry)) (now (mem .exit)) ⌝ }
+{
+    put(mem, left, space, MARK_AT, 0);
+    unmark(mem, left, space.origin, space.root + 1, n);
+}
+
+// The first n slots list the pages behind the root; every other slot is 0, and every count.
+fn put_slots(mem: &mut [u8], left: &mut u64, space: Space, n: u64)
+    requires { ⌜ (space .root < 2 ^ 41) × (space .pages ≤ 2 ^ 32) × (n ≤ space .pages) ⌝ }
+    ensures { λ _. ⌜ Wrote (space .origin) (made.slots space n) (now (left .entry)) (now (left .exit)) (now (mem .entry)) (now (mem .exit)) ⌝ }
+{
+    fill(mem, left, space, space.root + 1, n);
+    blank(mem, left, space, HEADER + n, 2 * space.pages - n);
+}
+
 // All of the header but its mark: so many pages are free.
 fn put_header(mem: &mut [u8], left: &mut u64, space: Space, free: u64)
     ensures { λ _. ⌜ Wrote (space .origin) (made.header space free) (now (left .entry)) (now (left .exit)) (now (mem .entry)) (now (mem .exit)) ⌝ }
@@ -69,14 +99,15 @@ fn put_header(mem: &mut [u8], left: &mut u64, space: Space, free: u64)
     blank(mem, left, space, ASIDE_AT, HEADER - ASIDE_AT);
 }
 
-// The book of a new pool, all of whose pages behind the root are free, and an empty root. The mark comes last: until then there is no book where there was none.
+// The book of a new pool, all of whose pages behind the root are free, and an empty root. The mark goes first and comes last: in between there
+// is no book. No page that becomes free is left with the mark of an older one.
 fn lay_out(mem: &mut [u8], left: &mut u64, space: Space)
     requires { ⌜ made.Roomy space ⌝ }
     ensures { λ _. ⌜ Wrote (space .origin) (made.layOut space) (now (left .entry)) (now (left .exit)) (now (mem .entry)) (now (mem .exit)) ⌝ }
 {
     let free = space.pages - book_pages(space.pages) - 1;
-    fill(mem, left, space, space.root + 1, free);
-    blank(mem, left, space, HEADER + space.pages, space.pages);
+    bare(mem, left, space, free);
+    put_slots(mem, left, space, free);
     put_header(mem, left, space, free);
     word::clear(mem, left, space.origin, space.root);
     put(mem, left, space, MARK_AT, MARK);

@@ -193,15 +193,19 @@ pub fn create(mem: &mut [u8], origin: u64, pool: u64, pages: u64) -> Result<u64,
     let free = pages - behind - 1;
     let (book, tables) = all.split_at_mut_checked(behind as usize).ok_or(Reason::PoolSmall)?;
     let (header, behind) = book.as_flattened_mut().split_at_mut(SLOTS);
-    let (slots, counts) = behind.split_at_mut(pages as usize);
+    let (slots, rest) = behind.split_at_mut(free as usize);
     for (slot, page) in slots.iter_mut().zip(0..free) {
         put(slot, root / PAGE + 1 + page);
     }
-    counts[..pages as usize].fill([0; 8]);
+    rest[..(2 * pages - free) as usize].fill([0; 8]);
     for (word, entry) in header.iter_mut().enumerate() {
         put(entry, new_header(word, pages, root / PAGE, free));
     }
-    tables[0] = [[0; 8]; 512];
+    let (root_table, others) = tables.split_first_mut().ok_or(Reason::PoolSmall)?;
+    *root_table = [[0; 8]; 512];
+    for page in others {
+        page[0] = [0; 8];
+    }
     Ok(root)
 }
 

@@ -87,10 +87,11 @@ pub unsafe fn create(mem: *mut u8, origin: u64, pool: u64, pages: u64) -> u64 {
     let root = pool + book_pages(pages) * PAGE;
     let free = pages - book_pages(pages) - 1;
     for slot in 0..free {
+        memory.put(root + (slot + 1) * PAGE, 0, 0);
         memory.put(pool, SLOTS + slot as usize, root / PAGE + 1 + slot);
     }
-    for count in 0..pages {
-        memory.put(pool, SLOTS + (pages + count) as usize, 0);
+    for word in free..2 * pages {
+        memory.put(pool, SLOTS + word as usize, 0);
     }
     for word in 0..SLOTS {
         memory.put(pool, word, new_header(word, pages, root / PAGE, free));

@@ -68,8 +68,9 @@ pub fn looked_up(walk: Walk) -> Answer {
 
 fn new_pool(pool: u64, pages: u64, root: u64) -> Vec<Write> {
     let behind = (root - pool) / 4096 + 1;
+    let unmarked = [0].into_iter().chain(behind..pages).map(|page| (512 * page, 0));
     let listed = (behind..pages).map(|page| (HEADER + page - behind, pool / 4096 + page));
-    let counts = (0..pages).map(|page| (HEADER + pages + page, 0));
+    let rest = (HEADER + pages - behind..HEADER + 2 * pages).map(|word| (word, 0));
     let header = (1..HEADER).map(|word| match word {
         PAGES => (word, pages),
         ROOT => (word, root / 4096),
@@ -77,7 +78,7 @@ fn new_pool(pool: u64, pages: u64, root: u64) -> Vec<Write> {
         _ => (word, 0),
     });
     let mut writes: Vec<Write> =
-        listed.chain(counts).chain(header).map(|(word, value)| Word(pool + 8 * word, value)).collect();
+        unmarked.chain(listed).chain(rest).chain(header).map(|(word, value)| Word(pool + 8 * word, value)).collect();
     writes.push(Clear(root));
     writes.push(Word(pool, u64::from_le_bytes(MARK)));
     writes
