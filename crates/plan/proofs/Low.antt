@@ -84,7 +84,7 @@ module _ (h : ℕ → Bool) (m : ℕ → ℕ) (sp : Space) (small : (x : ℕ) �
   stock-low need f (opened.Book b) o e = go (ltb (b .free) need) e
     where
       fits : opening.Fitting h (sp .first) (sp .pages)
-      fits = open-shows h m sp b o .fits
+      fits = open-shows h m sp b o .names .fits
 
       end : sp .first + sp .pages ≤ 2 ^ 40
       end = omega (arith, small (sp .first + sp .pages - 1) (fits .upto), fits .enough)

@@ -125,4 +125,4 @@ module _ (s : List ℕ) (origin first pages : ℕ) where
   create-interrupted k z u sp same here b e =
       let o = open-shows _ _ sp b e in
       let none = unmarked k (mayCreate (length s) (holds s origin) origin first pages) refl z u in
-      omega (arith, sym none ∙ ap (λ (p : ℕ). memory (begun k) origin (512 * p + markAt)) (sym here) ∙ o .marked)
+      omega (arith, sym none ∙ ap (λ (p : ℕ). memory (begun k) origin (512 * p + markAt)) (sym here) ∙ o .names .marked)

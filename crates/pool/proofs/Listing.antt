@@ -14,12 +14,13 @@ use Rattle.pool.specs.declared.Book.{Book}
 use Rattle.pool.specs.declared.Listed.{Listed}
 use Rattle.pool.specs.declared.Listed.the-variants.{Page, Bad}
 use Rattle.pool.specs.Layout.{slotAt, bookPages}
-use Rattle.pool.specs.Book.{wordOf, bookOf, spotOf, pageAt, inPool, soundOf, openedOf, usableOf, namedOf, listedOf}
+use Rattle.pool.specs.Book.{wordOf, bookOf, spotOf, pageAt, inPool, soundOf, namesOf, openedOf, usableOf, namedOf, listedOf}
 use Rattle.pool.specs.Booked.{Booked}
 use Rattle.pool.proofs.Counts.{InPool, pool-in, in-pool, is-sound, spot-in}
 use Rattle.pool.proofs.Words.{word-page, slot-word}
+use Rattle.pool.specs.declared.Fit.the-variants as fit
 use Rattle.pool.specs.declared.Opened.the-variants as opened
-use Rattle.pool.proofs.Opening.{Fitting, opens}
+use Rattle.pool.proofs.Opening.{Fitting, Names, names, opens}
 use Rattle.pool.proofs.Pages.{Owned}
 
 -- a page for tables
@@ -77,9 +78,16 @@ module _ {sp : Space} {m : ℕ → ℕ} {role : ℕ → Role} (b : Booked sp m r
           let z : _≡_ {A = ℕ} 0 1 = cc in
           absurd (omega arith)
 
-  -- A TRUE BOOK IS OPENED, with its counts
+  -- A TRUE BOOK NAMES ITS SPACE
+  named : (h : ℕ → Bool) → Fitting h (sp .first) (sp .pages) → Names h m sp
+  named h f = record { fits = f; inside = root-behind; marked = b .marked; sized = b .sized; rooted = b .rooted }
+
+  pub booked-names : (h : ℕ → Bool) → Fitting h (sp .first) (sp .pages) → namesOf h m sp ≡ fit.Fits
+  booked-names h f = names h m sp (named h f)
+
+  -- and is opened, with its counts
   pub booked-opens : (h : ℕ → Bool) → Fitting h (sp .first) (sp .pages) → openedOf h m sp ≡ opened.Book (bookOf m sp)
-  booked-opens h f = opens h m sp f root-behind (b .marked) (b .sized) (b .rooted) (b .sound)
+  booked-opens h f = opens h m sp (named h f) (b .sound)
 
   -- OF A TRUE BOOK: the free page at that position
   pub listed-free : (h : ℕ → Bool) → ((p : ℕ) → sp .first ≤ p → p < sp .first + sp .pages → h p ≡ true) → (k : ℕ) → k < bookOf m sp .free

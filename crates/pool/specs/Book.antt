@@ -64,25 +64,38 @@ pub record Sound (pages : ℕ) (b : Book) : Type 0 where
   pub room : b .free + b .aside + bookPages pages + 1 ≤ pages
   pub early : b .tickets ≤ 2 ^ 62
 
--- by the header's first three words, and its counts
-unfoldable pub checkedOf : Space → ℕ → ℕ → ℕ → Book → Opened
-checkedOf sp first second third b =
-    cond (eqb first mark)
-    (cond (eqb second (sp .pages))
-    (cond (eqb third (sp .root)) (cond (soundOf (sp .pages) b) (opened.Book b) (opened.Refused BadBook)) (opened.Refused BadRoot))
-    (opened.Refused OtherBook))
-    (opened.Refused NoBook)
+-- the header is that of a book of so many pages, with that root
+unfoldable pub headedOf : (ℕ → ℕ) → Space → Fit
+headedOf m sp =
+    cond (eqb (m (wordOf sp markAt)) mark)
+    (cond (eqb (m (wordOf sp pagesAt)) (sp .pages))
+    (cond (eqb (m (wordOf sp rootAt)) (sp .root)) fit.Fits (fit.Refused BadRoot))
+    (fit.Refused OtherBook))
+    (fit.Refused NoBook)
 
-unfoldable pub headerOf : (ℕ → ℕ) → Space → Opened
-headerOf m sp = checkedOf sp (m (wordOf sp markAt)) (m (wordOf sp pagesAt)) (m (wordOf sp rootAt)) (bookOf m sp)
+-- and the root is a page of the pool behind the book
+unfoldable pub rootedIn : Space → Fit → Fit
+rootedIn sp fit.Fits = cond (inPool sp (sp .root)) fit.Fits (fit.Refused BadRoot)
+rootedIn sp (fit.Refused r) = fit.Refused r
+
+unfoldable pub namesIn : (ℕ → ℕ) → Space → Fit → Fit
+namesIn m sp fit.Fits = rootedIn sp (headedOf m sp)
+namesIn m sp (fit.Refused r) = fit.Refused r
+
+-- THE BOOK NAMES THIS SPACE: the pool lies in the window, and the book there has its mark, its pages and its root
+unfoldable pub namesOf : (ℕ → Bool) → (ℕ → ℕ) → Space → Fit
+namesOf h m sp = namesIn m sp (roomOf h (sp .first) (sp .pages))
+
+unfoldable pub countsOf : (ℕ → ℕ) → Space → Opened
+countsOf m sp = cond (soundOf (sp .pages) (bookOf m sp)) (opened.Book (bookOf m sp)) (opened.Refused BadBook)
 
 unfoldable pub openedIn : (ℕ → ℕ) → Space → Fit → Opened
-openedIn m sp fit.Fits = cond (inPool sp (sp .root)) (headerOf m sp) (opened.Refused BadRoot)
+openedIn m sp fit.Fits = countsOf m sp
 openedIn m sp (fit.Refused r) = opened.Refused r
 
--- WHAT OPENING ANSWERS
+-- WHAT OPENING ANSWERS: the counts of a book that names this space
 unfoldable pub openedOf : (ℕ → Bool) → (ℕ → ℕ) → Space → Opened
-openedOf h m sp = openedIn m sp (roomOf h (sp .first) (sp .pages))
+openedOf h m sp = openedIn m sp (namesOf h m sp)
 
 -- a page that can become a table: in the pool, not the book's and not the root
 unfoldable pub usableOf : Space → ℕ → Listed

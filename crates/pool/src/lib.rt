@@ -13,6 +13,7 @@ ghost use Rattle.pool.specs.Stands as stand;
 use word::Cell;
 
 mod bounds;
+mod header;
 mod layout;
 mod making;
 
@@ -20,13 +21,12 @@ use bounds::book_of;
 pub use bounds::entry;
 pub use bounds::in_pool;
 pub use bounds::set_entry;
+pub use header::names;
+pub use header::open;
 use layout::ASIDE_AT;
 pub use layout::FREE_AT;
 use layout::HEAD_AT;
 pub use layout::HEADER;
-use layout::MARK_AT;
-use layout::PAGES_AT;
-use layout::ROOT_AT;
 pub use layout::TICKETS_AT;
 pub use making::create;
 
@@ -145,69 +145,6 @@ fn sound(pages: u64, b: Book) -> bool
         return false;
     }
     b.tickets <= LAST
-}
-
-// The tests of a header.
-fn checked(space: Space, mark: u64, pages: u64, root: u64, b: Book) -> Opened
-    ensures { λ r. ⌜ r ≡ the.checkedOf space mark pages root b ⌝ }
-{
-    if mark != MARK {
-        return Opened::Refused(Reason::NoBook);
-    }
-    if pages != space.pages {
-        return Opened::Refused(Reason::OtherBook);
-    }
-    if root != space.root {
-        return Opened::Refused(Reason::BadRoot);
-    }
-    if sound(space.pages, b) {
-        return Opened::Book(b);
-    }
-    Opened::Refused(Reason::BadBook)
-}
-
-// Word i of a page in the window.
-fn get(mem: &[u8], origin: u64, p: u64, i: u64) -> u64
-    requires { ⌜ i < 512 ⌝ }
-    ensures { λ r. ⌜ (holds (now (mem .entry)) origin p ≡ true → r ≡ memory (now (mem .entry)) origin (512 * p + i)) ⌝ }
-{
-    let c = word::read(mem, origin, p, i);
-    match c {
-        Cell::Word(w) => w,
-        Cell::Outside => 0,
-    }
-}
-
-// The header of the book in a page of the window.
-fn header(mem: &[u8], space: Space) -> Opened
-    ensures { λ r. ⌜ (holds (now (mem .entry)) (space .origin) (space .first) ≡ true → r ≡ the.headerOf (memory (now (mem .entry)) (space .origin)) space) ⌝ }
-{
-    let mark = get(mem, space.origin, space.first, MARK_AT);
-    let pages = get(mem, space.origin, space.first, PAGES_AT);
-    let root = get(mem, space.origin, space.first, ROOT_AT);
-    let b = Book {
-        head: get(mem, space.origin, space.first, HEAD_AT),
-        free: get(mem, space.origin, space.first, FREE_AT),
-        aside: get(mem, space.origin, space.first, ASIDE_AT),
-        tickets: get(mem, space.origin, space.first, TICKETS_AT),
-    };
-    checked(space, mark, pages, root, b)
-}
-
-// The one function that reads a book's header, and tests all of it.
-pub fn open(mem: &[u8], space: Space) -> Opened
-    ensures { λ r. ⌜ r ≡ the.openedOf (holds (now (mem .entry)) (space .origin)) (memory (now (mem .entry)) (space .origin)) space ⌝ }
-{
-    let fit = room(mem, space.origin, space.first, space.pages);
-    match fit {
-        Fit::Refused(r) => Opened::Refused(r),
-        Fit::Fits => {
-            if in_pool(space, space.root) {
-                return header(mem, space);
-            }
-            Opened::Refused(Reason::BadRoot)
-        }
-    }
 }
 
 // The slot k positions behind the head, on the ring of slots.
@@ -345,22 +282,6 @@ pub fn release(mem: &mut [u8], left: &mut u64, space: Space, book: Book, k: u64)
         put(mem, left, space, FREE_AT, book.free + k);
         put(mem, left, space, ASIDE_AT, book.aside - k);
         put(mem, left, space, TICKETS_AT, book.tickets + k);
-    }
-}
-
-// Does the space make sense: the pool in the window with its book, and the root behind that?
-pub fn stands(mem: &[u8], space: Space) -> Fit
-    ensures { λ r. ⌜ r ≡ stand.standsOf (holds (now (mem .entry)) (space .origin)) space ⌝ }
-{
-    let fit = room(mem, space.origin, space.first, space.pages);
-    match fit {
-        Fit::Refused(r) => Fit::Refused(r),
-        Fit::Fits => {
-            if in_pool(space, space.root) {
-                return Fit::Fits;
-            }
-            Fit::Refused(Reason::BadRoot)
-        }
     }
 }
 
