@@ -15,8 +15,8 @@ use Rattle.entry.specs.declared.Entry.the-variants as entry
 use Rattle.entry.specs.declared.Made.{Made}
 use Rattle.entry.specs.declared.Made.the-variants as made
 use Rattle.walk.specs.Walk.{indexOf}
-use Rattle.pool.specs.Book.{soundOf, ticketOf, ticketIn, openedOf, listedOf}
-use Rattle.pool.specs.Stands.{standsOf, takesOf}
+use Rattle.pool.specs.Book.{namesOf, soundOf, ticketOf, ticketIn, openedOf, listedOf}
+use Rattle.pool.specs.Stands.{takesOf}
 use Rattle.pool.specs.Changes.{asideBook}
 use Rattle.pool.specs.declared.Space.{Space}
 use Rattle.pool.specs.declared.Book.{Book}
@@ -138,7 +138,7 @@ module _ (h : ℕ → Bool) (m : ℕ → ℕ) (sp : Space) (small : (x : ℕ) �
     shaped-low : (x : Shape) → map.shapedOf h m sp q x ≡ map.Go p → Buildable p
     unfolding map.shapedOf map.standingOf
     shaped-low (shape.Bad r) e = none-built cc
-    shaped-low (shape.Level n) e = fitting-low n (standsOf h sp) e
+    shaped-low (shape.Level n) e = fitting-low n (namesOf h m sp) e
 
     pub map-low : map.decideOf h m sp q ≡ map.Go p → Buildable p
     unfolding map.decideOf
