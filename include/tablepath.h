@@ -2,8 +2,8 @@
  *
  * A space is five numbers, the same at every call: the window (len bytes at mem, which are the physical memory from the physical
  * address origin on), the pool (pages of 4096 bytes from the physical address pool on, inside the window), and the physical
- * address of the root, which tp_create answers and which goes into CR3. The pool's first pages hold a book of what is free;
- * no other memory is used.
+ * address of the root, which tp_create answers and which goes into CR3. The pool's first pages hold a book of what is free: one page
+ * for a pool of up to 248, and one more for each 256 pages more, (pages + 263) / 256. No other memory is used.
  *
  * Any bytes and any numbers may be given: every call ends, reads and writes inside the window alone, and writes words of the pool
  * alone. What can't be done is refused with a reason, and then no byte has changed. One call at a time on a window: a lock is the
@@ -49,7 +49,7 @@ enum tp_reason {
     TP_POOL_LARGE = 16,     /* more pages than a book can list */
     TP_POOL_SMALL = 17,     /* no room for the book and a root */
     TP_POOL_OUTSIDE = 18,   /* the pool does not lie in the window */
-    TP_BAD_ROOT = 19,       /* the root is no page of the pool behind its book */
+    TP_BAD_ROOT = 19,       /* the root is no page of the pool behind its book, or not the book's */
     TP_NO_BOOK = 20,        /* no pool was made here */
     TP_OTHER_BOOK = 21,     /* a pool of another size was made here */
     TP_BAD_BOOK = 22,       /* the book does not add up */

@@ -10,10 +10,10 @@ from unicorn import UC_HOOK_CODE
 from unicorn.x86_const import UC_X86_REG_RSP
 
 from emulated import ARGUMENTS, END, STACK, STACK_SIZE, WINDOW, WORDS, Code, Wrong
-from model import SIZES
+from model import SIZES, book_pages
 
 ORIGIN, PAGES = 1 << 40, 96
-SPACE = (ORIGIN, ORIGIN, PAGES, ORIGIN + 4096 * ((PAGES + 519) // 512))
+SPACE = (ORIGIN, ORIGIN, PAGES, ORIGIN + 4096 * book_pages(PAGES))
 FRAME = 256 << 30
 NAMES = ('4 KiB', '2 MiB', '1 GiB')
 MIDDLE = 256  # the index of the entry that is asked for

@@ -1,7 +1,13 @@
 """The manual's walk, and what each operation should store and in which order: written apart from the library."""
 SIZES = (1 << 12, 1 << 21, 1 << 30)
 FRAME = (1 << 52) - (1 << 12)
-MARK = 7741528751714166900
+# Words of the book's header; behind its words come the ring, a slot for each page of the pool, and a count for each.
+MARK_AT, PAGES_AT, ROOT_AT, TICKETS_AT, FREE_AT, ASIDE_AT, HEAD_AT = range(7)
+HEADER = 16
+
+
+def book_pages(pages):
+    return -(-8 * (HEADER + 2 * pages) // 4096)
 
 
 class Tables:
@@ -10,8 +16,7 @@ class Tables:
     def __init__(self, window, origin, pages):
         self.words = memoryview(bytearray(window)).cast('Q')
         self.start, self.pages = origin >> 12, pages
-        self.book = (pages + 519) // 512
-        self.root = self.start + self.book
+        self.root = self.start + book_pages(pages)
 
     def copy(self):
         twin = Tables(bytes(self.words.cast('B')), self.start << 12, self.pages)
@@ -65,8 +70,8 @@ class Tables:
         return found
 
     def slot(self, k):
-        head = self.header(2)
-        return 8 + (head + k if k < self.pages - head else k - (self.pages - head))
+        head = self.header(HEAD_AT)
+        return HEADER + (head + k if k < self.pages - head else k - (self.pages - head))
 
     def put(self, k, word):
         return self.at(self.start, k), word
@@ -82,7 +87,7 @@ class Tables:
         target = SIZES.index(size)
         way, word = self.path(base, target)
         missing = 3 - target - (len(way) - 1)
-        free = self.header(3)
+        free = self.header(FREE_AT)
         if word & 1 or free < missing:
             return None
         stores, table, level = [], way[-1], 3 - (len(way) - 1)
@@ -95,7 +100,7 @@ class Tables:
         word = frame | 1 | writable << 1 | user << 2 | (128 if target else 0) | noexec << 63
         stores.append((self.at(table, base >> 12 + 9 * target & 511), word))
         if missing:
-            stores += [self.put(2, self.slot(missing) - 8), self.put(3, free - missing)]
+            stores += [self.put(HEAD_AT, self.slot(missing) - HEADER), self.put(FREE_AT, free - missing)]
         return stores
 
     def starts(self, base):
@@ -111,11 +116,12 @@ class Tables:
             return None
         level, way = found
         stores = [(self.at(way[-1], base >> 12 + 9 * level & 511), 0)]
-        aside, gone = self.header(4), base >> 12 + 9 * level & 511
+        aside, gone = self.header(ASIDE_AT), base >> 12 + 9 * level & 511
         while len(way) > 1 and not any(self.word(way[-1], i) & 1 for i in range(512) if i != gone):
             child, level = way.pop(), level + 1
             gone = base >> 12 + 9 * level & 511
-            stores += [(self.at(way[-1], gone), 0), self.put(self.slot(self.header(3) + aside), child), self.put(4, aside + 1)]
+            slot = self.slot(self.header(FREE_AT) + aside)
+            stores += [(self.at(way[-1], gone), 0), self.put(slot, child), self.put(ASIDE_AT, aside + 1)]
             aside += 1
         return stores
 
@@ -129,8 +135,8 @@ class Tables:
         return [(self.at(way[-1], index), word | (rights & 1) << 1 | (rights >> 1 & 1) << 2 | (rights >> 2 & 1) << 63)]
 
     def told(self, ticket):
-        free, aside, tickets = self.header(3), self.header(4), self.header(5)
+        free, aside, tickets = self.header(FREE_AT), self.header(ASIDE_AT), self.header(TICKETS_AT)
         due = max(0, ticket - tickets)
         if due > aside:
             return None
-        return [self.put(3, free + due), self.put(4, aside - due), self.put(5, tickets + due)]
+        return [self.put(FREE_AT, free + due), self.put(ASIDE_AT, aside - due), self.put(TICKETS_AT, tickets + due)]

@@ -1,5 +1,5 @@
 -- CREATE, by the numbers that C gives and gets: the root that it answers names a whole space, in which nothing is mapped, for the calls after it.
-use Prim.Native.Nat.{ℕ, _+_, _/_, _%_, _<_}
+use Prim.Native.Nat.{ℕ, _+_, _/_, _%_}
 use mathlib.Core.Bool.{Bool, true, false, cond}
 use mathlib.Core.List.{List, []}
 use mathlib.Core.Path.{_≡_, refl, ap, _∙_}
@@ -9,7 +9,9 @@ use lib.ListN.{length}
 use borrow.Author.Tests.{eq-eqb, eqb-true}
 use Rattle.word.specs.Memory.{holds}
 use Rattle.word.specs.Writes.{carried}
-use Rattle.pool.specs.Book.{bookPages, roomOf}
+use Rattle.pool.specs.Layout.{bookPages}
+use Rattle.pool.proofs.Words.{book-some}
+use Rattle.pool.specs.Book.{roomOf}
 use Rattle.pool.specs.Booked.{newRole}
 use Rattle.pool.specs.Create.{createdOf, createdIn, createWrites, createIn, newSpace, mayCreate}
 use Rattle.pool.specs.declared.Created as ofPool
@@ -79,7 +81,7 @@ module _ (s : List ℕ) (origin pool pages : ℕ) where
 
   -- DONE: the space is whole, and empty
   pub create-done : tpCreate s origin pool pages .reason ≡ 0 → CreateDone s origin pool pages
-  create-done e = record { whole = whole; behind = omega (arith, at-page, root-is, books); before-end = omega (arith, at-page, root-is, root-in (whole .whole) .before-end); empty = empty }
+  create-done e = record { whole = whole; behind = omega (arith, at-page, root-is, book-some pages); before-end = omega (arith, at-page, root-is, root-in (whole .whole) .before-end); empty = empty }
     where
       a : pool % 4096 ≡ 0
       a = done-aligned e
@@ -93,9 +95,6 @@ module _ (s : List ℕ) (origin pool pages : ℕ) where
 
       at-page : tpCreate s origin pool pages .root % 4096 ≡ 0
       at-page = rw (create-answers a) (root-page _)
-
-      books : 0 < bookPages pages
-      books = unfold bookPages in omega arith
 
       whole : WholeAt (createLeaves s origin pool pages) (newNumbers s origin pool pages)
       whole = record { aligned = record { pool = a; root = at-page }; role = newRole (newSpace origin (pool / 4096) pages); whole = rw root-is (k .1) }

@@ -5,10 +5,10 @@ use mathlib.Core.Path.{_≡_, refl}
 use lib.ListN.{length}
 use Rattle.word.specs.Memory.{holds}
 use Rattle.entry.specs.Entry.{bit}
-use Rattle.pool.specs.Book.{bookPages, roomOf}
+use Rattle.pool.specs.Book.{roomOf}
 use Rattle.pool.specs.Create.{createdOf, createdIn, mayCreate}
 use Rattle.tablepath.specs.Answers as the
-use Rattle.tablepath.proofs.Witness.{goes}
+use Rattle.tablepath.proofs.Witness.{one-page, goes}
 use Rattle.abi.specs.Answers.{created, mapped}
 use Rattle.abi.specs.Calls.{createAnswer}
 use Rattle.abi.specs.Relied.{Numbers, granted, WholeAt, tpCreate, createLeaves, tpMap}
@@ -18,8 +18,8 @@ use Rattle.abi.proofs.Named.{map-answers}
 module _ (s : List ℕ) (e : length s ≡ 20480) where
   -- the root lies behind the book, which is one page
   pub five-made : tpCreate s 0 0 5 ≡ record { reason = 0; root = 4096 }
-  unfolding createAnswer created createdOf createdIn mayCreate roomOf holds bookPages
-  five-made = rw e
+  unfolding createAnswer created createdOf createdIn mayCreate roomOf holds
+  five-made = rw (e, one-page, one-page)
 
   abbrev five : Numbers
   five = record { origin = 0; pool = 0; pages = 5; root = 4096 }
@@ -29,5 +29,5 @@ module _ (s : List ℕ) (e : length s ≡ 20480) where
 
   -- writable, for users
   pub five-mapped : tpMap (createLeaves s 0 0 5) five 0 1048576 4096 3 .reason ≡ 0
-  unfolding granted bit bookPages mapped the.mapAnswer the.mapSaid
-  five-mapped = rw (map-answers five (five-whole .aligned) (createLeaves s 0 0 5) 0 1048576 4096 3, create-leaves s 0 0 5 refl, goes s e .1)
+  unfolding granted bit mapped the.mapAnswer the.mapSaid
+  five-mapped = rw (map-answers five (five-whole .aligned) (createLeaves s 0 0 5) 0 1048576 4096 3, create-leaves s 0 0 5 refl, rw one-page at (goes s e .1))

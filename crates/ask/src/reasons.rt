@@ -29,7 +29,9 @@ pub fn pool_refused(r: pool::Reason) {
         pool::Reason::PoolLarge => because(b"a pool has at most 2^32 pages"),
         pool::Reason::PoolSmall => because(b"too few pages for a book, a root and one table"),
         pool::Reason::PoolOutside => because(b"the pool does not lie in the window"),
-        pool::Reason::BadRoot => because(b"the root is no page of the pool behind its book"),
+        pool::Reason::BadRoot => because(
+            b"the root is no page of the pool behind its book, or not the book's",
+        ),
         pool::Reason::NoBook => because(b"there is no book: no pool was created there"),
         pool::Reason::OtherBook => because(b"the book is of a pool of another size"),
         pool::Reason::BadBook => because(b"damaged book: its counts cannot be"),

@@ -4,6 +4,9 @@ use ask::BYTES;
 use ask::FIRST;
 use ask::ORIGIN;
 use ask::ROOT;
+use pool::FREE_AT;
+use pool::HEADER;
+use pool::TICKETS_AT;
 
 const HERE: u64 = 0x1000;
 
@@ -33,19 +36,19 @@ fn book_as_table(mem: &mut [u8]) {
     overwrite(mem, ROOT, 0, 0x10_3007);
 }
 
-// The book's slots begin at its word 8; three pages were taken, so the free one is in slot 3.
+// Three pages were taken, so the free one is in slot 3, behind the book's header.
 fn bad_list(mem: &mut [u8]) {
     say::text(b" the book lists the root as free\n");
-    overwrite(mem, FIRST, 11, ROOT);
+    overwrite(mem, FIRST, HEADER + 3, ROOT);
     usual::map(mem, 0x20_0000, 0x40_0000, 0x4000_0000);
-    overwrite(mem, FIRST, 11, 0x106);
+    overwrite(mem, FIRST, HEADER + 3, 0x106);
 }
 
 fn bad_count(mem: &mut [u8]) {
     say::text(b" the book counts a thousand free pages\n");
-    overwrite(mem, FIRST, 3, 1000);
+    overwrite(mem, FIRST, FREE_AT, 1000);
     usual::unmap(mem, HERE);
-    overwrite(mem, FIRST, 3, 1);
+    overwrite(mem, FIRST, FREE_AT, 1);
 }
 
 fn go_on(mem: &mut [u8]) {
@@ -57,7 +60,7 @@ fn go_on(mem: &mut [u8]) {
 // Tickets end at 2^62.
 fn spent(mem: &mut [u8]) {
     say::text(b" as if 2^62 tickets had been used up\n");
-    overwrite(mem, FIRST, 5, 0x4000_0000_0000_0000);
+    overwrite(mem, FIRST, TICKETS_AT, 0x4000_0000_0000_0000);
     usual::unmap(mem, HERE);
     usual::told(mem, 0x4000_0000_0000_0002);
 }

@@ -21,7 +21,7 @@ use Rattle.pool.specs.Booked.{settingOf}
 use Rattle.pool.specs.Changes.{asideBook}
 use Rattle.pool.specs.declared.Space.{Space}
 use Rattle.pool.specs.declared.Book.{Book}
-use Rattle.pool.proofs.Booked.{booked-elsewhere}
+use Rattle.pool.proofs.Booked.{Beside, book-beside, numbered-beside, booked-beside}
 use Rattle.plan.specs.declared.descent.Way.{Way}
 use Rattle.plan.specs.declared.finding.Spot.{Spot}
 use Rattle.plan.specs.declared.unmaps.Removal.{Removal}
@@ -33,7 +33,7 @@ use Rattle.effect.proofs.Emptying.{tableAt, levelAt, Empty, Emptied, ke
 use Rattle.effect.proofs.Located.{Located}
 use Rattle.effect.proofs.Rising.{aside-none, aside-one, aside-more, Rising, cutting, rising-step}
 use Rattle.effect.proofs.Trace.{Names}
-use Rattle.effect.proofs.Wholes.{root-low, live-in, live-held, Beside, in-beside, in-of-pool, book-beside, numbered-beside}
+use Rattle.effect.proofs.Wholes.{root-low, live-in, live-held, in-beside, in-of-pool}
 
 -- One cut of a plan ----------------------------------------------------------------------------------------------------------------
 
@@ -115,7 +115,7 @@ module _ {h : ℕ → Bool} {sp : Space} {m : ℕ → ℕ} {role : ℕ → Role}
   risen-first : Rising h sp m role va (s .way .level) 0 (clear va (s .way)) role (s .way .level) (s .way .a)
   risen-first = record {
     up = unfold after in up-start (s .frame) (k .rights) (w .sound) (k .comes) (k .entry);
-    booked = booked-elsewhere (clear va (s .way)) beside (w .booked);
+    booked = booked-beside sp m (clear va (s .way)) beside (w .booked);
     proper = every-one (s .way .a) (indexOf (s .way .level) va) 0 (in-of-pool (live-in w (k .live))) (index-lt (s .way .level) va) (omega arith);
     book = book-beside sp m (clear va (s .way)) beside ∙ aside-none (bookOf m sp);
     fate = λ p. inl refl;

@@ -73,7 +73,7 @@ module _ (h : ℕ → Bool) (m : ℕ → ℕ) (sp : Space) (va : ℕ) (g : Right
 
 -- TOLD WRITES TO THE POOL
 pub told-in-pool : (h : ℕ → Bool) (m : ℕ → ℕ) (sp : Space) (b : Book) (k : ℕ) → openedOf h m sp ≡ opened.Book b → Every (OfPool sp) (releaseWrites sp b k)
-told-in-pool h m sp b k e = book-in-pool sp (open-shows h m sp b e .fits) _ (release-proper sp b k)
+told-in-pool h m sp b k e = book-in-pool sp (open-shows h m sp b e .names .fits) _ (release-proper sp b k)
 
 -- The window -----------------------------------------------------------------------------------------------------------------------
 
@@ -101,4 +101,4 @@ module _ (s : List ℕ) (sp : Space) where
 
     pub told-in-window : (b : Book) (k : ℕ) → openedOf (holds s (sp .origin)) m sp ≡ opened.Book b
         → Every (λ x. holds s (sp .origin) x ≡ true) (releaseWrites sp b k)
-    told-in-window b k e = fits-held (open-shows (holds s (sp .origin)) m sp b e .fits) _ (told-in-pool (holds s (sp .origin)) m sp b k e)
+    told-in-window b k e = fits-held (open-shows (holds s (sp .origin)) m sp b e .names .fits) _ (told-in-pool (holds s (sp .origin)) m sp b k e)

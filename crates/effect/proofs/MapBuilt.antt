@@ -26,7 +26,8 @@ use Rattle.tables.specs.Clearing.{book-spare}
 use Rattle.tables.specs.Down.{down-start, map-done}
 use Rattle.tables.specs.Operation.{Changed, changed-sound, changed-spare}
 use Rattle.tables.specs.Overlap.{aligned-base}
-use Rattle.pool.specs.Book.{bookPages, bookOf, pageAt}
+use Rattle.pool.specs.Layout.{bookPages}
+use Rattle.pool.specs.Book.{bookOf, pageAt}
 use Rattle.pool.specs.Booked.{settingOf, Booked, Taken, tablesOf}
 use Rattle.pool.specs.declared.Space.{Space}
 use Rattle.pool.proofs.Pages.{adds-up}

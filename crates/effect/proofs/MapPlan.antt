@@ -14,15 +14,12 @@ use Rattle.entry.specs.declared.Entry.the-variants.{Nothing}
 use Rattle.walk.specs.Walk.{indexOf}
 use Rattle.tables.specs.Roles.{Role, entryAt}
 use Rattle.tables.specs.Way.{Comes}
-use Rattle.pool.specs.Book.{bookOf, pageAt, openedOf, listedOf}
+use Rattle.pool.specs.Book.{bookOf, pageAt, listedOf}
 use Rattle.pool.specs.Booked.{settingOf}
 use Rattle.pool.specs.declared.Space.{Space}
 use Rattle.pool.specs.declared.Listed.the-variants as listed
 use Rattle.pool.specs.declared.Opened.the-variants as opened
-use Rattle.pool.proofs.Counts.{InPool, pool-in}
 use Rattle.pool.proofs.Listing.{listed-free}
-use Rattle.pool.proofs.Opening.{opens}
-use Rattle.pool.proofs.Pages.{Owned, built-owned}
 use Rattle.plan.specs.declared.Reason.the-variants.{Size, FrameInPool, NoRoom}
 use Rattle.plan.specs.declared.maps.Asked.{Asked}
 use Rattle.plan.specs.declared.maps.Fresh.{Fresh}
@@ -35,7 +32,7 @@ use Rattle.plan.specs.Map.{fitsOf, shapeOf, meetsOf, noBook, nthOf, freshThree,
 use Rattle.effect.specs.MapDone.{Fitted}
 use Rattle.effect.specs.MapRefused.{OfLevel, Meets, FrameApart}
 use Rattle.effect.specs.Whole.{Whole}
-use Rattle.plan.proofs.Standing.{stands}
+use Rattle.effect.proofs.Wholes.{root-low, owned, book-opens}
 use Rattle.effect.proofs.Trace.{Traced, traced}
 
 -- Sizes --------------------------------------------------------------------------------------------------------------------------
@@ -120,18 +117,6 @@ pub record Planned (h : ℕ → Bool) (sp : Space) (m : ℕ → ℕ) (q : Asked)
   pub supplied : Supplied m sp (p .level - p .target) (p .fresh)
 
 module _ {h : ℕ → Bool} {sp : Space} {m : ℕ → ℕ} {role : ℕ → Role} (w : Whole h sp m role) where
-  pub root-in : InPool sp (sp .root)
-  root-in = pool-in sp (sp .root) (stands h sp (w .stands) .root)
-
-  pub root-small : sp .root < 2 ^ 40
-  root-small = omega (arith, w .small, root-in .before-end)
-
-  pub owned : Owned sp role
-  owned = built-owned h sp m role root-small (w .sound .built)
-
-  opened-book : openedOf h m sp ≡ opened.Book (bookOf m sp)
-  opened-book = opens h m sp (stands h sp (w .stands) .fits) root-in (w .booked .marked) (w .booked .sized) (w .booked .sound)
-
   nth-listed : (need j : ℕ) → need ≤ bookOf m sp .free → nthOf h m sp (bookOf m sp) need j ≡ listed.Page (nth m sp need j)
   unfolding nthOf nth
   nth-listed need j u = go (decLe need j)
@@ -140,7 +125,7 @@ module _ {h : ℕ → Bool} {sp : Space} {m : ℕ → ℕ} {role : ℕ → Role}
       go (yes v) = rw (le-leb need j v)
       go (no v) =
           rw (lt-leb need j (omega arith))
-          (listed-free (w .booked) owned h (λ p a b. w .sound .built .home p (w .sound .built .whole p a b) .held) j (omega arith))
+          (listed-free (w .booked) (owned w) h (λ p a b. w .sound .built .home p (w .sound .built .whole p a b) .held) j (omega arith))
 
   -- enough of them, or too few
   pub supplies : (need : ℕ) → need ≤ bookOf m sp .free → (f : Fresh) × (supplyOf h m sp need ≡ Pages f) × Supplied m sp need f
@@ -159,7 +144,7 @@ module _ {h : ℕ → Bool} {sp : Space} {m : ℕ → ℕ} {role : ℕ → Role}
   )
   supplies (suc n) u = (
     record { need = suc n; a = nth m sp (suc n) 0; b = nth m sp (suc n) 1; c = nth m sp (suc n) 2; book = bookOf m sp },
-    rw (ne-eqb (suc n) 0 (λ e. omega arith), opened-book, le-ltb (bookOf m sp .free) (suc n) u, nth-listed (suc n) 0 u, nth-listed (suc n) 1 u, nth-listed (suc n) 2 u),
+    rw (ne-eqb (suc n) 0 (λ e. omega arith), book-opens w, le-ltb (bookOf m sp .free) (suc n) u, nth-listed (suc n) 0 u, nth-listed (suc n) 1 u, nth-listed (suc n) 2 u),
     record {
       need-is = refl;
       room = u;
@@ -172,7 +157,7 @@ module _ {h : ℕ → Bool} {sp : Space} {m : ℕ → ℕ} {role : ℕ → Role}
 
   pub lacks : (need : ℕ) → bookOf m sp .free < need → supplyOf h m sp need ≡ Lacking NoRoom
   unfolding supplyOf stockOf
-  lacks need u = rw (ne-eqb need 0 (λ e. omega arith), opened-book, lt-ltb (bookOf m sp .free) need u)
+  lacks need u = rw (ne-eqb need 0 (λ e. omega arith), book-opens w, lt-ltb (bookOf m sp .free) need u)
 
   -- The decision ---------------------------------------------------------------------------------------------------------------------
 
@@ -192,7 +177,7 @@ module _ {h : ℕ → Bool} {sp : Space} {m : ℕ → ℕ} {role : ℕ → Role}
       pub base-traced : Traced (settingOf h sp) m (q .base) l (wayOf h m sp (q .base) l)
       base-traced =
           traced (w .sound .built) (w .booked) (q .base) l
-          (omega (arith, f .base-fits, size-small l (q .size) (f .level) (f .size-is) .0)) root-small (inl (omega (arith, f .level)))
+          (omega (arith, f .base-fits, size-small l (q .size) (f .level) (f .size-is) .0)) (root-low w) (inl (omega (arith, f .level)))
 
       -- it stops where nothing is, and there are pages for the tables that are missing
       pub room-decides : (level table : ℕ) → l ≤ level → level < 4 → Comes (settingOf h sp) m (q .base) (suc level) table

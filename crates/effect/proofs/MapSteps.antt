@@ -20,7 +20,8 @@ use Rattle.tables.specs.Roles.{Role, free, table, left, entryAt, Home}
 use Rattle.tables.specs.Way.{comes-left}
 use Rattle.tables.specs.Kept.{zero-bare}
 use Rattle.tables.specs.Down.{Down, down-make, made-zero}
-use Rattle.pool.specs.Book.{bookPages, bookOf, pageAt}
+use Rattle.pool.specs.Layout.{bookPages}
+use Rattle.pool.specs.Book.{bookOf, pageAt}
 use Rattle.pool.specs.Booked.{settingOf, Taken}
 use Rattle.pool.specs.declared.Space.{Space}
 use Rattle.pool.proofs.Counts.{pool-in}
@@ -30,7 +31,7 @@ use Rattle.pool.proofs.Taking.{next-free}
 use Rattle.plan.specs.declared.building.Reached.{Reached}
 use Rattle.plan.specs.Map.{linkOf, nextOf, growOf}
 use Rattle.effect.specs.Whole.{Whole}
-use Rattle.effect.proofs.MapPlan.{owned}
+use Rattle.effect.proofs.Wholes.{owned}
 use Rattle.effect.proofs.Trace.{live-in-pool}
 
 -- the link of a page of the pool names it

@@ -1,24 +1,21 @@
 -- The numbers of the pages that are set aside: what leaves them, and that a page set aside later has a later number.
-use Prim.Native.Nat.{ℕ, _+_, _-_, _/_, _%_, _<_, _≤_}
-use mathlib.Core.List.{List}
-use mathlib.Core.Logic.{_⊎_, inl, inr, _≢_}
+use Prim.Native.Nat.{ℕ, _+_, _-_, _<_, _≤_}
 use mathlib.Core.Path.{_≡_, refl, sym, ap, _∙_, subst}
 use native.Mathlib.Decide.{decLt}
 use native.Mathlib.Omega.{arith}
-use Rattle.word.specs.Writes.{Write, after}
-use Rattle.word.proofs.Writes.{Every, every-map, after-other}
+use Rattle.word.specs.Writes.{after}
 use Rattle.tables.specs.Roles.{Role}
-use Rattle.pool.specs.Book.{bookPages, wordOf, bookOf, pageAt, spotOf, ticketOf}
-use Rattle.pool.specs.Booked.{Booked, Numbered}
+use Rattle.pool.specs.Book.{bookOf, pageAt, ticketOf}
+use Rattle.pool.specs.Booked.{Booked, SameBook, Numbered}
 use Rattle.pool.specs.declared.Space.{Space}
 use Rattle.pool.specs.declared.Book.{Book}
 use Rattle.pool.specs.Changes.{tookWrites, asideWrites, asideBook, releaseWrites}
-use Rattle.pool.proofs.Counts.{spot-in, is-sound}
+use Rattle.pool.proofs.Booked.{same-counts, same-numbered}
+use Rattle.pool.proofs.Counts.{is-sound}
 use Rattle.pool.proofs.Taking.{took-numbered, took-book}
 use Rattle.pool.proofs.SettingAside.{aside-others, aside-book}
 use Rattle.pool.proofs.Releasing.{release-book}
-use Rattle.effect.specs.Numbers.{SameBook, KeepsNumbers}
-use Rattle.pool.proofs.Far.{word-at}
+use Rattle.effect.specs.Numbers.{KeepsNumbers}
 
 pub keeps-self : (sp : Space) (m : ℕ → ℕ) → KeepsNumbers sp m m
 keeps-self sp m = record { numbers = λ p k h. h; tickets = refl; more = omega arith }
@@ -27,28 +24,11 @@ pub keeps-then : {sp : Space} {m m' m'' : ℕ → ℕ} → KeepsNumbers sp m m' 
 keeps-then a b = record { numbers = λ p k h. b .numbers p k (a .numbers p k h); tickets = b .tickets ∙ a .tickets; more = omega (arith, a .more, b .more) }
 
 pub same-keeps : {sp : Space} {m m' : ℕ → ℕ} {role : ℕ → Role} → Booked sp m role → SameBook sp m m' → KeepsNumbers sp m m'
-unfolding pageAt
-same-keeps {sp} {m} {m'} b e = record { numbers = number; tickets = e 5 (omega arith); more = omega (arith, e 4 (omega arith)) }
-  where
-    page : (k : ℕ) → k < bookOf m sp .free + bookOf m sp .aside → pageAt m' sp k ≡ pageAt m sp k
-    page k u =
-        let s = b .sound in
-        rw (e 2 (omega arith))
-        (e (8 + spotOf (sp .pages) (m (wordOf sp 2)) k) (omega (arith, spot-in (sp .pages) (m (wordOf sp 2)) k (s .head-in) (omega (arith, s .room)))))
-
-    number : (p k : ℕ) → Numbered m sp p k → Numbered m' sp p k
-    number p k h =
-        rw (e 3 (omega arith), e 4 (omega arith), e 5 (omega arith))
-        (h .0, h .1, page (bookOf m sp .free + h .0) (omega (arith, h .1)) ∙ h .2, h .3)
-
--- writes elsewhere leave the book
-pub same-elsewhere : (sp : Space) (m : ℕ → ℕ) (xs : List Write) → Every (λ q. (q < sp .first) ⊎ (sp .first + bookPages (sp .pages) ≤ q)) xs → SameBook sp m (after m xs)
-unfolding bookPages
-same-elsewhere sp m xs h k u = rw word-at at (after-other m xs (sp .first + k / 512) (k % 512) (omega arith) (every-map (λ q. apart q) xs h))
-  where
-    apart : (q : ℕ) → (q < sp .first) ⊎ (sp .first + bookPages (sp .pages) ≤ q) → q ≢ sp .first + k / 512
-    apart q (inl v) e = omega arith
-    apart q (inr v) e = omega arith
+same-keeps b e = record {
+  numbers = same-numbered e b;
+  tickets = ap (λ (y : Book). y .tickets) (same-counts e);
+  more = omega (arith, ap (λ (y : Book). y .aside) (same-counts e));
+}
 
 -- a number has one page
 pub one-page : (sp : Space) (m : ℕ → ℕ) (p q k : ℕ) → Numbered m sp p k → Numbered m sp q k → p ≡ q

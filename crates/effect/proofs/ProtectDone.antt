@@ -23,7 +23,7 @@ use Rattle.tables.specs.Operation.{Changed, changed-sound}
 use Rattle.tables.specs.Down.{protect-done}
 use Rattle.pool.specs.Booked.{settingOf}
 use Rattle.pool.specs.declared.Space.{Space}
-use Rattle.pool.proofs.Booked.{booked-elsewhere}
+use Rattle.pool.proofs.Booked.{Beside, book-beside, numbered-beside, booked-beside}
 use Rattle.pool.proofs.Counts.{InPool}
 use Rattle.plan.specs.declared.finding.Spot.{Spot}
 use Rattle.plan.specs.declared.finding.Sought.{Sought}
@@ -36,7 +36,7 @@ use Rattle.effect.specs.ProtectDone.{ProtectDone}
 use Rattle.effect.specs.Whole.{Whole}
 use Rattle.plan.proofs.Found.{found-at}
 use Rattle.effect.proofs.Located.{Located, located}
-use Rattle.effect.proofs.Wholes.{Beside, live-in, in-beside, in-of-pool, book-beside, numbered-beside}
+use Rattle.effect.proofs.Wholes.{live-in, in-beside, in-of-pool}
 
 -- a word with other rights is a word
 pub with-rights-lt : (w : ℕ) (r : Rights) → withRights w r < 2 ^ 64
@@ -66,7 +66,7 @@ module _ {h : ℕ → Bool} {sp : Space} {m : ℕ → ℕ} {role : ℕ → Role}
     had = k .rights;
     before = k .means;
     changed = done;
-    whole = record { stands = w .stands; small = w .small; sound = changed-sound done; booked = booked-elsewhere xs beside (w .booked) };
+    whole = record { stands = w .stands; small = w .small; sound = changed-sound done; booked = booked-beside sp m xs beside (w .booked) };
     kept = rw (← k .traced .word) (with-rights-kept (s .way .word) r);
     marks = rw (← k .traced .word) (with-rights-marks (s .way .word) r);
     proper = every-one q i v (in-of-pool here) (index-lt l va) (with-rights-lt (s .way .word) r);

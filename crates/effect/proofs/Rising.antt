@@ -21,7 +21,7 @@ use Rattle.pool.specs.Booked.{settingOf, Booked, Numbered}
 use Rattle.pool.specs.Changes.{asideWrites, asideBook}
 use Rattle.pool.specs.declared.Space.{Space}
 use Rattle.pool.specs.declared.Book.{Book}
-use Rattle.pool.proofs.Booked.{booked-elsewhere}
+use Rattle.pool.proofs.Booked.{Beside, book-beside, numbered-beside, booked-beside}
 use Rattle.pool.proofs.Counts.{InPool, pool-in, is-sound}
 use Rattle.pool.proofs.Pages.{built-owned}
 use Rattle.pool.proofs.Proper.{OfBook, aside-proper}
@@ -29,7 +29,7 @@ use Rattle.pool.proofs.SettingAside.{aside-book, aside-booked, aside-numbered, 
 use Rattle.effect.specs.OfPool.{OfPool}
 use Rattle.effect.specs.UnmapDone.{asideMore, SetAside}
 use Rattle.effect.proofs.Trace.{Names, live-in-pool}
-use Rattle.effect.proofs.Wholes.{Beside, in-beside, in-of-pool, book-of-pool, book-spares, book-beside, numbered-beside}
+use Rattle.effect.proofs.Wholes.{in-beside, in-of-pool, book-of-pool, book-spares}
 
 -- a book with more pages set aside: none, one, and one more
 abbrev withAside : Book → ℕ → Book
@@ -90,7 +90,7 @@ module _ {h : ℕ → Bool} {sp : Space} {m₀ : ℕ → ℕ} {role₀ : ℕ →
 
   middle : Booked sp unlinked-memory role
   unfolding unlinked-memory
-  middle = booked-elsewhere (write r i 0 ∷ []) beside (d .booked)
+  middle = booked-beside sp m (write r i 0 ∷ []) beside (d .booked)
 
   same-book : bookOf unlinked-memory sp ≡ bookOf m sp
   unfolding unlinked-memory

@@ -16,7 +16,8 @@ use Rattle.walk.specs.Walk.{indexOf, entryOf}
 use Rattle.tables.specs.Roles.{Setting, Role, book, left, entryAt, Built}
 use Rattle.tables.specs.Way.{Comes, onto, comes-left, onto-role}
 use Rattle.tables.specs.Meaning.{comes-root}
-use Rattle.pool.specs.Book.{bookPages, inPool}
+use Rattle.pool.specs.Layout.{bookPages}
+use Rattle.pool.specs.Book.{inPool}
 use Rattle.pool.specs.Booked.{settingOf, Booked}
 use Rattle.pool.specs.declared.Space.{Space}
 use Rattle.pool.proofs.Counts.{in-pool}

@@ -12,7 +12,8 @@ use Rattle.word.proofs.Writes.{Every}
 use Rattle.tables.specs.Roles.{Role}
 use Rattle.walk.specs.declared.Found.the-variants as found
 use Rattle.tables.specs.Operation.{Changed, changed-sound}
-use Rattle.pool.specs.Book.{bookPages, bookOf, ticketOf}
+use Rattle.pool.specs.Layout.{bookPages}
+use Rattle.pool.specs.Book.{bookOf, ticketOf}
 use Rattle.pool.specs.Booked.{settingOf, Numbered, tablesOf}
 use Rattle.pool.specs.Stands.{takesOf}
 use Rattle.pool.specs.declared.Space.{Space}

@@ -1,13 +1,9 @@
 -- The numbers of the pages that are set aside, across an operation.
-use Prim.Native.Nat.{ℕ, _+_, _<_, _≤_}
+use Prim.Native.Nat.{ℕ, _≤_}
 use mathlib.Core.Path.{_≡_}
-use Rattle.pool.specs.Book.{wordOf, bookOf}
+use Rattle.pool.specs.Book.{bookOf}
 use Rattle.pool.specs.Booked.{Numbered}
 use Rattle.pool.specs.declared.Space.{Space}
-
--- the two memories have the same book
-abbrev pub SameBook : Space → (m m' : ℕ → ℕ) → Type 0
-SameBook sp m m' = (k : ℕ) → k < 8 + sp .pages → m' (wordOf sp k) ≡ m (wordOf sp k)
 
 -- every page that is set aside keeps its number, none is released, and there are no fewer
 pub record KeepsNumbers (sp : Space) (m m' : ℕ → ℕ) : Type 0 where

@@ -10,7 +10,7 @@ use Rattle.entry.specs.Entry.{sizeOf}
 use Rattle.entry.specs.Words.{madePage}
 use Rattle.entry.specs.declared.Made.the-variants.{Word}
 use Rattle.walk.specs.Walk.{indexOf, entryOf}
-use Rattle.pool.specs.Stands.{standsOf}
+use Rattle.pool.specs.Book.{namesOf}
 use Rattle.pool.specs.declared.Space.{Space}
 use Rattle.pool.specs.declared.Fit.the-variants.{Fits}
 use Rattle.plan.specs.declared.Reason.the-variants.{Overlap}
@@ -29,7 +29,7 @@ use Rattle.plan.specs.AtOnce.{leadOf, Comes, onceOf, onceWrites, Found, 
 use Rattle.plan.proofs.Leads.{lead-page, lead-nothing, lead-table}
 use Rattle.plan.proofs.Placings.{place-here}
 use Rattle.plan.proofs.Shapes.{shape-fits, fits-level, shaped}
-use Rattle.plan.proofs.Standing.{stands}
+use Rattle.pool.proofs.Opening.{names-shows}
 
 -- the way came to the table in page t, whose entry was looked at, and set where nothing was there
 module _ (left rest : ℕ) (s after : List ℕ) (sp : Space) (n va x t : ℕ)
@@ -54,7 +54,7 @@ module _ (left rest : ℕ) (s after : List ℕ) (sp : Space) (n va x t : ℕ)
 
 module _ (h : ℕ → Bool) (m : ℕ → ℕ) (sp : Space) (q : Asked) (n : ℕ) where
   -- where all but the way was found right, the way decides
-  by-the-way : shapeOf (q .size) (q .base) (q .frame) ≡ Level n → standsOf h sp ≡ Fits → meetsOf sp (q .frame) (q .size) ≡ false
+  by-the-way : shapeOf (q .size) (q .base) (q .frame) ≡ Level n → namesOf h m sp ≡ Fits → meetsOf sp (q .frame) (q .size) ≡ false
       → decideOf h m sp q ≡ stoppedOf h m sp q n (wayOf h m sp (q .base) n)
   unfolding decideOf shapedOf standingOf fittingOf
   by-the-way a b c = rw (a, b, c)
@@ -82,11 +82,11 @@ module _ (left rest : ℕ) (s after : List ℕ) (sp : Space) (q : Asked) (n x : 
   at-once d once.Unsaid e f = f
 
   -- the tests in the order of the code: size, alignment and range, the pool, whether the frame meets it
-  pub found-at-once : (k size : ℕ) (met : Bool) → n ≤ 2 → q .size ≡ size → size ≡ sizeOf n → fitsOf n size (q .base) (q .frame) ≡ Level k → standsOf H sp ≡ Fits
+  pub found-at-once : (k size : ℕ) (met : Bool) → n ≤ 2 → q .size ≡ size → size ≡ sizeOf n → fitsOf n size (q .base) (q .frame) ≡ Level k → namesOf H M sp ≡ Fits
       → (q .frame + size ≤ 2 ^ 52 → sp .pages ≤ 2 ^ 32 → met ≡ meetsOf sp (q .frame) size) → met ≡ false
       → (o : Once) → Found left rest s after sp n (q .base) x o → AtOnce left rest s after sp (decideOf H M sp q) o
   found-at-once k size met low asked sized fit st m free o =
       let shape : shapeOf (q .size) (q .base) (q .frame) ≡ Level n = shape-fits n (q .size) (q .base) (q .frame) low (asked ∙ sized) ∙ (rw asked fit ∙ ap Level (fits-level n k size (q .base) (q .frame) fit)) in
       let ends : q .frame + size ≤ 2 ^ 52 = rw (← asked) (shaped (q .base) (q .frame) n (q .size) shape .frame-fits) in
-      let apart : meetsOf sp (q .frame) (q .size) ≡ false = rw asked (sym (m ends (stands H sp st .fits .small)) ∙ free) in
+      let apart : meetsOf sp (q .frame) (q .size) ≡ false = rw asked (sym (m ends (names-shows H M sp st .fits .small)) ∙ free) in
       at-once (decideOf H M sp q) o (by-the-way H M sp q n shape st apart)

@@ -10,7 +10,7 @@ use Rattle.entry.specs.declared.Rights.{Rights}
 use Rattle.entry.specs.declared.Entry.{Entry}
 use Rattle.entry.specs.declared.Entry.the-variants as entry
 use Rattle.walk.specs.Walk.{indexOf}
-use Rattle.pool.specs.Stands.{standsOf}
+use Rattle.pool.specs.Book.{namesOf}
 use Rattle.pool.specs.declared.Space.{Space}
 use Rattle.pool.specs.declared.Fit.{Fit}
 use Rattle.pool.specs.declared.Fit.the-variants as fit
@@ -25,7 +25,7 @@ use Rattle.plan.specs.Descend.{wayOf}
 use Rattle.plan.specs.Find.{startsOf, spotOf, becauseOf, stoppedOf, soughtOf, foundOf}
 
 pub record FoundAt (h : ℕ → Bool) (m : ℕ → ℕ) (sp : Space) (va : ℕ) (s : Spot) : Type 0 where
-  pub stands : standsOf h sp ≡ fit.Fits
+  pub names : namesOf h m sp ≡ fit.Fits
   pub address : va < 2 ^ 48
   pub way : wayOf h m sp va 4 ≡ s .way
   pub low : s .way .level < 4
@@ -40,7 +40,7 @@ module _ (h : ℕ → Bool) (m : ℕ → ℕ) (sp : Space) (va : ℕ) (s : Spot)
   clash : _≡_ {A = ℕ} 0 1 → FoundAt h m sp va s
   clash z = absurd (omega arith)
 
-  module _ (w : Way) (st : standsOf h sp ≡ fit.Fits) (u : va < 2 ^ 48) (ew : wayOf h m sp va 4 ≡ w) where
+  module _ (w : Way) (st : namesOf h m sp ≡ fit.Fits) (u : va < 2 ^ 48) (ew : wayOf h m sp va 4 ≡ w) where
     spotted : w .level < 4 → w .why ≡ why.Page → va % sizeOf (w .level) ≡ 0 → (x : Entry) → says (w .level) (w .word) ≡ x → spotOf va w x ≡ Found s
         → FoundAt h m sp va s
     unfolding spotOf
@@ -48,7 +48,7 @@ module _ (h : ℕ → Bool) (m : ℕ → ℕ) (sp : Space) (va : ℕ) (s : Spot)
     spotted l y a (entry.Table t g) ex k = clash cc
     spotted l y a (entry.Page f g) ex k =
         let same : record { way = w; index = indexOf (w .level) va; frame = f; size = sizeOf (w .level) } ≡ s = cc in
-        subst (FoundAt h m sp va) same (record { stands = st; address = u; way = ew; low = l; page = y; starts = a; rights = g; entry = ex; size = refl; index = refl })
+        subst (FoundAt h m sp va) same (record { names = st; address = u; way = ew; low = l; page = y; starts = a; rights = g; entry = ex; size = refl; index = refl })
 
     starting : w .level < 4 → w .why ≡ why.Page → (b : Bool) → startsOf (w .level) va ≡ b
         → cond b (spotOf va w (says (w .level) (w .word))) (Refused NothingStarts) ≡ Found s → FoundAt h m sp va s
@@ -66,17 +66,17 @@ module _ (h : ℕ → Bool) (m : ℕ → ℕ) (sp : Space) (va : ℕ) (s : Spot)
     stopping true e k = because (omega (arith, leb-true (w .level) 3 e)) (w .why) refl k
     stopping false e k = clash cc
 
-  sought : (b : Bool) → standsOf h sp ≡ fit.Fits → ltb va (2 ^ 48) ≡ b → cond b (stoppedOf va (wayOf h m sp va 4)) (Refused NothingStarts) ≡ Found s
+  sought : (b : Bool) → namesOf h m sp ≡ fit.Fits → ltb va (2 ^ 48) ≡ b → cond b (stoppedOf va (wayOf h m sp va 4)) (Refused NothingStarts) ≡ Found s
       → FoundAt h m sp va s
   unfolding stoppedOf
   sought true st e k = let w : Way = wayOf h m sp va 4 in stopping w st (ltb-true va (2 ^ 48) e) refl (leb (w .level) 3) refl k
   sought false st e k = clash cc
 
-  standing : (x : Fit) → standsOf h sp ≡ x → soughtOf h m sp va x ≡ Found s → FoundAt h m sp va s
+  standing : (x : Fit) → namesOf h m sp ≡ x → soughtOf h m sp va x ≡ Found s → FoundAt h m sp va s
   unfolding soughtOf
   standing fit.Fits st k = sought (ltb va (2 ^ 48)) st refl k
   standing (fit.Refused r) st k = clash cc
 
   pub found-at : foundOf h m sp va ≡ Found s → FoundAt h m sp va s
   unfolding foundOf
-  found-at e = standing (standsOf h sp) refl e
+  found-at e = standing (namesOf h m sp) refl e

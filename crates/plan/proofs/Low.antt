@@ -1,24 +1,22 @@
 -- Of any bytes: a plan's levels are levels, and its ticket is a number of 64 bits.
-use Prim.Native.Nat.{ℕ, zero, suc, _+_, _-_, _*_, _/_, _^_, _<_, _≤_}
-use mathlib.Core.Bool.{Bool, true, false, cond, not, _&&_}
+use Prim.Native.Nat.{ℕ, _+_, _-_, _^_, _<_, _≤_}
+use mathlib.Core.Bool.{Bool, true, false, cond}
 use mathlib.Core.List.{List}
-use mathlib.Core.Path.{_≡_, refl, sym, ap, _∙_, subst}
+use mathlib.Core.Path.{_≡_, refl, subst}
 use native.Mathlib.Omega.{arith}
-use borrow.Author.Tests.{leb-true, leb-false, eqb-true, ltb-true, ltb-false, lt-ltb}
+use borrow.Author.Tests.{leb-false, lt-ltb}
 use lib.Dec.{leb, ltb, eqb}
 use Rattle.word.specs.Memory.{holds}
 use Rattle.word.specs.Scan.{besidesOf}
 use Rattle.word.proofs.Memory.{held}
 use Rattle.word.proofs.Tests.{and-both}
-use Rattle.entry.specs.Entry.{says}
 use Rattle.entry.specs.Words.{madePage}
-use Rattle.entry.specs.declared.Entry.{Entry}
 use Rattle.entry.specs.declared.Entry.the-variants as entry
 use Rattle.entry.specs.declared.Made.{Made}
 use Rattle.entry.specs.declared.Made.the-variants as made
-use Rattle.walk.specs.Walk.{entryOf, indexOf}
-use Rattle.pool.specs.Book.{inPool, Sound, soundOf, ticketOf, ticketIn, openedOf, wordOf, spotOf, usableOf, namedOf, listedOf}
-use Rattle.pool.specs.Stands.{standsOf, takesOf}
+use Rattle.walk.specs.Walk.{indexOf}
+use Rattle.pool.specs.Book.{namesOf, soundOf, ticketOf, ticketIn, openedOf, listedOf}
+use Rattle.pool.specs.Stands.{takesOf}
 use Rattle.pool.specs.Changes.{asideBook}
 use Rattle.pool.specs.declared.Space.{Space}
 use Rattle.pool.specs.declared.Book.{Book}
@@ -28,7 +26,8 @@ use Rattle.pool.specs.declared.Opened.{Opened}
 use Rattle.pool.specs.declared.Opened.the-variants as opened
 use Rattle.pool.specs.declared.Listed.{Listed}
 use Rattle.pool.specs.declared.Listed.the-variants as listed
-use Rattle.pool.proofs.Counts.{sound-is, pool-in}
+use Rattle.pool.proofs.Counts.{sound-is}
+use Rattle.pool.proofs.Listing.{listed-usable}
 use Rattle.pool.proofs.Opening as opening
 use Rattle.pool.proofs.Opening.{open-shows}
 use Rattle.pool.specs.declared.Reason.the-variants.{BadBook}
@@ -61,29 +60,13 @@ use Rattle.plan.proofs.Ways.{way-low}
 -- a page of the pool has such a number, where the pool lies in the window
 module _ (h : ℕ → Bool) (m : ℕ → ℕ) (sp : Space) (small : (x : ℕ) → h x ≡ true → x < 2 ^ 40) where
   module _ (end : sp .first + sp .pages ≤ 2 ^ 40) where
-    usable-low : (x y : ℕ) → usableOf sp x ≡ listed.Page y → y < 2 ^ 40
-    unfolding usableOf
-    usable-low x y e = go (not (eqb x (sp .root)) && inPool sp x) refl e
-      where
-        go : (t : Bool) → (not (eqb x (sp .root)) && inPool sp x) ≡ t → cond t (listed.Page x) listed.Bad ≡ listed.Page y → y < 2 ^ 40
-        go true f k = let same : x ≡ y = cc in omega (arith, same, pool-in sp x (and-both (not (eqb x (sp .root))) (inPool sp x) f .1) .before-end)
-        go false f k = let z : _≡_ {A = ℕ} 0 1 = cc in absurd (omega arith)
-
-    listed-low : (t : Bool) (x y : ℕ) → cond t (usableOf sp x) listed.Bad ≡ listed.Page y → y < 2 ^ 40
-    listed-low true x y e = usable-low x y e
-    listed-low false x y e = let z : _≡_ {A = ℕ} 0 1 = cc in absurd (omega arith)
-
     nth-low : (b : Book) (need j y : ℕ) → map.nthOf h m sp b need j ≡ listed.Page y → y < 2 ^ 40
-    unfolding map.nthOf listedOf namedOf
-    nth-low b need j y e = go (leb need j) (ltb j (b .free) && soundOf (sp .pages) b) e
+    unfolding map.nthOf
+    nth-low b need j y e = go (leb need j) e
       where
-        k : ℕ
-        k = 8 + spotOf (sp .pages) (b .head) j
-
-        go : (t u : Bool) → cond t (listed.Page 0) (cond u (cond (h (sp .first + k / 512)) (usableOf sp (m (wordOf sp k))) listed.Bad) listed.Bad) ≡ listed.Page y → y < 2 ^ 40
-        go true u f = let same : 0 ≡ y = cc in omega (arith, same)
-        go false true f = listed-low (h (sp .first + k / 512)) (m (wordOf sp k)) y f
-        go false false f = let z : _≡_ {A = ℕ} 0 1 = cc in absurd (omega arith)
+        go : (t : Bool) → cond t (listed.Page 0) (listedOf h m sp b j) ≡ listed.Page y → y < 2 ^ 40
+        go true f = let same : 0 ≡ y = cc in omega (arith, same)
+        go false f = omega (arith, listed-usable h m sp b j y f .in-the-pool .before-end)
 
     fresh-low : (b : Book) (need : ℕ) (f : Fresh) (x y z : Listed) → ((n : ℕ) → x ≡ listed.Page n → n < 2 ^ 40) → ((n : ℕ) → y ≡ listed.Page n → n < 2 ^ 40)
         → ((n : ℕ) → z ≡ listed.Page n → n < 2 ^ 40) → map.freshThree b need x y z ≡ supply.Pages f → Low f
@@ -101,7 +84,7 @@ module _ (h : ℕ → Bool) (m : ℕ → ℕ) (sp : Space) (small : (x : ℕ) �
   stock-low need f (opened.Book b) o e = go (ltb (b .free) need) e
     where
       fits : opening.Fitting h (sp .first) (sp .pages)
-      fits = open-shows h m sp b o .fits
+      fits = open-shows h m sp b o .names .fits
 
       end : sp .first + sp .pages ≤ 2 ^ 40
       end = omega (arith, small (sp .first + sp .pages - 1) (fits .upto), fits .enough)
@@ -155,7 +138,7 @@ module _ (h : ℕ → Bool) (m : ℕ → ℕ) (sp : Space) (small : (x : ℕ) �
     shaped-low : (x : Shape) → map.shapedOf h m sp q x ≡ map.Go p → Buildable p
     unfolding map.shapedOf map.standingOf
     shaped-low (shape.Bad r) e = none-built cc
-    shaped-low (shape.Level n) e = fitting-low n (standsOf h sp) e
+    shaped-low (shape.Level n) e = fitting-low n (namesOf h m sp) e
 
     pub map-low : map.decideOf h m sp q ≡ map.Go p → Buildable p
     unfolding map.decideOf

@@ -15,7 +15,8 @@ use Rattle.entry.specs.Entry.{says}
 use Rattle.walk.specs.Walk.{indexOf}
 use Rattle.walk.specs.Walk as walk
 use Rattle.walk.proofs.Digits.{index-lt}
-use Rattle.pool.specs.Book.{bookPages, inPool}
+use Rattle.pool.specs.Layout.{bookPages}
+use Rattle.pool.specs.Book.{inPool}
 use Rattle.pool.specs.Stands.{standsOf, entryOf, entryWrites}
 use Rattle.pool.specs.declared.Space.{Space}
 use Rattle.pool.specs.declared.Fit.the-variants.{Fits}

@@ -3,8 +3,8 @@ use Prim.Native.Nat.{ℕ}
 use mathlib.Core.Bool.{Bool, true, false, cond}
 use mathlib.Core.Path.{_≡_, refl}
 use native.Mathlib.Omega.{arith}
-use Rattle.pool.specs.Book.{inPool, roomOf}
-use Rattle.pool.specs.Stands.{standsOf, standsIn}
+use Rattle.pool.specs.Book.{inPool, roomOf, rootedIn}
+use Rattle.pool.specs.Stands.{standsOf}
 use Rattle.pool.specs.declared.Space.{Space}
 use Rattle.pool.specs.declared.Fit.{Fit}
 use Rattle.pool.specs.declared.Fit.the-variants.{Fits, Refused}
@@ -16,10 +16,10 @@ pub record Stands (h : ℕ → Bool) (sp : Space) : Type 0 where
   pub root : inPool sp (sp .root) ≡ true
 
 pub stands : (h : ℕ → Bool) (sp : Space) → standsOf h sp ≡ Fits → Stands h sp
-unfolding standsOf standsIn
+unfolding standsOf rootedIn
 stands h sp e = go (roomOf h (sp .first) (sp .pages)) (inPool sp (sp .root)) refl refl e
   where
-    go : (x : Fit) (b : Bool) → roomOf h (sp .first) (sp .pages) ≡ x → inPool sp (sp .root) ≡ b → standsIn sp x ≡ Fits → Stands h sp
+    go : (x : Fit) (b : Bool) → roomOf h (sp .first) (sp .pages) ≡ x → inPool sp (sp .root) ≡ b → rootedIn sp x ≡ Fits → Stands h sp
     go Fits true ex eb k = record { fits = fitting h (sp .first) (sp .pages) ex; root = eb }
     go Fits false ex eb k = let z : _≡_ {A = ℕ} 0 1 = cc eb in absurd (omega arith)
     go (Refused r) b ex eb k = let z : _≡_ {A = ℕ} 0 1 = cc in absurd (omega arith)

@@ -6,7 +6,7 @@ use Rattle.entry.specs.Entry.{sizeOf, says}
 use Rattle.entry.specs.declared.Entry.{Entry}
 use Rattle.entry.specs.declared.Entry.the-variants as entry
 use Rattle.walk.specs.Walk.{indexOf}
-use Rattle.pool.specs.Stands.{standsOf}
+use Rattle.pool.specs.Book.{namesOf}
 use Rattle.pool.specs.declared.Space.{Space}
 use Rattle.pool.specs.declared.Fit.{Fit}
 use Rattle.pool.specs.declared.Fit.the-variants as fit
@@ -45,4 +45,4 @@ soughtOf h m sp va (fit.Refused r) = Refused (Pool r)
 
 -- WHAT IS FOUND
 unfoldable pub foundOf : (ℕ → Bool) → (ℕ → ℕ) → Space → ℕ → Sought
-foundOf h m sp va = soughtOf h m sp va (standsOf h sp)
+foundOf h m sp va = soughtOf h m sp va (namesOf h m sp)

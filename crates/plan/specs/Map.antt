@@ -8,8 +8,7 @@ use Rattle.entry.specs.Words.{tableWord, madePage}
 use Rattle.entry.specs.declared.Made.{Made}
 use Rattle.entry.specs.declared.Made.the-variants as made
 use Rattle.walk.specs.Walk.{indexOf}
-use Rattle.pool.specs.Stands.{standsOf}
-use Rattle.pool.specs.Book.{openedOf, listedOf}
+use Rattle.pool.specs.Book.{namesOf, openedOf, listedOf}
 use Rattle.pool.specs.Changes.{tookWrites}
 use Rattle.pool.specs.declared.Space.{Space}
 use Rattle.pool.specs.declared.Book.{Book}
@@ -121,7 +120,7 @@ fittingOf h m sp q target fit.Fits =
 fittingOf h m sp q target (fit.Refused r) = Refused (Pool r)
 
 unfoldable pub standingOf : (ℕ → Bool) → (ℕ → ℕ) → Space → Asked → ℕ → Placed
-standingOf h m sp q target = fittingOf h m sp q target (standsOf h sp)
+standingOf h m sp q target = fittingOf h m sp q target (namesOf h m sp)
 
 unfoldable pub shapedOf : (ℕ → Bool) → (ℕ → ℕ) → Space → Asked → Shape → Placed
 shapedOf h m sp q (Level n) = standingOf h m sp q n

@@ -143,7 +143,7 @@ pub fn at_once(mem: &mut [u8], left: &mut u64, space: Space, q: Asked, n: u64) -
     let Made::Word(x) = m else {
         return Once::Unsaid;
     };
-    let f = pool::stands(mem, space);
+    let f = pool::names(mem, space);
     let Fit::Fits = f else {
         return Once::Unsaid;
     };

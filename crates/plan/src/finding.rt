@@ -65,7 +65,7 @@ fn stopped(va: u64, t: Arrival) -> Sought
 pub fn find(mem: &[u8], space: Space, va: u64) -> Sought
     ensures { λ r. ⌜ r ≡ the.foundOf (holds (now (mem .entry)) (space .origin)) (memory (now (mem .entry)) (space .origin)) space va ⌝ }
 {
-    let fit = pool::stands(mem, space);
+    let fit = pool::names(mem, space);
     match fit {
         Fit::Refused(r) => Sought::Refused(Reason::Pool(r)),
         Fit::Fits => {

@@ -276,7 +276,7 @@ fn standing(mem: &[u8], space: Space, q: Asked, target: u64, x: u64) -> Placing
     requires { ⌜ made.madePage target (q .frame) (q .rights) ≡ Word x ⌝ }
     ensures { λ r. ⌜ (the.Sized q → r ≡ the.placingOf (the.standingOf (holds (now (mem .entry)) (space .origin)) (memory (now (mem .entry)) (space .origin)) space q target)) ⌝ }
 {
-    let fit = pool::stands(mem, space);
+    let fit = pool::names(mem, space);
     match fit {
         Fit::Refused(r) => Placing::Refused(Reason::Pool(r)),
         Fit::Fits => {

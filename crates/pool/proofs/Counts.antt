@@ -1,5 +1,5 @@
 -- What sound counts are, as numbers; and the ring.
-use Prim.Native.Nat.{ℕ, _+_, _-_, _/_, _^_, _<_, _≤_}
+use Prim.Native.Nat.{ℕ, _+_, _-_, _^_, _<_, _≤_}
 use mathlib.Core.Bool.{Bool, true, false}
 use mathlib.Core.Path.{_≡_, refl, sym, _∙_}
 use native.Mathlib.Decide.{decLt}
@@ -9,7 +9,8 @@ use lib.Dec.{leb}
 use Rattle.word.proofs.Tests.{and-both}
 use Rattle.pool.specs.declared.Book.{Book}
 use Rattle.pool.specs.declared.Space.{Space}
-use Rattle.pool.specs.Book.{bookPages, inPool, soundOf, Sound, spotOf}
+use Rattle.pool.specs.Layout.{bookPages}
+use Rattle.pool.specs.Book.{inPool, soundOf, Sound, spotOf}
 
 pub sound-is : (pages : ℕ) (b : Book) → soundOf pages b ≡ true → Sound pages b
 unfolding soundOf
@@ -96,8 +97,3 @@ spot-once pages head j k h u v e = go (decLt j (pages - head)) (decLt k (pages -
     go (yes a) (no b) = omega (arith, e, spot-ahead pages head j a, spot-around pages head k (omega arith))
     go (no a) (yes b) = omega (arith, e, spot-around pages head j (omega arith), spot-ahead pages head k b)
     go (no a) (no b) = omega (arith, e, spot-around pages head j (omega arith), spot-around pages head k (omega arith))
-
--- a slot's word lies in a page of the book
-pub slot-page : (pages j : ℕ) → j < pages → (8 + j) / 512 < bookPages pages
-unfolding bookPages
-slot-page pages j u = omega arith

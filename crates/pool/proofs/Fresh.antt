@@ -1,159 +1,158 @@
 -- A NEW POOL: what `create` writes makes a true book, an empty root, and every other page free.
-use Prim.Native.Nat.{ℕ, zero, suc, _+_, _-_, _/_, _%_, _<_, _≤_}
-use mathlib.Core.List.{[], _∷_, _++_}
-use mathlib.Core.Logic.{_≢_}
+use Prim.Native.Nat.{ℕ, _+_, _-_, _*_, _/_, _%_, _<_, _≤_}
+use mathlib.Core.List.{List, [], _∷_, _++_}
+use mathlib.Core.Logic.{inl, inr, _≢_}
 use mathlib.Core.Path.{_≡_, ap, _∙_}
-use native.Mathlib.Decide.{ℕ-discrete}
-use native.Mathlib.Nat.{add-zero}
 use native.Mathlib.Omega.{arith}
-use Rattle.word.specs.Memory.{set, at}
+use borrow.Author.Tests.{ne-eqb}
+use Rattle.word.specs.Memory.{at}
 use Rattle.word.specs.Writes.{after, zeros}
 use Rattle.word.proofs.Writes.{every-map, every-zeros, after-append, after-other, after-zeros}
-use Rattle.tables.specs.Roles.{free, aside, Zero}
+use Rattle.tables.specs.Roles.{Zero}
 use Rattle.pool.specs.declared.Space.{Space}
 use Rattle.pool.specs.declared.Book.{Book}
-use Rattle.pool.specs.Book.{bookPages, wordOf, mark, bookOf, spotOf, pageAt}
+use Rattle.pool.specs.Layout.{markAt, pagesAt, rootAt, ticketsAt, freeAt, asideAt, headAt, headerWords, slotAt, countAt, bookWords}
+use Rattle.pool.specs.Book.{wordOf, mark, bookOf, spotOf, pageAt}
 use Rattle.pool.specs.Changes.{put}
-use Rattle.pool.specs.Create.{fills, counts, newFree, layOut, Roomy}
+use Rattle.pool.specs.Create.{fills, blanks, unmarks, bared, slots, header, newFree, layOut, Roomy}
 use Rattle.pool.specs.Booked.{Lists, Booked, newRole}
 use Rattle.pool.proofs.Far.{word-at}
 use Rattle.pool.proofs.Counts.{spot-ahead}
-use Rattle.pool.proofs.Booked.{after-put, word-same, word-other, made}
+use Rattle.pool.proofs.Words.{word-page, header-word, slot-word, puts, becomes, puts-word}
+use Rattle.pool.proofs.Rows.{put-same, put-other, row-word, row-other}
+use Rattle.pool.proofs.Booked.{booked-by}
 use Rattle.pool.proofs.Proper.{mark-proper}
 use Rattle.pool.proofs.NewRoles.{New, new-book, new-free, book-lies, free-lies, never-aside}
 
--- Words after a list of writes to the book -------------------------------------------------------------------------------------
-
--- the last of them
-last-same : (m : ℕ → ℕ) (sp : Space) (k w : ℕ) → after m (put sp k w ∷ []) (wordOf sp k) ≡ w
-unfolding after
-last-same m sp k w = ap (λ (f : ℕ → ℕ). f (wordOf sp k)) (after-put m sp k w []) ∙ word-same m sp k w
-
-last-other : (m : ℕ → ℕ) (sp : Space) (k w j : ℕ) → k ≢ j → after m (put sp k w ∷ []) (wordOf sp j) ≡ m (wordOf sp j)
-unfolding after
-last-other m sp k w j d = ap (λ (f : ℕ → ℕ). f (wordOf sp j)) (after-put m sp k w []) ∙ word-other m sp k w j d
-
--- n slots filled
-fills-slot : (m : ℕ → ℕ) (sp : Space) (from n j : ℕ) → j < n → after m (fills sp from n) (wordOf sp (8 + j)) ≡ from + j
-unfolding fills
-fills-slot m sp from zero j u = absurd (omega arith)
-fills-slot m sp from (suc n) j u =
-    ap (λ (f : ℕ → ℕ). f (wordOf sp (8 + j))) (after-append m (fills sp from n) (put sp (8 + n) (from + n) ∷ []))
-    ∙ go (ℕ-discrete n j) (fills-slot m sp from n j)
-  where
-    go : Dec (n ≡ j) → (j < n → after m (fills sp from n) (wordOf sp (8 + j)) ≡ from + j)
-        → after (after m (fills sp from n)) (put sp (8 + n) (from + n) ∷ []) (wordOf sp (8 + j)) ≡ from + j
-    go (yes e) ih = rw (← e) (last-same (after m (fills sp from n)) sp (8 + n) (from + n))
-    go (no d) ih = last-other (after m (fills sp from n)) sp (8 + n) (from + n) (8 + j) (λ e. d (omega arith)) ∙ ih (omega arith)
-
--- a header: seven writes, as memory
-headed : (ℕ → ℕ) → Space → ℕ → ℕ → ℕ
-headed m sp n =
-    set (set (set (set (set (set (set m (wordOf sp 1) (sp .pages)) (wordOf sp 2) 0) (wordOf sp 3) n) (wordOf sp 4) 0) (wordOf sp 5) 0) (wordOf sp 6) 0) (wordOf sp 7) 0
-
-counts-headed : (m : ℕ → ℕ) (sp : Space) (n : ℕ) → after m (counts sp n) ≡ headed m sp n
-unfolding counts headed after
-counts-headed m sp n = rw (add-zero (sp .first))
+-- The header ----------------------------------------------------------------------------------------------------------------------
 
 module _ (m : ℕ → ℕ) (sp : Space) (n : ℕ) where
-  headed-slot : (j : ℕ) → 8 ≤ j → headed m sp n (wordOf sp j) ≡ m (wordOf sp j)
-  unfolding headed
-  headed-slot j u =
-      word-other _ sp 7 0 j (omega arith)
-      ∙ word-other _ sp 6 0 j (omega arith)
-      ∙ word-other _ sp 5 0 j (omega arith)
-      ∙ word-other _ sp 4 0 j (omega arith)
-      ∙ word-other _ sp 3 n j (omega arith)
-      ∙ word-other _ sp 2 0 j (omega arith)
-      ∙ word-other m sp 1 (sp .pages) j (omega arith)
+  -- its first words
+  words : List (ℕ × ℕ)
+  words = (pagesAt, sp .pages) ∷ (rootAt, sp .root) ∷ (ticketsAt, 0) ∷ (freeAt, n) ∷ []
 
-  headed-low : (j : ℕ) → j < 6 → headed m sp n (wordOf sp j) ≡ set (set (set (set (set m (wordOf sp 1) (sp .pages)) (wordOf sp 2) 0) (wordOf sp 3) n) (wordOf sp 4) 0) (wordOf sp 5) 0 (wordOf sp j)
-  unfolding headed
-  headed-low j u = word-other _ sp 7 0 j (omega arith) ∙ word-other _ sp 6 0 j (omega arith)
+  headed-is : after m (header sp n) ≡ after (after m (puts sp words)) (blanks sp asideAt (headerWords - asideAt))
+  unfolding header puts words
+  headed-is = after-append m (puts sp words) (blanks sp asideAt (headerWords - asideAt))
 
-  -- its book
-  headed-book : bookOf (headed m sp n) sp ≡ record { head = 0; free = n; aside = 0; tickets = 0 }
+  -- one of these, and one of the others
+  headed-low : (k : ℕ) → k < asideAt → after m (header sp n) (wordOf sp k) ≡ becomes words k (m (wordOf sp k))
+  headed-low k u =
+      ap (λ (f : ℕ → ℕ). f (wordOf sp k)) headed-is
+      ∙ row-other (after m (puts sp words)) sp asideAt (λ j. 0) (headerWords - asideAt) k (inl u)
+      ∙ puts-word m sp words k
+
+  headed-rest : (k : ℕ) → asideAt ≤ k → k < headerWords → after m (header sp n) (wordOf sp k) ≡ 0
+  headed-rest k u v =
+      ap (λ (f : ℕ → ℕ). f (wordOf sp k)) headed-is ∙ row-word (after m (puts sp words)) sp asideAt (λ j. 0) (headerWords - asideAt) k u (omega arith)
+
+  -- and one behind the header
+  headed-behind : (k : ℕ) → headerWords ≤ k → after m (header sp n) (wordOf sp k) ≡ m (wordOf sp k)
+  unfolding words becomes pagesAt rootAt ticketsAt freeAt asideAt headerWords
+  headed-behind k u =
+      ap (λ (f : ℕ → ℕ). f (wordOf sp k)) headed-is
+      ∙ row-other (after m (puts sp words)) sp asideAt (λ j. 0) (headerWords - asideAt) k (inr (omega arith))
+      ∙ puts-word m sp words k
+      ∙ rw (ne-eqb pagesAt k (omega arith), ne-eqb rootAt k (omega arith), ne-eqb ticketsAt k (omega arith), ne-eqb freeAt k (omega arith))
+
+  headed-size : after m (header sp n) (wordOf sp pagesAt) ≡ sp .pages
+  unfolding words becomes pagesAt rootAt ticketsAt freeAt asideAt
+  headed-size = headed-low pagesAt (omega arith)
+
+  headed-root : after m (header sp n) (wordOf sp rootAt) ≡ sp .root
+  unfolding words becomes pagesAt rootAt ticketsAt freeAt asideAt
+  headed-root = headed-low rootAt (omega arith)
+
+  headed-book : bookOf (after m (header sp n)) sp ≡ record { head = 0; free = n; aside = 0; tickets = 0 }
+  unfolding words becomes pagesAt rootAt ticketsAt freeAt asideAt headAt headerWords
   headed-book =
-      rw (headed-low 2 (omega arith), headed-low 3 (omega arith), headed-low 4 (omega arith), headed-low 5 (omega arith))
-      (rw (head-is, free-is, aside-is, word-same _ sp 5 0))
-    where
-      head-is : set (set (set (set (set m (wordOf sp 1) (sp .pages)) (wordOf sp 2) 0) (wordOf sp 3) n) (wordOf sp 4) 0) (wordOf sp 5) 0 (wordOf sp 2) ≡ 0
-      head-is = word-other _ sp 5 0 2 (omega arith) ∙ word-other _ sp 4 0 2 (omega arith) ∙ word-other _ sp 3 n 2 (omega arith) ∙ word-same _ sp 2 0
-
-      free-is : set (set (set (set (set m (wordOf sp 1) (sp .pages)) (wordOf sp 2) 0) (wordOf sp 3) n) (wordOf sp 4) 0) (wordOf sp 5) 0 (wordOf sp 3) ≡ n
-      free-is = word-other _ sp 5 0 3 (omega arith) ∙ word-other _ sp 4 0 3 (omega arith) ∙ word-same _ sp 3 n
-
-      aside-is : set (set (set (set (set m (wordOf sp 1) (sp .pages)) (wordOf sp 2) 0) (wordOf sp 3) n) (wordOf sp 4) 0) (wordOf sp 5) 0 (wordOf sp 4) ≡ 0
-      aside-is = word-other _ sp 5 0 4 (omega arith) ∙ word-same _ sp 4 0
-
-  headed-size : headed m sp n (wordOf sp 1) ≡ sp .pages
-  headed-size =
-      headed-low 1 (omega arith)
-      ∙ word-other _ sp 5 0 1 (omega arith)
-      ∙ word-other _ sp 4 0 1 (omega arith)
-      ∙ word-other _ sp 3 n 1 (omega arith)
-      ∙ word-other _ sp 2 0 1 (omega arith)
-      ∙ word-same m sp 1 (sp .pages)
+      rw (headed-low ticketsAt (omega arith), headed-low freeAt (omega arith), headed-rest asideAt (omega arith) (omega arith), headed-rest headAt (omega arith) (omega arith))
 
 -- The whole layout ----------------------------------------------------------------------------------------------------------------
 
 module _ (m : ℕ → ℕ) (sp : Space) (r : Roomy sp) (n : New sp) where
-  -- with the slots and the header; then the root cleared; then the mark
-  listed : ℕ → ℕ
-  listed = headed (after m (fills sp (sp .root + 1) (newFree sp))) sp (newFree sp)
+  -- without a mark; with the slots of the free pages; the other slots and the counts; the header; then the root cleared; then the mark
+  bare : ℕ → ℕ
+  bare = after m (bared sp (newFree sp))
+
+  filled : ℕ → ℕ
+  filled = after bare (fills sp (sp .root + 1) (newFree sp))
+
+  counted : ℕ → ℕ
+  counted = after filled (blanks sp (slotAt (newFree sp)) (2 * sp .pages - newFree sp))
+
+  headed : ℕ → ℕ
+  headed = after counted (header sp (newFree sp))
 
   cleared : ℕ → ℕ
-  cleared = after listed (zeros (sp .root) 512)
+  cleared = after headed (zeros (sp .root) 512)
 
-  laid-is : after m (layOut sp) ≡ after cleared (put sp 0 mark ∷ [])
-  unfolding layOut listed cleared
+  laid-is : after m (layOut sp) ≡ after cleared (put sp markAt mark ∷ [])
+  unfolding layOut bared slots bare filled counted headed cleared
   laid-is =
-      after-append m (fills sp (sp .root + 1) (newFree sp)) (counts sp (newFree sp) ++ (zeros (sp .root) 512 ++ (put sp 0 mark ∷ [])))
-      ∙ after-append (after m (fills sp (sp .root + 1) (newFree sp))) (counts sp (newFree sp)) (zeros (sp .root) 512 ++ (put sp 0 mark ∷ []))
-      ∙ ap (λ (f : ℕ → ℕ). after f (zeros (sp .root) 512 ++ (put sp 0 mark ∷ []))) (counts-headed (after m (fills sp (sp .root + 1) (newFree sp))) sp (newFree sp))
-      ∙ after-append (headed (after m (fills sp (sp .root + 1) (newFree sp))) sp (newFree sp)) (zeros (sp .root) 512) (put sp 0 mark ∷ [])
+      after-append m (bared sp (newFree sp)) _
+      ∙ after-append bare (slots sp (newFree sp)) _
+      ∙ ap (λ (f : ℕ → ℕ). after f (header sp (newFree sp) ++ (zeros (sp .root) 512 ++ (put sp markAt mark ∷ []))))
+      (after-append bare (fills sp (sp .root + 1) (newFree sp)) (blanks sp (slotAt (newFree sp)) (2 * sp .pages - newFree sp)))
+      ∙ after-append counted (header sp (newFree sp)) _
+      ∙ after-append headed (zeros (sp .root) 512) _
 
   -- the root is not the book
-  apart : (k : ℕ) → k < 8 + sp .pages → sp .root ≢ sp .first + k / 512
-  unfolding bookPages
-  apart k u e = omega (arith, n .behind)
-
-  cleared-word : (k : ℕ) → k < 8 + sp .pages → cleared (wordOf sp k) ≡ listed (wordOf sp k)
+  cleared-word : (k : ℕ) → k < bookWords (sp .pages) → cleared (wordOf sp k) ≡ headed (wordOf sp k)
   unfolding cleared
   cleared-word k u =
       rw word-at at
-      (after-other listed (zeros (sp .root) 512) (sp .first + k / 512) (k % 512) (omega arith) (every-zeros (sp .root) 512 (apart k u) (omega arith)))
+      (after-other headed (zeros (sp .root) 512) (sp .first + k / 512) (k % 512) (omega arith)
+      (every-zeros (sp .root) 512 (λ e. omega (arith, n .behind, word-page (sp .pages) k u)) (omega arith)))
 
-  laid-word : (k : ℕ) → 1 ≤ k → k < 8 + sp .pages → after m (layOut sp) (wordOf sp k) ≡ listed (wordOf sp k)
-  laid-word k u v =
-      ap (λ (f : ℕ → ℕ). f (wordOf sp k)) laid-is ∙ last-other cleared sp 0 mark k (omega arith) ∙ cleared-word k v
+  laid-word : (k : ℕ) → markAt ≢ k → k < bookWords (sp .pages) → after m (layOut sp) (wordOf sp k) ≡ headed (wordOf sp k)
+  laid-word k d v =
+      ap (λ (f : ℕ → ℕ). f (wordOf sp k)) laid-is ∙ put-other cleared sp markAt mark k d ∙ cleared-word k v
 
-  laid-mark : after m (layOut sp) (wordOf sp 0) ≡ mark
-  laid-mark = ap (λ (f : ℕ → ℕ). f (wordOf sp 0)) laid-is ∙ last-same cleared sp 0 mark
+  laid-mark : after m (layOut sp) (wordOf sp markAt) ≡ mark
+  laid-mark = ap (λ (f : ℕ → ℕ). f (wordOf sp markAt)) laid-is ∙ put-same cleared sp markAt mark
+
+  -- a word of the header
+  laid-header : (k : ℕ) → markAt ≢ k → k < headerWords → after m (layOut sp) (wordOf sp k) ≡ headed (wordOf sp k)
+  laid-header k d u = laid-word k d (header-word (sp .pages) k u)
 
   laid-book : bookOf (after m (layOut sp)) sp ≡ record { head = 0; free = newFree sp; aside = 0; tickets = 0 }
-  unfolding listed
+  unfolding headed markAt headAt freeAt asideAt ticketsAt headerWords
   laid-book =
-      rw (laid-word 2 (omega arith) (omega arith), laid-word 3 (omega arith) (omega arith), laid-word 4 (omega arith) (omega arith), laid-word 5 (omega arith) (omega arith))
-      (headed-book (after m (fills sp (sp .root + 1) (newFree sp))) sp (newFree sp))
+      rw (laid-header headAt (omega arith) (omega arith), laid-header freeAt (omega arith) (omega arith), laid-header asideAt (omega arith) (omega arith), laid-header ticketsAt (omega arith) (omega arith))
+      (headed-book counted sp (newFree sp))
 
   -- position k lists the page k behind the root's next
   laid-page : (k : ℕ) → k < newFree sp → pageAt (after m (layOut sp)) sp k ≡ sp .root + 1 + k
-  unfolding pageAt listed
+  unfolding pageAt filled counted headed markAt slotAt countAt
   laid-page k u =
-      ap (λ (b : Book). after m (layOut sp) (wordOf sp (8 + spotOf (sp .pages) (b .head) k))) laid-book
-      ∙ ap (λ x. after m (layOut sp) (wordOf sp (8 + x))) (spot-ahead (sp .pages) 0 k (omega (arith, r .enough)) ∙ omega arith)
-      ∙ laid-word (8 + k) (omega arith) (omega arith)
-      ∙ headed-slot (after m (fills sp (sp .root + 1) (newFree sp))) sp (newFree sp) (8 + k) (omega arith)
-      ∙ fills-slot m sp (sp .root + 1) (newFree sp) k u
+      ap (λ (b : Book). after m (layOut sp) (wordOf sp (slotAt (spotOf (sp .pages) (b .head) k)))) laid-book
+      ∙ ap (λ x. after m (layOut sp) (wordOf sp (slotAt x))) (spot-ahead (sp .pages) 0 k (omega (arith, r .enough)) ∙ omega arith)
+      ∙ laid-word (slotAt k) (omega arith) (slot-word (sp .pages) k (omega arith))
+      ∙ headed-behind counted sp (newFree sp) (slotAt k) (omega arith)
+      ∙ row-other filled sp (slotAt (newFree sp)) (λ j. 0) (2 * sp .pages - newFree sp) (slotAt k) (inl (omega arith))
+      ∙ row-word bare sp (slotAt 0) (λ j. sp .root + 1 + j) (newFree sp) (slotAt k) (omega arith) (omega arith)
+      ∙ omega arith
+
+  -- what no operation uses yet: the header's last words, and the counts
+  pub laid-rest : (k : ℕ) → headAt < k → k < headerWords → after m (layOut sp) (wordOf sp k) ≡ 0
+  unfolding headed markAt asideAt headAt
+  laid-rest k u v = laid-header k (omega arith) v ∙ headed-rest counted sp (newFree sp) k (omega arith) v
+
+  pub laid-counts : (k : ℕ) → k < sp .pages → after m (layOut sp) (wordOf sp (countAt (sp .pages) k)) ≡ 0
+  unfolding counted headed markAt slotAt countAt bookWords
+  laid-counts k u =
+      laid-word (countAt (sp .pages) k) (omega arith) (omega arith)
+      ∙ headed-behind counted sp (newFree sp) (countAt (sp .pages) k) (omega arith)
+      ∙ row-word filled sp (slotAt (newFree sp)) (λ j. 0) (2 * sp .pages - newFree sp) (countAt (sp .pages) k) (omega arith) (omega arith)
 
   -- the root is empty
   pub laid-root : Zero (after m (layOut sp)) (sp .root)
-  unfolding cleared bookPages
+  unfolding cleared
   laid-root j u =
       ap (λ (f : ℕ → ℕ). f (at (sp .root) j)) laid-is
-      ∙ after-other cleared (put sp 0 mark ∷ []) (sp .root) j u (every-map (λ q e x. omega (arith, e .1, n .behind)) (put sp 0 mark ∷ []) (mark-proper sp))
-      ∙ after-zeros listed (sp .root) 512 j u (omega arith)
+      ∙ after-other cleared (put sp markAt mark ∷ []) (sp .root) j u (every-map (λ q e x. omega (arith, e .1, n .behind)) (put sp markAt mark ∷ []) (mark-proper sp mark (omega arith)))
+      ∙ after-zeros headed (sp .root) 512 j u (omega arith)
 
   laid-lists : Lists (pageAt (after m (layOut sp)) sp) (newFree sp) 0 (newRole sp)
   laid-lists = record {
@@ -167,9 +166,10 @@ module _ (m : ℕ → ℕ) (sp : Space) (r : Roomy sp) (n : New sp) where
 
   -- THE BOOK OF A NEW POOL IS TRUE
   pub laid-booked : Booked sp (after m (layOut sp)) (newRole sp)
-  unfolding listed
+  unfolding headed markAt pagesAt rootAt headerWords
   laid-booked =
-      made (after m (layOut sp)) (record { head = 0; free = newFree sp; aside = 0; tickets = 0 }) laid-book laid-mark
-      (laid-word 1 (omega arith) (omega (arith, r .enough)) ∙ headed-size (after m (fills sp (sp .root + 1) (newFree sp))) sp (newFree sp))
+      booked-by sp (after m (layOut sp)) laid-book laid-mark
+      (laid-header pagesAt (omega arith) (omega arith) ∙ headed-size counted sp (newFree sp))
+      (laid-header rootAt (omega arith) (omega arith) ∙ headed-root counted sp (newFree sp))
       (record { small = r .small; head-in = omega (arith, r .enough); room = omega (arith, r .enough); early = omega arith })
       laid-lists (new-book n) (book-lies n)

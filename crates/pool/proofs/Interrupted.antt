@@ -1,23 +1,26 @@
--- CREATE, INTERRUPTED: the mark is written last, so stopped before its end it leaves no book where there was none.
-use Prim.Native.Nat.{ℕ, zero, suc, _+_, _*_, _/_, _%_, _<_, _≤_}
+-- CREATE, INTERRUPTED: the mark is removed by its first write and set by its last, so stopped between them it leaves no book.
+use Prim.Native.Nat.{ℕ, zero, suc, _+_, _-_, _*_, _<_}
 use mathlib.Core.List.{List, [], _∷_, _++_}
 use mathlib.Core.Logic.{_≢_}
 use mathlib.Core.Path.{_≡_, refl, sym, ap, _∙_}
 use native.Mathlib.Omega.{arith}
 use lib.ListN.{length, take}
 use Rattle.word.specs.Memory.{at, set, memory, holds}
-use Rattle.word.specs.Writes.{Write, write, after, carried, zeros}
+use Rattle.word.specs.Writes.{Write, after, carried, zeros}
 use Rattle.word.proofs.Set.{set-other}
-use Rattle.word.proofs.Writes.{Every, every-map, every-take, holds-carried, memory-carried}
+use Rattle.word.proofs.Writes.{every-map, every-take, memory-carried}
 use Rattle.pool.specs.declared.Space.{Space}
 use Rattle.pool.specs.declared.Book.{Book}
 use Rattle.pool.specs.declared.Fit.{Fit}
 use Rattle.pool.specs.declared.Fit.the-variants as fit
 use Rattle.pool.specs.declared.Opened.the-variants as opened
-use Rattle.pool.specs.Book.{bookPages, wordOf, mark, openedOf}
+use Rattle.pool.specs.Layout.{markAt, pagesAt, rootAt, ticketsAt, freeAt, asideAt, headerWords, slotAt}
+use Rattle.pool.specs.Book.{wordOf, mark, openedOf}
 use Rattle.pool.specs.Changes.{put}
-use Rattle.pool.specs.Create.{mayCreate, newSpace, fills, counts, newFree, layOut, createWrites, createIn}
+use Rattle.pool.specs.Create.{mayCreate, newSpace, row, fills, blanks, unmarks, bared, slots, header, newFree, layOut, createWrites, createIn}
 use Rattle.pool.proofs.Far.{word-at}
+use Rattle.pool.proofs.Words.{book-some}
+use Rattle.pool.proofs.Rows.{put-same}
 use Rattle.pool.proofs.Makes.{laid-proper}
 use Rattle.pool.proofs.Opening.{may-fit, fit-inside, roomy, open-shows}
 
@@ -49,62 +52,77 @@ until-append a [] ys none f k u = f k u
 until-append a (x ∷ xs) ys (more d h) f zero u = none
 until-append a (x ∷ xs) ys (more d h) f (suc k) u = more d (until-append a xs ys h f k (omega arith))
 
--- a layout writes the mark last
+-- Behind its first write a layout writes the mark's word once more, last.
 module _ (sp : Space) (behind : sp .first < sp .root) where
-  put-elsewhere : (k w : ℕ) → 0 < k → Elsewhere (wordOf sp 0) (put sp k w ∷ [])
+  put-elsewhere : (k w : ℕ) → markAt < k → Elsewhere (wordOf sp markAt) (put sp k w ∷ [])
   put-elsewhere k w u = more (λ e. let z = sym (word-at (sp .first) k) ∙ e in omega arith) none
 
-  fills-elsewhere : (from n : ℕ) → Elsewhere (wordOf sp 0) (fills sp from n)
-  unfolding fills
-  fills-elsewhere from zero = none
-  fills-elsewhere from (suc n) = elsewhere-append (fills sp from n) _ (fills-elsewhere from n) (put-elsewhere (8 + n) (from + n) (omega arith))
+  row-elsewhere : (k : ℕ) (f : ℕ → ℕ) (n : ℕ) → markAt < k → Elsewhere (wordOf sp markAt) (row sp k f n)
+  unfolding row
+  row-elsewhere k f zero u = none
+  row-elsewhere k f (suc n) u = elsewhere-append (row sp k f n) _ (row-elsewhere k f n u) (put-elsewhere (k + n) (f n) (omega arith))
 
-  counts-elsewhere : (free : ℕ) → Elsewhere (wordOf sp 0) (counts sp free)
-  unfolding counts
-  counts-elsewhere free =
-      elsewhere-append (put sp 1 _ ∷ []) _ (put-elsewhere 1 _ (omega arith))
-      (elsewhere-append (put sp 2 _ ∷ []) _ (put-elsewhere 2 _ (omega arith))
-      (elsewhere-append (put sp 3 _ ∷ []) _ (put-elsewhere 3 _ (omega arith))
-      (elsewhere-append (put sp 4 _ ∷ []) _ (put-elsewhere 4 _ (omega arith))
-      (elsewhere-append (put sp 5 _ ∷ []) _ (put-elsewhere 5 _ (omega arith))
-      (elsewhere-append (put sp 6 _ ∷ []) _ (put-elsewhere 6 _ (omega arith)) (put-elsewhere 7 _ (omega arith)))))))
+  header-elsewhere : (free : ℕ) → Elsewhere (wordOf sp markAt) (header sp free)
+  unfolding header markAt pagesAt rootAt ticketsAt freeAt asideAt
+  header-elsewhere free =
+      elsewhere-append (put sp pagesAt _ ∷ []) _ (put-elsewhere pagesAt _ (omega arith))
+      (elsewhere-append (put sp rootAt _ ∷ []) _ (put-elsewhere rootAt _ (omega arith))
+      (elsewhere-append (put sp ticketsAt _ ∷ []) _ (put-elsewhere ticketsAt _ (omega arith))
+      (elsewhere-append (put sp freeAt _ ∷ []) _ (put-elsewhere freeAt _ (omega arith)) (row-elsewhere asideAt (λ j. 0) (headerWords - asideAt) (omega arith)))))
 
-  zeros-elsewhere : (n : ℕ) → Elsewhere (wordOf sp 0) (zeros (sp .root) n)
-  unfolding zeros
+  zeros-elsewhere : (n : ℕ) → Elsewhere (wordOf sp markAt) (zeros (sp .root) n)
+  unfolding zeros markAt
   zeros-elsewhere zero = none
   zeros-elsewhere (suc n) = elsewhere-append (zeros (sp .root) n) _ (zeros-elsewhere n) (more (λ e. omega arith) none)
 
-  laid-until : Until (wordOf sp 0) (layOut sp)
-  unfolding layOut
-  laid-until =
-      until-append _ (fills sp (sp .root + 1) (newFree sp)) _ (fills-elsewhere (sp .root + 1) (newFree sp))
-      (until-append _ (counts sp (newFree sp)) _ (counts-elsewhere (newFree sp))
-      (until-append _ (zeros (sp .root) 512) _ (zeros-elsewhere 512) (until-last _ (put sp 0 mark))))
+  unmarks-elsewhere : (n : ℕ) → Elsewhere (wordOf sp markAt) (unmarks (sp .root + 1) n)
+  unfolding unmarks markAt
+  unmarks-elsewhere zero = none
+  unmarks-elsewhere (suc n) = elsewhere-append (unmarks (sp .root + 1) n) _ (unmarks-elsewhere n) (more (λ e. omega arith) none)
+
+  -- all but the first write
+  rest : List Write
+  rest =
+      unmarks (sp .root + 1) (newFree sp) ++ (slots sp (newFree sp) ++ (header sp (newFree sp) ++ (zeros (sp .root) 512 ++ (put sp markAt mark ∷ []))))
+
+  rest-until : Until (wordOf sp markAt) rest
+  unfolding rest slots markAt slotAt
+  rest-until =
+      until-append _ (unmarks (sp .root + 1) (newFree sp)) _ (unmarks-elsewhere (newFree sp))
+      (until-append _ (slots sp (newFree sp)) _
+      (elsewhere-append (fills sp (sp .root + 1) (newFree sp)) _ (row-elsewhere (slotAt 0) (λ j. sp .root + 1 + j) (newFree sp) (omega arith))
+      (row-elsewhere (slotAt (newFree sp)) (λ j. 0) (2 * sp .pages - newFree sp) (omega arith)))
+      (until-append _ (header sp (newFree sp)) _ (header-elsewhere (newFree sp))
+      (until-append _ (zeros (sp .root) 512) _ (zeros-elsewhere 512) (until-last _ (put sp markAt mark)))))
+
+  -- from the first write to the last there is no mark
+  laid-unmarked : (m : ℕ → ℕ) (k : ℕ) → 0 < k → k < length (layOut sp) → after m (take k (layOut sp)) (wordOf sp markAt) ≡ 0
+  unfolding layOut bared rest after
+  laid-unmarked m zero z u = absurd (omega arith)
+  laid-unmarked m (suc k) z u = after-elsewhere (wordOf sp markAt) (after m (put sp markAt 0 ∷ [])) (take k rest) (rest-until k (omega arith)) ∙ put-same m sp markAt 0
 
 module _ (s : List ℕ) (origin first pages : ℕ) where
   -- the window when so many words are written
   abbrev pub begun : ℕ → List ℕ
   begun k = carried s origin (take k (createWrites (length s) (holds s origin) origin first pages))
 
-  unmarked : (k : ℕ) (f : Fit) → mayCreate (length s) (holds s origin) origin first pages ≡ f → k < length (createIn (newSpace origin first pages) f)
-      → memory (carried s origin (take k (createIn (newSpace origin first pages) f))) origin (wordOf (newSpace origin first pages) 0) ≡ memory s origin (wordOf (newSpace origin first pages) 0)
+  unmarked : (k : ℕ) (f : Fit) → mayCreate (length s) (holds s origin) origin first pages ≡ f → 0 < k → k < length (createIn (newSpace origin first pages) f)
+      → memory (carried s origin (take k (createIn (newSpace origin first pages) f))) origin (wordOf (newSpace origin first pages) markAt) ≡ 0
   unfolding createIn
-  unmarked k (fit.Refused r) e u = absurd (omega arith)
-  unmarked k fit.Fits e u =
+  unmarked k (fit.Refused r) e z u = absurd (omega arith)
+  unmarked k fit.Fits e z u =
       let sp = newSpace origin first pages in
       let f = may-fit (length s) (holds s origin) origin first pages e in
       let proper = laid-proper sp (roomy s origin first pages f) (record { enough = f .enough; behind = refl }) in
       let inside = every-map (λ p k. fit-inside s origin first pages f p (k .0) (k .1)) (layOut sp) proper in
-      ap (λ (m : ℕ → ℕ). m (wordOf sp 0)) (memory-carried s origin (take k (layOut sp)) (every-take k (layOut sp) inside))
-      ∙ after-elsewhere (wordOf sp 0) (memory s origin) (take k (layOut sp)) (laid-until sp (omega (arith, first-behind)) k u)
-    where
-      first-behind : first < first + bookPages pages
-      first-behind = unfold bookPages in omega arith
+      ap (λ (m : ℕ → ℕ). m (wordOf sp markAt)) (memory-carried s origin (take k (layOut sp)) (every-take k (layOut sp) inside))
+      ∙ laid-unmarked sp (omega (arith, book-some pages)) (memory s origin) k z u
 
-  -- NO BOOK YET: stopped before its last write, whatever is then opened there
-  pub create-interrupted : (k : ℕ) → k < length (createWrites (length s) (holds s origin) origin first pages) → memory s origin (wordOf (newSpace origin first pages) 0) ≢ mark
+  -- NO BOOK YET: stopped between its first write and its last, whatever was there before and whatever is then opened there
+  pub create-interrupted : (k : ℕ) → 0 < k → k < length (createWrites (length s) (holds s origin) origin first pages)
       → (sp : Space) → sp .origin ≡ origin → sp .first ≡ first → (b : Book) → openedOf (holds (begun k) origin) (memory (begun k) origin) sp ≢ opened.Book b
   unfolding createWrites
-  create-interrupted k u d sp same here b e =
+  create-interrupted k z u sp same here b e =
       let o = open-shows _ _ sp b e in
-      d (sym (unmarked k (mayCreate (length s) (holds s origin) origin first pages) refl u) ∙ ap (λ (p : ℕ). memory (begun k) origin (512 * p + 0)) (sym here) ∙ o .marked)
+      let none = unmarked k (mayCreate (length s) (holds s origin) origin first pages) refl z u in
+      omega (arith, sym none ∙ ap (λ (p : ℕ). memory (begun k) origin (512 * p + markAt)) (sym here) ∙ o .names .marked)

@@ -1,9 +1,10 @@
 pub mod Far
 pub mod Counts
 pub mod Opening
-pub mod Fills
+pub mod Rows
 pub mod Lists
 pub mod Census
+pub mod Words
 pub mod Booked
 pub mod Taking
 pub mod Pages

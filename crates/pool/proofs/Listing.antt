@@ -13,11 +13,14 @@ use Rattle.pool.specs.declared.Space.{Space}
 use Rattle.pool.specs.declared.Book.{Book}
 use Rattle.pool.specs.declared.Listed.{Listed}
 use Rattle.pool.specs.declared.Listed.the-variants.{Page, Bad}
-use Rattle.pool.specs.Book.{bookPages, wordOf, bookOf, spotOf, pageAt, inPool, soundOf, openedOf, usableOf, namedOf, listedOf}
+use Rattle.pool.specs.Layout.{slotAt, bookPages}
+use Rattle.pool.specs.Book.{wordOf, bookOf, spotOf, pageAt, inPool, soundOf, namesOf, openedOf, usableOf, namedOf, listedOf}
 use Rattle.pool.specs.Booked.{Booked}
-use Rattle.pool.proofs.Counts.{InPool, pool-in, in-pool, is-sound, spot-in, slot-page}
+use Rattle.pool.proofs.Counts.{InPool, pool-in, in-pool, is-sound, spot-in}
+use Rattle.pool.proofs.Words.{word-page, slot-word}
+use Rattle.pool.specs.declared.Fit.the-variants as fit
 use Rattle.pool.specs.declared.Opened.the-variants as opened
-use Rattle.pool.proofs.Opening.{Fitting, opens}
+use Rattle.pool.proofs.Opening.{Fitting, Names, names, opens}
 use Rattle.pool.proofs.Pages.{Owned}
 
 -- a page for tables
@@ -36,7 +39,7 @@ same-page p q e = cc
 pub listed-usable : (h : ℕ → Bool) (m : ℕ → ℕ) (sp : Space) (b : Book) (k p : ℕ) → listedOf h m sp b k ≡ Page p → Usable sp p
 unfolding listedOf namedOf usableOf
 listed-usable h m sp b k p e =
-    let w = 8 + spotOf (sp .pages) (b .head) k in
+    let w = slotAt (spotOf (sp .pages) (b .head) k) in
     let a = page-yes (ltb k (b .free) && soundOf (sp .pages) b) _ p e in
     let d = page-yes (h (sp .first + w / 512)) _ p (a .1) in
     let g = page-yes (not (eqb (m (wordOf sp w)) (sp .root)) && inPool sp (m (wordOf sp w))) _ p (d .1) in
@@ -75,9 +78,16 @@ module _ {sp : Space} {m : ℕ → ℕ} {role : ℕ → Role} (b : Booked sp m r
           let z : _≡_ {A = ℕ} 0 1 = cc in
           absurd (omega arith)
 
-  -- A TRUE BOOK IS OPENED, with its counts
+  -- A TRUE BOOK NAMES ITS SPACE
+  named : (h : ℕ → Bool) → Fitting h (sp .first) (sp .pages) → Names h m sp
+  named h f = record { fits = f; inside = root-behind; marked = b .marked; sized = b .sized; rooted = b .rooted }
+
+  pub booked-names : (h : ℕ → Bool) → Fitting h (sp .first) (sp .pages) → namesOf h m sp ≡ fit.Fits
+  booked-names h f = names h m sp (named h f)
+
+  -- and is opened, with its counts
   pub booked-opens : (h : ℕ → Bool) → Fitting h (sp .first) (sp .pages) → openedOf h m sp ≡ opened.Book (bookOf m sp)
-  booked-opens h f = opens h m sp f root-behind (b .marked) (b .sized) (b .sound)
+  booked-opens h f = opens h m sp (named h f) (b .sound)
 
   -- OF A TRUE BOOK: the free page at that position
   pub listed-free : (h : ℕ → Bool) → ((p : ℕ) → sp .first ≤ p → p < sp .first + sp .pages → h p ≡ true) → (k : ℕ) → k < bookOf m sp .free
@@ -85,10 +95,10 @@ module _ {sp : Space} {m : ℕ → ℕ} {role : ℕ → Role} (b : Booked sp m r
   unfolding listedOf namedOf usableOf pageAt
   listed-free h w k u =
       let j = spotOf (sp .pages) (bookOf m sp .head) k in
-      let x = free-usable (m (wordOf sp (8 + j))) (b .lists .frees k u) in
+      let x = free-usable (m (wordOf sp (slotAt j))) (b .lists .frees k u) in
       simp (lt-ltb k (bookOf m sp .free) u, is-sound (sp .pages) (bookOf m sp) (b .sound))
       (simp (held j (spot-in (sp .pages) (bookOf m sp .head) k (b .sound .head-in) (omega (arith, b .sound .room))), ne-eqb _ _ (x .no-root), in-pool sp _ (x .in-the-pool)))
     where
       -- the page of a slot
-      held : (j : ℕ) → j < sp .pages → h (sp .first + (8 + j) / 512) ≡ true
-      held j v = w (sp .first + (8 + j) / 512) (omega arith) (omega (arith, b .sound .room, slot-page (sp .pages) j v))
+      held : (j : ℕ) → j < sp .pages → h (sp .first + slotAt j / 512) ≡ true
+      held j v = w (sp .first + slotAt j / 512) (omega arith) (omega (arith, b .sound .room, word-page (sp .pages) (slotAt j) (slot-word (sp .pages) j v)))

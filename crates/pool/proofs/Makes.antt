@@ -1,5 +1,5 @@
 -- CREATE ESTABLISHES THE INVARIANT, for any bytes; and there is a pool for which it does.
-use Prim.Native.Nat.{ℕ, _+_, _<_, _≤_}
+use Prim.Native.Nat.{ℕ, _+_, _-_, _*_, _<_, _≤_}
 use mathlib.Core.Bool.{true}
 use mathlib.Core.List.{List, [], _∷_}
 use mathlib.Core.Path.{_≡_, refl}
@@ -13,34 +13,43 @@ use Rattle.pool.specs.declared.Space.{Space}
 use Rattle.pool.specs.declared.Fit.{Fit}
 use Rattle.pool.specs.declared.Fit.the-variants as fit
 use Rattle.pool.specs.declared.Created.the-variants as created
-use Rattle.pool.specs.Book.{bookPages, mark, roomOf}
+use Rattle.pool.specs.Layout.{markAt, headAt, headerWords, slotAt, countAt, bookPages}
+use Rattle.pool.specs.Book.{wordOf, mark, roomOf}
 use Rattle.pool.specs.Changes.{put}
-use Rattle.pool.specs.Create.{mayCreate, newSpace, fills, counts, newFree, layOut, Roomy, createdOf, createdIn, createWrites, createIn}
+use Rattle.pool.specs.Create.{mayCreate, newSpace, fills, blanks, unmarks, bared, slots, header, newFree, layOut, Roomy, createdOf, createdIn, createWrites, createIn}
 use Rattle.pool.specs.Booked.{settingOf, Booked, newRole}
 use Rattle.pool.proofs.Opening.{Fitting, may-fit, fit-small, fit-inside, roomy}
-use Rattle.pool.proofs.Proper.{OfBook, fills-proper, counts-proper, mark-proper}
+use Rattle.pool.proofs.Proper.{OfBook, fills-proper, rest-proper, header-writes-proper, mark-proper}
+use Rattle.pool.proofs.Rows.{unmarks-proper}
 use Rattle.pool.proofs.NewRoles.{New, new-sound}
-use Rattle.pool.proofs.Fresh.{laid-booked, laid-root}
+use Rattle.pool.proofs.Fresh.{laid-booked, laid-rest, laid-counts, laid-root}
 
--- every write of a layout goes to the book or to the root
+-- every write of a layout goes to the pool
 pub laid-proper : (sp : Space) → Roomy sp → New sp → Every (λ p. (sp .first ≤ p) × (p < sp .first + sp .pages)) (layOut sp)
-unfolding layOut
+unfolding layOut bared slots
 laid-proper sp r n =
-    every-append (fills sp (sp .root + 1) (newFree sp)) _
+    every-append (bared sp (newFree sp)) _
+    (every-append (put sp markAt 0 ∷ []) _ (wide (put sp markAt 0 ∷ []) (mark-proper sp 0 (omega arith)))
+    (unmarks-proper (sp .root + 1) (newFree sp) (λ q u v. (omega (arith, n .behind), omega (arith, n .behind, r .enough)))))
+    (every-append (slots sp (newFree sp)) _
+    (every-append (fills sp (sp .root + 1) (newFree sp)) _
     (wide (fills sp (sp .root + 1) (newFree sp)) (fills-proper sp (sp .root + 1) (newFree sp) (omega arith) (omega (arith, r .small, r .low))))
-    (every-append (counts sp (newFree sp)) _
-    (wide (counts sp (newFree sp)) (counts-proper sp (newFree sp) (omega (arith, r .small)) (omega (arith, r .small))))
+    (wide (blanks sp (slotAt (newFree sp)) (2 * sp .pages - newFree sp)) (rest-proper sp (newFree sp) (omega arith))))
+    (every-append (header sp (newFree sp)) _
+    (wide (header sp (newFree sp)) (header-writes-proper sp (newFree sp) (omega (arith, r .small)) (omega (arith, r .low)) (omega (arith, r .small))))
     (every-append (zeros (sp .root) 512) _
     (every-zeros (sp .root) 512 (omega (arith, n .behind), omega (arith, n .behind, r .enough)) (omega arith))
-    (wide (put sp 0 mark ∷ []) (mark-proper sp))))
+    (wide (put sp markAt mark ∷ []) (mark-proper sp mark (omega arith))))))
   where
     wide : (xs : List Write) → Every (OfBook sp) xs → Every (λ p. (sp .first ≤ p) × (p < sp .first + sp .pages)) xs
     wide xs h = every-map (λ p k. (k .0, omega (arith, k .1, r .enough))) xs h
 
--- tables that were built, with a true book, in these bytes; every page behind the root is free
+-- tables that were built, with a true book, in these bytes; every page behind the root is free, and what later requests keep in the book is 0
 pub record Fresh (s : List ℕ) (sp : Space) : Type 0 where
   pub sound : tables.Sound (settingOf (holds s (sp .origin)) sp) (memory s (sp .origin)) (newRole sp)
   pub booked : Booked sp (memory s (sp .origin)) (newRole sp)
+  pub rest : (k : ℕ) → headAt < k → k < headerWords → memory s (sp .origin) (wordOf sp k) ≡ 0
+  pub counts : (k : ℕ) → k < sp .pages → memory s (sp .origin) (wordOf sp (countAt (sp .pages) k)) ≡ 0
 
 module _ (s : List ℕ) (origin first pages : ℕ) where
   pub fit-fresh : mayCreate (length s) (holds s origin) origin first pages ≡ fit.Fits → Fresh (carried s origin (layOut (newSpace origin first pages))) (newSpace origin first pages)
@@ -49,6 +58,8 @@ module _ (s : List ℕ) (origin first pages : ℕ) where
         rw (holds-carried s origin (layOut sp), bytes)
         (new-sound n (holds s origin) (after (memory s origin) (layOut sp)) (omega (arith, fit-small s origin first pages f, f .enough)) window (laid-root (memory s origin) sp r n));
     booked = rw bytes (laid-booked (memory s origin) sp r n);
+    rest = rw bytes (laid-rest (memory s origin) sp r n);
+    counts = rw bytes (laid-counts (memory s origin) sp r n);
   }
     where
       sp : Space

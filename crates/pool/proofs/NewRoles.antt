@@ -9,7 +9,7 @@ use borrow.Author.Tests.{le-leb, lt-leb, lt-ltb, le-ltb, eq-eqb, ne-eqb}
 use Rattle.tables.specs.Roles.{Role, foreign, free, aside, book, root, table, Sound, Zero}
 use Rattle.tables.specs.Start.{Fresh, fresh-sound}
 use Rattle.pool.specs.declared.Space.{Space}
-use Rattle.pool.specs.Book.{bookPages}
+use Rattle.pool.specs.Layout.{bookPages}
 use Rattle.pool.specs.Booked.{settingOf, newRole}
 use Rattle.pool.proofs.Pages.{root-page}
 

@@ -1,5 +1,5 @@
 -- Reading a book: by what was read, and what an opened book shows.
-use Prim.Native.Nat.{ℕ, _+_, _-_, _*_, _/_, _%_, _^_, _<_, _≤_}
+use Prim.Native.Nat.{ℕ, _+_, _-_, _/_, _%_, _^_, _<_, _≤_}
 use mathlib.Core.Bool.{Bool, true, false, cond, _&&_}
 use mathlib.Core.List.{List}
 use mathlib.Core.Path.{_≡_, refl, sym, ap, _∙_, subst}
@@ -8,17 +8,20 @@ use lib.Dec.{leb, eqb}
 use Rattle.word.specs.Memory.{memory, holds, readOf}
 use Rattle.word.specs.declared.Cell.the-variants as cell
 use Rattle.word.proofs.Memory.{read-word, read-outside, held}
-use Rattle.word.proofs.Runs.{Run, spans-run, spans-ends, run-holds}
+use Rattle.word.specs.Runs.{amongOf}
+use Rattle.word.proofs.Runs.{Run, Among, spans-run, spans-ends, run-holds, word-among, outside-among}
 use Rattle.word.proofs.Tests.{and-both}
 use Rattle.pool.specs.declared.Space.{Space}
 use Rattle.pool.specs.declared.Fit.{Fit}
 use Rattle.pool.specs.declared.Fit.the-variants as fit
 use Rattle.pool.specs.declared.Reason.{Reason}
 use Rattle.pool.specs.declared.Listed.the-variants.{Bad}
-use Rattle.pool.specs.Book.{bookPages, wordOf, mark, bookOf, roomOf, inPool, soundOf, Sound, openedOf, openedIn, headerOf, checkedOf, namedOf, usableOf}
+use Rattle.pool.specs.Layout.{markAt, pagesAt, rootAt, bookPages}
+use Rattle.pool.specs.Book.{wordOf, mark, bookOf, roomOf, inPool, soundOf, Sound, headedOf, rootedIn, namesOf, namesIn, openedOf, openedIn, countsOf, namedOf, usableOf}
+use Rattle.pool.specs.Stands.{standsOf}
 use Rattle.pool.specs.Create.{mayCreate, newSpace, Roomy}
 use Rattle.pool.proofs.Far.{word-at}
-use borrow.Author.Tests.{leb-true, le-leb, lt-ltb, eqb-true, eq-eqb}
+use borrow.Author.Tests.{leb-true, le-leb, eqb-true, eq-eqb}
 use Rattle.pool.specs.declared.Book.{Book}
 use Rattle.pool.specs.declared.Opened.{Opened}
 use Rattle.pool.specs.declared.Opened.the-variants as opened
@@ -76,12 +79,75 @@ fit-runs s origin first pages f = spans-run s origin first pages (spans-ends s o
 pub fit-inside : (s : List ℕ) (origin first pages : ℕ) → Fitting (holds s origin) first pages → (p : ℕ) → first ≤ p → p < first + pages → holds s origin p ≡ true
 fit-inside s origin first pages f = run-holds s origin first pages (fit-runs s origin first pages f)
 
+-- a word of the header, as the code reads it
+head-among : (s : List ℕ) (sp : Space) (i : ℕ) → i < 512 → roomOf (holds s (sp .origin)) (sp .first) (sp .pages) ≡ fit.Fits
+    → Among s (sp .origin) (sp .first) (sp .pages) 0 (sp .first) i
+head-among s sp i u e =
+    let f = fitting (holds s (sp .origin)) (sp .first) (sp .pages) e in
+    record { run = fit-runs s (sp .origin) (sp .first) (sp .pages) f; small = u; behind = omega arith; before-end = omega (arith, f .enough) }
+
+module _ (s : List ℕ) (sp : Space) (i : ℕ) where
+  pub head-is : (w : ℕ) → amongOf s (sp .origin) (sp .first) 0 (sp .pages) (sp .first) i ≡ cell.Word w → w ≡ memory s (sp .origin) (wordOf sp i)
+  head-is w e = sym (word-among s (sp .origin) (sp .first) (sp .pages) 0 (sp .first) i w e .1)
+
+  pub head-out : i < 512 → amongOf s (sp .origin) (sp .first) 0 (sp .pages) (sp .first) i ≡ cell.Outside
+      → roomOf (holds s (sp .origin)) (sp .first) (sp .pages) ≡ fit.Fits → ⊥
+  head-out u e f = outside-among s (sp .origin) (sp .first) (sp .pages) 0 (sp .first) i e (head-among s sp i u f)
+
+-- A BOOK THAT NAMES A SPACE, for any bytes
+pub record Names (h : ℕ → Bool) (m : ℕ → ℕ) (sp : Space) : Type 0 where
+  pub fits : Fitting h (sp .first) (sp .pages)
+  pub inside : InPool sp (sp .root)
+  pub marked : m (wordOf sp markAt) ≡ mark
+  pub sized : m (wordOf sp pagesAt) ≡ sp .pages
+  pub rooted : m (wordOf sp rootAt) ≡ sp .root
+
+room-yes : (h : ℕ → Bool) (m : ℕ → ℕ) (sp : Space) (r : Fit) → namesIn m sp r ≡ fit.Fits → r ≡ fit.Fits
+unfolding namesIn
+room-yes h m sp fit.Fits e = refl
+room-yes h m sp (fit.Refused r) e = let z : _≡_ {A = ℕ} 0 1 = cc in absurd (omega arith)
+
+root-yes : (sp : Space) (r : Fit) → rootedIn sp r ≡ fit.Fits → (r ≡ fit.Fits) × (inPool sp (sp .root) ≡ true)
+unfolding rootedIn
+root-yes sp fit.Fits e = (refl, fit-yes (inPool sp (sp .root)) _ _ e .0)
+root-yes sp (fit.Refused r) e = let z : _≡_ {A = ℕ} 0 1 = cc in absurd (omega arith)
+
+module _ (h : ℕ → Bool) (m : ℕ → ℕ) (sp : Space) where
+  -- there is room for it
+  pub names-room : namesOf h m sp ≡ fit.Fits → roomOf h (sp .first) (sp .pages) ≡ fit.Fits
+  unfolding namesOf
+  names-room e = room-yes h m sp (roomOf h (sp .first) (sp .pages)) e
+
+  pub names-shows : namesOf h m sp ≡ fit.Fits → Names h m sp
+  unfolding namesOf namesIn headedOf
+  names-shows e =
+      let f = names-room e in
+      let r = root-yes sp (headedOf m sp) (rw f at e) in
+      let a = fit-yes (eqb (m (wordOf sp markAt)) mark) _ _ (r .0) in
+      let b = fit-yes (eqb (m (wordOf sp pagesAt)) (sp .pages)) _ _ (a .1) in
+      let d = fit-yes (eqb (m (wordOf sp rootAt)) (sp .root)) _ _ (b .1) in
+      record {
+        fits = fitting h (sp .first) (sp .pages) f;
+        inside = pool-in sp (sp .root) (r .1);
+        marked = eqb-true _ _ (a .0);
+        sized = eqb-true _ _ (b .0);
+        rooted = eqb-true _ _ (d .0);
+      }
+
+  -- and so it names it
+  pub names : Names h m sp → namesOf h m sp ≡ fit.Fits
+  unfolding namesOf namesIn headedOf rootedIn roomOf
+  names k =
+      simp (le-leb _ _ (k .fits .small), le-leb _ _ (k .fits .enough), k .fits .from, k .fits .upto, eq-eqb _ _ (k .marked), eq-eqb _ _ (k .sized), eq-eqb _ _ (k .rooted), in-pool sp (sp .root) (k .inside))
+
+  -- the space makes sense
+  pub names-stands : namesOf h m sp ≡ fit.Fits → standsOf h sp ≡ fit.Fits
+  unfolding standsOf rootedIn
+  names-stands e = rw (names-room e, in-pool sp (sp .root) (names-shows e .inside))
+
 -- WHAT AN OPENED BOOK SHOWS, for any bytes
 pub record Open (h : ℕ → Bool) (m : ℕ → ℕ) (sp : Space) (b : Book) : Type 0 where
-  pub fits : Fitting h (sp .first) (sp .pages)
-  pub rooted : InPool sp (sp .root)
-  pub marked : m (wordOf sp 0) ≡ mark
-  pub sized : m (wordOf sp 1) ≡ sp .pages
+  pub names : Names h m sp
   pub sound : Sound (sp .pages) b
   pub read : bookOf m sp ≡ b
 
@@ -93,29 +159,21 @@ same-book : (b n : Book) → opened.Book b ≡ opened.Book n → b ≡ n
 same-book b n e = cc
 
 pub open-shows : (h : ℕ → Bool) (m : ℕ → ℕ) (sp : Space) (b : Book) → openedOf h m sp ≡ opened.Book b → Open h m sp b
-unfolding openedOf openedIn headerOf checkedOf
-open-shows h m sp b e = go (roomOf h (sp .first) (sp .pages)) refl e
+unfolding openedOf openedIn countsOf
+open-shows h m sp b e = go (namesOf h m sp) refl e
   where
-    go : (r : Fit) → roomOf h (sp .first) (sp .pages) ≡ r → openedIn m sp r ≡ opened.Book b → Open h m sp b
+    go : (r : Fit) → namesOf h m sp ≡ r → openedIn m sp r ≡ opened.Book b → Open h m sp b
     go (fit.Refused r) f e = let z : _≡_ {A = ℕ} 0 1 = cc in absurd (omega arith)
     go fit.Fits f e =
-        let a = open-yes (inPool sp (sp .root)) _ _ b e in
-        let d = open-yes (eqb (m (wordOf sp 0)) mark) _ _ b (a .1) in
-        let g = open-yes (eqb (m (wordOf sp 1)) (sp .pages)) _ _ b (d .1) in
-        let k = open-yes (soundOf (sp .pages) (bookOf m sp)) _ _ b (g .1) in
+        let k = open-yes (soundOf (sp .pages) (bookOf m sp)) _ _ b e in
         let same = same-book (bookOf m sp) b (k .1) in
         record {
-          fits = fitting h (sp .first) (sp .pages) f;
-          rooted = pool-in sp (sp .root) (a .0);
-          marked = eqb-true _ _ (d .0);
-          sized = eqb-true _ _ (g .0);
+          names = names-shows h m sp f;
           sound = subst (λ (x : Book). Sound (sp .pages) x) same (sound-is (sp .pages) (bookOf m sp) (k .0));
           read = same;
         }
 
 -- and so it is opened
-pub opens : (h : ℕ → Bool) (m : ℕ → ℕ) (sp : Space) → Fitting h (sp .first) (sp .pages) → InPool sp (sp .root) → m (wordOf sp 0) ≡ mark → m (wordOf sp 1) ≡ sp .pages
-    → Sound (sp .pages) (bookOf m sp) → openedOf h m sp ≡ opened.Book (bookOf m sp)
-unfolding openedOf openedIn headerOf checkedOf roomOf
-opens h m sp f r a b s =
-    simp (le-leb _ _ (f .small), le-leb _ _ (f .enough), f .from, f .upto, in-pool sp (sp .root) r, eq-eqb _ _ a, eq-eqb _ _ b, is-sound (sp .pages) (bookOf m sp) s)
+pub opens : (h : ℕ → Bool) (m : ℕ → ℕ) (sp : Space) → Names h m sp → Sound (sp .pages) (bookOf m sp) → openedOf h m sp ≡ opened.Book (bookOf m sp)
+unfolding openedOf openedIn countsOf
+opens h m sp k s = simp (names h m sp k, is-sound (sp .pages) (bookOf m sp) s)

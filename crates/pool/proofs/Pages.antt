@@ -6,7 +6,8 @@ use mathlib.Core.Path.{_≡_, refl, sym, ap, _∙_}
 use native.Mathlib.Omega.{arith}
 use Rattle.tables.specs.Roles.{Role, foreign, free, aside, book, root, table}
 use Rattle.pool.specs.declared.Space.{Space}
-use Rattle.pool.specs.Book.{bookPages, bookOf, pageAt}
+use Rattle.pool.specs.Layout.{bookPages}
+use Rattle.pool.specs.Book.{bookOf, pageAt}
 use Rattle.tables.specs.Roles.{Built}
 use Rattle.entry.specs.Entry.{tableOf}
 use Rattle.pool.specs.Booked.{settingOf, Booked, tablesOf, howMany, isFree, isAside, isBook, isRoot}

@@ -1,5 +1,5 @@
 -- Where a change of the book writes: words of 64 bits, to pages of the book and nowhere else. For any counts.
-use Prim.Native.Nat.{ℕ, zero, suc, _+_, _-_, _^_, _<_, _≤_}
+use Prim.Native.Nat.{ℕ, zero, suc, _+_, _-_, _*_, _^_, _<_, _≤_}
 use mathlib.Core.Bool.{Bool, true, false, cond, _&&_}
 use mathlib.Core.List.{List, [], _∷_}
 use mathlib.Core.Path.{_≡_, refl}
@@ -12,10 +12,12 @@ use Rattle.word.proofs.Writes.{Proper, Every, every-append}
 use Rattle.word.proofs.Writes.Every.{none, more}
 use Rattle.pool.specs.declared.Space.{Space}
 use Rattle.pool.specs.declared.Book.{Book}
-use Rattle.pool.specs.Book.{bookPages, mark, spotOf, soundOf, Sound}
+use Rattle.pool.specs.Layout.{markAt, pagesAt, rootAt, ticketsAt, freeAt, asideAt, headAt, headerWords, slotAt, bookWords, bookPages}
+use Rattle.pool.specs.Book.{spotOf, soundOf, Sound}
 use Rattle.pool.specs.Changes.{put, tookWrites, asideWrites, releaseWrites}
-use Rattle.pool.specs.Create.{fills, counts}
-use Rattle.pool.proofs.Counts.{sound-is, spot-in, slot-page}
+use Rattle.pool.specs.Create.{row, fills, blanks, header}
+use Rattle.pool.proofs.Counts.{sound-is, spot-in}
+use Rattle.pool.proofs.Words.{word-page, header-word, slot-word}
 
 -- page q is one of the book's
 abbrev pub OfBook : Space → ℕ → Type 0
@@ -26,58 +28,67 @@ if-so : {Q : ℕ → Type 0} (t : Bool) (xs : List Write) → (t ≡ true → Ev
 if-so true xs h = h refl
 if-so false xs h = none
 
--- a word of the header, and a slot's
-header-proper : (sp : Space) (k w : ℕ) → k < 8 → w < 2 ^ 64 → Proper (OfBook sp) (put sp k w)
-unfolding bookPages
-header-proper sp k w u v = record { in-page = (omega arith, omega arith); in-index = omega arith; in-word = v }
+-- a word of the book; one of the header, and a slot's
+word-proper : (sp : Space) (k w : ℕ) → k < bookWords (sp .pages) → w < 2 ^ 64 → Proper (OfBook sp) (put sp k w)
+word-proper sp k w u v = record { in-page = (omega arith, omega (arith, word-page (sp .pages) k u)); in-index = omega arith; in-word = v }
 
-slot-proper : (sp : Space) (j w : ℕ) → j < sp .pages → w < 2 ^ 64 → Proper (OfBook sp) (put sp (8 + j) w)
-slot-proper sp j w u v = record { in-page = (omega arith, omega (arith, slot-page (sp .pages) j u)); in-index = omega arith; in-word = v }
+header-proper : (sp : Space) (k w : ℕ) → k < headerWords → w < 2 ^ 64 → Proper (OfBook sp) (put sp k w)
+header-proper sp k w u v = word-proper sp k w (header-word (sp .pages) k u) v
+
+slot-proper : (sp : Space) (j w : ℕ) → j < sp .pages → w < 2 ^ 64 → Proper (OfBook sp) (put sp (slotAt j) w)
+slot-proper sp j w u v = word-proper sp (slotAt j) w (slot-word (sp .pages) j u) v
 
 pub took-proper : (sp : Space) (b : Book) (k : ℕ) → Every (OfBook sp) (tookWrites sp b k)
-unfolding tookWrites
+unfolding tookWrites headAt freeAt headerWords
 took-proper sp b k = if-so (leb k (b .free) && soundOf (sp .pages) b) _ (λ e. let t = and-both (leb k (b .free)) (soundOf (sp .pages) b) e in go (leb-true k (b .free) (t .0)) (sound-is (sp .pages) b (t .1)))
   where
-    go : k ≤ b .free → Sound (sp .pages) b → Every (OfBook sp) (put sp 2 (spotOf (sp .pages) (b .head) k) ∷ put sp 3 (b .free - k) ∷ [])
+    go : k ≤ b .free → Sound (sp .pages) b → Every (OfBook sp) (put sp headAt (spotOf (sp .pages) (b .head) k) ∷ put sp freeAt (b .free - k) ∷ [])
     go u s =
-        more (header-proper sp 2 (spotOf (sp .pages) (b .head) k) (omega arith) (omega (arith, s .small, spot-in (sp .pages) (b .head) k (s .head-in) (omega (arith, s .room)))))
-        (more (header-proper sp 3 (b .free - k) (omega arith) (omega (arith, s .small, s .room))) none)
+        more (header-proper sp headAt (spotOf (sp .pages) (b .head) k) (omega arith) (omega (arith, s .small, spot-in (sp .pages) (b .head) k (s .head-in) (omega (arith, s .room)))))
+        (more (header-proper sp freeAt (b .free - k) (omega arith) (omega (arith, s .small, s .room))) none)
 
 pub aside-proper : (sp : Space) (b : Book) (p : ℕ) → p < 2 ^ 64 → Every (OfBook sp) (asideWrites sp b p)
-unfolding asideWrites
+unfolding asideWrites asideAt headerWords
 aside-proper sp b p u = if-so (soundOf (sp .pages) b) _ (λ e. go (sound-is (sp .pages) b e))
   where
-    go : Sound (sp .pages) b → Every (OfBook sp) (put sp (8 + spotOf (sp .pages) (b .head) (b .free + b .aside)) p ∷ put sp 4 (b .aside + 1) ∷ [])
+    go : Sound (sp .pages) b → Every (OfBook sp) (put sp (slotAt (spotOf (sp .pages) (b .head) (b .free + b .aside))) p ∷ put sp asideAt (b .aside + 1) ∷ [])
     go s =
         more (slot-proper sp _ p (spot-in (sp .pages) (b .head) (b .free + b .aside) (s .head-in) (omega (arith, s .room))) u)
-        (more (header-proper sp 4 (b .aside + 1) (omega arith) (omega (arith, s .small, s .room))) none)
+        (more (header-proper sp asideAt (b .aside + 1) (omega arith) (omega (arith, s .small, s .room))) none)
 
 pub release-proper : (sp : Space) (b : Book) (k : ℕ) → Every (OfBook sp) (releaseWrites sp b k)
-unfolding releaseWrites
+unfolding releaseWrites freeAt asideAt ticketsAt headerWords
 release-proper sp b k = if-so (leb k (b .aside) && soundOf (sp .pages) b) _ (λ e. let t = and-both (leb k (b .aside)) (soundOf (sp .pages) b) e in go (leb-true k (b .aside) (t .0)) (sound-is (sp .pages) b (t .1)))
   where
-    go : k ≤ b .aside → Sound (sp .pages) b → Every (OfBook sp) (put sp 3 (b .free + k) ∷ put sp 4 (b .aside - k) ∷ put sp 5 (b .tickets + k) ∷ [])
+    go : k ≤ b .aside → Sound (sp .pages) b → Every (OfBook sp) (put sp freeAt (b .free + k) ∷ put sp asideAt (b .aside - k) ∷ put sp ticketsAt (b .tickets + k) ∷ [])
     go u s =
-        more (header-proper sp 3 (b .free + k) (omega arith) (omega (arith, s .small, s .room)))
-        (more (header-proper sp 4 (b .aside - k) (omega arith) (omega (arith, s .small, s .room)))
-        (more (header-proper sp 5 (b .tickets + k) (omega arith) (omega (arith, s .small, s .room, s .early))) none))
+        more (header-proper sp freeAt (b .free + k) (omega arith) (omega (arith, s .small, s .room)))
+        (more (header-proper sp asideAt (b .aside - k) (omega arith) (omega (arith, s .small, s .room)))
+        (more (header-proper sp ticketsAt (b .tickets + k) (omega arith) (omega (arith, s .small, s .room, s .early))) none))
 
 -- A new pool: the book, and the root
+pub row-proper : (sp : Space) (k : ℕ) (f : ℕ → ℕ) (n : ℕ) → k + n ≤ bookWords (sp .pages) → ((j : ℕ) → j < n → f j < 2 ^ 64) → Every (OfBook sp) (row sp k f n)
+unfolding row
+row-proper sp k f zero u v = none
+row-proper sp k f (suc n) u v =
+    every-append (row sp k f n) _ (row-proper sp k f n (omega arith) (λ j w. v j (omega arith))) (more (word-proper sp (k + n) (f n) (omega arith) (v n (omega arith))) none)
+
 pub fills-proper : (sp : Space) (from n : ℕ) → n ≤ sp .pages → from + n < 2 ^ 64 → Every (OfBook sp) (fills sp from n)
-unfolding fills
-fills-proper sp from zero u v = none
-fills-proper sp from (suc n) u v =
-    every-append (fills sp from n) _ (fills-proper sp from n (omega arith) (omega arith)) (more (slot-proper sp n (from + n) (omega arith) (omega arith)) none)
+unfolding slotAt bookWords
+fills-proper sp from n u v = row-proper sp (slotAt 0) (λ j. from + j) n (omega arith) (λ j w. omega arith)
 
-pub counts-proper : (sp : Space) (free : ℕ) → sp .pages < 2 ^ 64 → free < 2 ^ 64 → Every (OfBook sp) (counts sp free)
-unfolding counts
-counts-proper sp free u v =
-    more (header-proper sp 1 _ (omega arith) u)
-    (more (header-proper sp 2 0 (omega arith) (omega arith))
-    (more (header-proper sp 3 _ (omega arith) v)
-    (more (header-proper sp 4 0 (omega arith) (omega arith))
-    (more (header-proper sp 5 0 (omega arith) (omega arith))
-    (more (header-proper sp 6 0 (omega arith) (omega arith)) (more (header-proper sp 7 0 (omega arith) (omega arith)) none))))))
+pub rest-proper : (sp : Space) (n : ℕ) → n ≤ 2 * sp .pages → Every (OfBook sp) (blanks sp (slotAt n) (2 * sp .pages - n))
+unfolding slotAt bookWords
+rest-proper sp n u = row-proper sp (slotAt n) (λ j. 0) (2 * sp .pages - n) (omega arith) (λ j w. omega arith)
 
-pub mark-proper : (sp : Space) → Every (OfBook sp) (put sp 0 mark ∷ [])
-mark-proper sp = more (header-proper sp 0 mark (omega arith) (omega arith)) none
+pub header-writes-proper : (sp : Space) (free : ℕ) → sp .pages < 2 ^ 64 → sp .root < 2 ^ 64 → free < 2 ^ 64 → Every (OfBook sp) (header sp free)
+unfolding header pagesAt rootAt ticketsAt freeAt asideAt bookWords
+header-writes-proper sp free u r v =
+    more (header-proper sp pagesAt _ (omega arith) u)
+    (more (header-proper sp rootAt _ (omega arith) r)
+    (more (header-proper sp ticketsAt 0 (omega arith) (omega arith))
+    (more (header-proper sp freeAt _ (omega arith) v) (row-proper sp asideAt (λ j. 0) (headerWords - asideAt) (omega arith) (λ j w. omega arith)))))
+
+pub mark-proper : (sp : Space) (w : ℕ) → w < 2 ^ 64 → Every (OfBook sp) (put sp markAt w ∷ [])
+unfolding markAt headerWords
+mark-proper sp w u = more (header-proper sp markAt w (omega arith) u) none

@@ -1,93 +1,69 @@
 -- Releasing the oldest pages set aside keeps the book true, and releases exactly those whose number is below the ticket.
 use Prim.Native.Nat.{ℕ, _+_, _-_, _^_, _<_, _≤_}
 use mathlib.Core.Bool.{Bool, true, false, cond}
-use mathlib.Core.List.{[], _∷_}
+use mathlib.Core.List.{List, [], _∷_}
 use mathlib.Core.Logic.{_⊎_, inl, inr, _≢_}
 use mathlib.Core.Path.{_≡_, refl, sym, ap, _∙_}
 use native.Mathlib.Omega.{arith}
 use borrow.Author.Tests.{le-leb, leb-true, leb-false}
 use lib.Dec.{leb}
-use Rattle.word.specs.Memory.{set}
 use Rattle.word.specs.Writes.{after}
 use Rattle.tables.specs.Roles.{Role, free, aside, book}
 use Rattle.pool.specs.declared.Space.{Space}
 use Rattle.pool.specs.declared.Book.{Book}
+use Rattle.pool.specs.Layout.{markAt, pagesAt, rootAt, headAt, freeAt, asideAt, ticketsAt, headerWords, slotAt}
 use Rattle.pool.specs.Book.{wordOf, bookOf, spotOf, pageAt, Sound}
-use Rattle.pool.specs.Changes.{put, releaseWrites}
+use Rattle.pool.specs.Changes.{releaseWrites}
 use Rattle.pool.specs.Book.{dueOf, ticketOf}
 use Rattle.pool.specs.declared.Due.the-variants as due
 use Rattle.pool.specs.Booked.{Lists, Booked, released, Numbered}
 use Rattle.pool.proofs.Counts.{is-sound}
 use Rattle.tables.specs.Unseen.{Shifted}
 use Rattle.pool.proofs.Lists.{among, lists-same, lists-thawed, thawed-free, thawed-stays, thawed-shifted}
-use Rattle.pool.proofs.Booked.{after-put, word-same, word-other, made}
+use Rattle.pool.proofs.Words.{header-slot, puts, becomes, puts-word, puts-book}
+use Rattle.pool.proofs.Booked.{numbered-by, changed}
 
 module _ {sp : Space} {m : ℕ → ℕ} {role : ℕ → Role} (b : Booked sp m role) (k : ℕ) (u : k ≤ bookOf m sp .aside) where
+  -- what is written, the memory after it, and its book
+  words : List (ℕ × ℕ)
+  words = (freeAt, bookOf m sp .free + k) ∷ (asideAt, bookOf m sp .aside - k) ∷ (ticketsAt, bookOf m sp .tickets + k) ∷ []
+
+  writes-are : releaseWrites sp (bookOf m sp) k ≡ puts sp words
+  unfolding releaseWrites puts words
+  writes-are = rw (le-leb k (bookOf m sp .aside) u, is-sound (sp .pages) (bookOf m sp) (b .sound))
+
   then : ℕ → ℕ
-  then =
-      set
-      (set (set m (wordOf sp 3) (bookOf m sp .free + k)) (wordOf sp 4) (bookOf m sp .aside - k))
-      (wordOf sp 5)
-      (bookOf m sp .tickets + k)
-
-  is-then : after m (releaseWrites sp (bookOf m sp) k) ≡ then
-  unfolding then releaseWrites after
-  is-then =
-      rw (le-leb k (bookOf m sp .aside) u, is-sound (sp .pages) (bookOf m sp) (b .sound))
-      (after-put m sp 3 (bookOf m sp .free + k) (put sp 4 (bookOf m sp .aside - k) ∷ put sp 5 (bookOf m sp .tickets + k) ∷ [])
-      ∙ after-put (set m (wordOf sp 3) (bookOf m sp .free + k)) sp 4 (bookOf m sp .aside - k) (put sp 5 (bookOf m sp .tickets + k) ∷ [])
-      ∙ after-put (set (set m (wordOf sp 3) (bookOf m sp .free + k)) (wordOf sp 4) (bookOf m sp .aside - k)) sp 5 (bookOf m sp .tickets + k) [])
-
-  other : (j : ℕ) → j ≢ 3 → j ≢ 4 → j ≢ 5 → then (wordOf sp j) ≡ m (wordOf sp j)
-  unfolding then
-  other j x y z =
-      word-other _ sp 5 _ j (λ e. z (sym e)) ∙ word-other _ sp 4 _ j (λ e. y (sym e)) ∙ word-other m sp 3 _ j (λ e. x (sym e))
-
-  free-then : then (wordOf sp 3) ≡ bookOf m sp .free + k
-  unfolding then
-  free-then = word-other _ sp 5 _ 3 (omega arith) ∙ word-other _ sp 4 _ 3 (omega arith) ∙ word-same m sp 3 _
-
-  aside-then : then (wordOf sp 4) ≡ bookOf m sp .aside - k
-  unfolding then
-  aside-then = word-other _ sp 5 _ 4 (omega arith) ∙ word-same _ sp 4 _
-
-  tickets-then : then (wordOf sp 5) ≡ bookOf m sp .tickets + k
-  unfolding then
-  tickets-then = word-same _ sp 5 _
+  then = after m (puts sp words)
 
   now : Book
   now = record { head = bookOf m sp .head; free = bookOf m sp .free + k; aside = bookOf m sp .aside - k; tickets = bookOf m sp .tickets + k }
 
   book-then : bookOf then sp ≡ now
-  unfolding now
-  book-then = rw (other 2 (omega arith) (omega arith) (omega arith), free-then, aside-then, tickets-then)
+  unfolding then now words becomes headAt freeAt asideAt ticketsAt
+  book-then = puts-book m sp words
 
   -- THE BOOK AFTER IT
   pub release-book : bookOf (after m (releaseWrites sp (bookOf m sp) k)) sp
       ≡ record { head = bookOf m sp .head; free = bookOf m sp .free + k; aside = bookOf m sp .aside - k; tickets = bookOf m sp .tickets + k }
-  unfolding now
-  release-book = ap (λ f. bookOf f sp) is-then ∙ book-then
+  unfolding then now
+  release-book = rw writes-are book-then
 
   page-then : (j : ℕ) → pageAt then sp j ≡ pageAt m sp j
-  unfolding pageAt
+  unfolding pageAt then now words becomes freeAt asideAt ticketsAt headerWords
   page-then j =
-      rw (other 2 (omega arith) (omega arith) (omega arith))
-      (other (8 + spotOf (sp .pages) (bookOf m sp .head) j) (omega arith) (omega arith) (omega arith))
+      let s = spotOf (sp .pages) (bookOf m sp .head) j in
+      ap (λ (x : Book). then (wordOf sp (slotAt (spotOf (sp .pages) (x .head) j)))) book-then
+      ∙ puts-word m sp words (slotAt s)
+      ∙ rw (header-slot freeAt s (omega arith), header-slot asideAt s (omega arith), header-slot ticketsAt s (omega arith))
 
-  -- a page of the book does not change
-  still-book : (p : ℕ) → role p ≡ book → (j : ℕ) → j < k → pageAt m sp (bookOf m sp .free + j) ≢ p
-  still-book p e j v x =
-      let f : role p ≡ aside = ap role (sym x) ∙ b .lists .asides j (omega arith) in
-      let z : _≡_ {A = ℕ} 0 1 = cc in
-      omega arith
-
-  no-book : (p : ℕ) → released m sp k role p ≡ book
-      → ((j : ℕ) × (j < k) × (pageAt m sp (bookOf m sp .free + j) ≡ p)) ⊎ ((j : ℕ) → j < k → pageAt m sp (bookOf m sp .free + j) ≢ p) → role p ≡ book
-  no-book p e (inl r) =
-      let f : released m sp k role p ≡ free = ap (released m sp k role) (sym (r .2)) ∙ thawed-free (pageAt m sp) (bookOf m sp .free) k role (r .0) (r .1) in
-      let z : _≡_ {A = ℕ} 0 1 = cc in
-      absurd (omega arith)
-  no-book p e (inr r) = sym (thawed-stays (pageAt m sp) (bookOf m sp .free) k role p r) ∙ e
+  -- a page that is released was set aside, and is free
+  no-book : (p : ℕ) → ((j : ℕ) × (j < k) × (pageAt m sp (bookOf m sp .free + j) ≡ p)) ⊎ ((j : ℕ) → j < k → pageAt m sp (bookOf m sp .free + j) ≢ p)
+      → (released m sp k role p ≡ role p) ⊎ ((role p ≢ book) × (released m sp k role p ≢ book))
+  no-book p (inl r) =
+      let was : role p ≡ aside = ap role (sym (r .2)) ∙ b .lists .asides (r .0) (omega (arith, r .1)) in
+      let is : released m sp k role p ≡ free = ap (released m sp k role) (sym (r .2)) ∙ thawed-free (pageAt m sp) (bookOf m sp .free) k role (r .0) (r .1) in
+      inr (λ e. let z : _≡_ {A = ℕ} 0 1 = cc in omega arith, λ e. let z : _≡_ {A = ℕ} 0 1 = cc in omega arith)
+  no-book p (inr r) = inl (thawed-stays (pageAt m sp) (bookOf m sp .free) k role p r)
 
   lists-then : Lists (pageAt then sp) (now .free) (now .aside) (released m sp k role)
   unfolding now
@@ -95,15 +71,12 @@ module _ {sp : Space} {m : ℕ → ℕ} {role : ℕ → Role} (b : Booked sp m r
 
   -- THE k OLDEST PAGES SET ASIDE BECOME FREE
   pub release-booked : bookOf m sp .tickets + k ≤ 2 ^ 62 → Booked sp (after m (releaseWrites sp (bookOf m sp) k)) (released m sp k role)
-  unfolding now
+  unfolding then now words becomes markAt pagesAt rootAt freeAt asideAt ticketsAt
   release-booked w =
-      rw is-then
-      (made then now book-then (other 0 (omega arith) (omega arith) (omega arith) ∙ b .marked) (other 1 (omega arith) (omega arith) (omega arith) ∙ b .sized) sound-then lists-then
-      (λ p x y. thawed-stays (pageAt m sp) (bookOf m sp .free) k role p (still-book p (b .in-book p x y)) ∙ b .in-book p x y)
-      (λ p e. b .no-other p (no-book p e (among (λ j. pageAt m sp (bookOf m sp .free + j)) k p))))
-    where
-      sound-then : Sound (sp .pages) now
-      sound-then = record { small = b .sound .small; head-in = b .sound .head-in; room = omega (arith, b .sound .room); early = w }
+      rw writes-are
+      (changed b words now book-then (λ w. (refl, refl, refl))
+      (record { small = b .sound .small; head-in = b .sound .head-in; room = omega (arith, b .sound .room); early = w }) lists-then
+      (λ p. no-book p (among (λ j. pageAt m sp (bookOf m sp .free + j)) k p)))
 
   -- no walk comes to a page that changes its role
   pub release-shifted : Shifted role (released m sp k role)
@@ -116,9 +89,10 @@ module _ {sp : Space} {m : ℕ → ℕ} {role : ℕ → Role} (b : Booked sp m r
 
   -- any other keeps its number, and stays set aside
   pub release-keeps : (p n : ℕ) → Numbered m sp p n → bookOf m sp .tickets + k ≤ n → Numbered (after m (releaseWrites sp (bookOf m sp) k)) sp p n
+  unfolding then now
   release-keeps p n h v =
-      rw (is-then, free-then, aside-then, tickets-then)
-      (h .0 - k, omega (arith, h .1, h .3), page-then (bookOf m sp .free + k + (h .0 - k)) ∙ ap (pageAt m sp) (omega (arith, h .3)) ∙ h .2, omega (arith, h .3))
+      rw writes-are
+      (numbered-by sp then book-then (h .0 - k, omega (arith, h .1, h .3), page-then (bookOf m sp .free + k + (h .0 - k)) ∙ ap (pageAt m sp) (omega (arith, h .3)) ∙ h .2, omega (arith, h .3)))
 
   pub release-stays : (p n : ℕ) → Numbered m sp p n → bookOf m sp .tickets + k ≤ n → released m sp k role p ≡ aside
   release-stays p n h v =

@@ -1,80 +1,80 @@
 -- Setting a table aside keeps the book true: there is a slot for it, since all pages are counted.
 use Prim.Native.Nat.{ℕ, _+_, _<_, _≤_}
-use mathlib.Core.List.{[], _∷_}
-use mathlib.Core.Logic.{_≢_}
+use mathlib.Core.List.{List, [], _∷_}
+use mathlib.Core.Logic.{_⊎_, inl, inr, _≢_}
 use mathlib.Core.Path.{_≡_, refl, sym, ap, _∙_}
 use native.Mathlib.Decide.{ℕ-discrete}
 use native.Mathlib.Omega.{arith}
+use borrow.Author.Tests.{eq-eqb, ne-eqb}
 use Rattle.word.specs.Memory.{set}
 use Rattle.word.specs.Writes.{after}
 use Rattle.word.proofs.Set.{set-at, set-other}
-use Rattle.tables.specs.Roles.{Role, free, aside, book, table}
+use Rattle.tables.specs.Roles.{Role, aside, book, table}
 use Rattle.pool.specs.declared.Space.{Space}
 use Rattle.pool.specs.declared.Book.{Book}
-use Rattle.pool.specs.Book.{bookPages, wordOf, bookOf, spotOf, pageAt, Sound}
-use Rattle.pool.specs.Changes.{put, asideWrites, asideBook}
+use Rattle.pool.specs.Layout.{markAt, pagesAt, rootAt, headAt, freeAt, asideAt, ticketsAt, headerWords, slotAt, bookPages}
+use Rattle.pool.specs.Book.{wordOf, bookOf, spotOf, pageAt, Sound}
+use Rattle.pool.specs.Changes.{asideWrites, asideBook}
 use Rattle.pool.specs.Booked.{Lists, Booked, Numbered, tablesOf, isTable}
 use Rattle.pool.proofs.Counts.{is-sound, spot-once}
 use Rattle.pool.proofs.Lists.{lists-aside}
 use Rattle.pool.proofs.Census.{many-some}
 use Rattle.pool.proofs.Pages.{Owned, adds-up}
-use Rattle.pool.proofs.Booked.{after-put, word-same, word-other, made}
+use Rattle.pool.proofs.Words.{header-slot, slot-header, slot-once, puts, becomes, puts-word, puts-book}
+use Rattle.pool.proofs.Booked.{numbered-by, changed}
 
 module _ {sp : Space} {m : ℕ → ℕ} {role : ℕ → Role} (b : Booked sp m role) (p : ℕ) where
-  -- where it is listed
+  -- the slot where it is listed
   place : ℕ
-  place = 8 + spotOf (sp .pages) (bookOf m sp .head) (bookOf m sp .free + bookOf m sp .aside)
+  place = spotOf (sp .pages) (bookOf m sp .head) (bookOf m sp .free + bookOf m sp .aside)
 
-  -- the memory after it
+  -- what is written, the memory after it, and its book
+  words : List (ℕ × ℕ)
+  words = (slotAt place, p) ∷ (asideAt, bookOf m sp .aside + 1) ∷ []
+
+  writes-are : asideWrites sp (bookOf m sp) p ≡ puts sp words
+  unfolding asideWrites puts words place
+  writes-are = rw (is-sound (sp .pages) (bookOf m sp) (b .sound))
+
   then : ℕ → ℕ
-  unfolding place
-  then = set (set m (wordOf sp place) p) (wordOf sp 4) (bookOf m sp .aside + 1)
-
-  is-then : after m (asideWrites sp (bookOf m sp) p) ≡ then
-  unfolding place then asideWrites after
-  is-then = rw (is-sound (sp .pages) (bookOf m sp) (b .sound))
-      (after-put m sp place p (put sp 4 (bookOf m sp .aside + 1) ∷ []) ∙ after-put (set m (wordOf sp place) p) sp 4 (bookOf m sp .aside + 1) [])
-
-  other : (j : ℕ) → j ≢ 4 → j ≢ place → then (wordOf sp j) ≡ m (wordOf sp j)
-  unfolding then
-  other j x y = word-other _ sp 4 _ j (λ e. x (sym e)) ∙ word-other m sp place p j (λ e. y (sym e))
-
-  low : (j : ℕ) → j < 8 → j ≢ place
-  unfolding place
-  low j u e = omega arith
-
-  aside-then : then (wordOf sp 4) ≡ bookOf m sp .aside + 1
-  unfolding then
-  aside-then = word-same _ sp 4 _
-
-  slot-then : then (wordOf sp place) ≡ p
-  unfolding then
-  slot-then = word-other _ sp 4 _ place (λ e. low 4 (omega arith) e) ∙ word-same m sp place p
+  then = after m (puts sp words)
 
   now : Book
   now = record { head = bookOf m sp .head; free = bookOf m sp .free; aside = bookOf m sp .aside + 1; tickets = bookOf m sp .tickets }
 
+  -- a word of the header that is not that count
+  stays : (k w : ℕ) → k < headerWords → asideAt ≢ k → becomes words k w ≡ w
+  unfolding words becomes
+  stays k w u d = rw (slot-header k place u, ne-eqb asideAt k d)
+
   book-then : bookOf then sp ≡ now
-  unfolding now
-  book-then =
-      rw (other 2 (omega arith) (low 2 (omega arith)), other 3 (omega arith) (low 3 (omega arith)), aside-then, other 5 (omega arith) (low 5 (omega arith)))
+  unfolding then now words becomes headAt freeAt asideAt ticketsAt headerWords
+  book-then = puts-book m sp words ∙ rw (slot-header headAt place (omega arith), slot-header freeAt place (omega arith), slot-header ticketsAt place (omega arith))
 
   -- what the code goes on with is what is written
   pub aside-book : asideBook sp (bookOf m sp) ≡ bookOf (after m (asideWrites sp (bookOf m sp) p)) sp
-  unfolding now asideBook
-  aside-book = rw (is-then, is-sound (sp .pages) (bookOf m sp) (b .sound)) (sym book-then)
+  unfolding then now asideBook
+  aside-book = rw (writes-are, is-sound (sp .pages) (bookOf m sp) (b .sound)) (sym book-then)
+
+  slot-then : (j : ℕ) → place ≢ j → then (wordOf sp (slotAt j)) ≡ m (wordOf sp (slotAt j))
+  unfolding then words becomes asideAt headerWords
+  slot-then j d = puts-word m sp words (slotAt j) ∙ rw (ne-eqb (slotAt place) (slotAt j) (λ e. d (slot-once place j e)), header-slot asideAt j (omega arith))
+
+  place-then : then (wordOf sp (slotAt place)) ≡ p
+  unfolding then words becomes asideAt headerWords
+  place-then = puts-word m sp words (slotAt place) ∙ rw (eq-eqb (slotAt place) (slotAt place) refl, header-slot asideAt place (omega arith))
 
   page-then : (j : ℕ) → j < bookOf m sp .free + bookOf m sp .aside → pageAt then sp j ≡ pageAt m sp j
-  unfolding pageAt place
+  unfolding pageAt now place
   page-then j u =
       let s = b .sound in
-      rw (other 2 (omega arith) (low 2 (omega arith)))
-      (other (8 + spotOf (sp .pages) (bookOf m sp .head) j) (omega arith)
-      (λ e. omega (arith, spot-once (sp .pages) (bookOf m sp .head) j (bookOf m sp .free + bookOf m sp .aside) (s .head-in) (omega (arith, s .room)) (omega (arith, s .room)) (omega arith))))
+      ap (λ (x : Book). then (wordOf sp (slotAt (spotOf (sp .pages) (x .head) j)))) book-then
+      ∙ slot-then (spotOf (sp .pages) (bookOf m sp .head) j)
+      (λ e. omega (arith, spot-once (sp .pages) (bookOf m sp .head) (bookOf m sp .free + bookOf m sp .aside) j (s .head-in) (omega (arith, s .room)) (omega (arith, s .room)) e))
 
   last-then : pageAt then sp (bookOf m sp .free + bookOf m sp .aside) ≡ p
-  unfolding pageAt place
-  last-then = rw (other 2 (omega arith) (low 2 (omega arith))) slot-then
+  unfolding pageAt now place
+  last-then = ap (λ (x : Book). then (wordOf sp (slotAt (spotOf (sp .pages) (x .head) (bookOf m sp .free + bookOf m sp .aside))))) book-then ∙ place-then
 
   module _ (o : Owned sp role) (l q i : ℕ) (is : role p ≡ table l q i) where
     -- there is a table, so not all pages are listed
@@ -93,27 +93,27 @@ module _ {sp : Space} {m : ℕ → ℕ} {role : ℕ → Role} (b : Booked sp m r
     lists-then =
         lists-aside (b .lists) (λ e. let z : _≡_ {A = ℕ} 0 1 = cc in omega arith) (λ e. let z : _≡_ {A = ℕ} 0 1 = cc in omega arith) page-then last-then
 
-    no-book : (x : ℕ) → set role p aside x ≡ book → Dec (p ≡ x) → role x ≡ book
-    no-book x e (yes d) = let f = sym (set-at role p aside x d) ∙ e in let z : _≡_ {A = ℕ} 0 1 = cc in absurd (omega arith)
-    no-book x e (no d) = sym (set-other role p aside x d) ∙ e
-
-    still-book : (x : ℕ) → role x ≡ book → set role p aside x ≡ book
-    still-book x e = set-other role p aside x (λ d. let f : role x ≡ table l q i = ap role (sym d) ∙ is in let z : _≡_ {A = ℕ} 0 1 = cc in omega arith) ∙ e
+    -- it was a table
+    no-book : (x : ℕ) → Dec (p ≡ x) → (set role p aside x ≡ role x) ⊎ ((role x ≢ book) × (set role p aside x ≢ book))
+    no-book x (yes d) =
+        let was : role x ≡ table l q i = ap role (sym d) ∙ is in
+        let now = set-at role p aside x d in
+        inr (λ e. let z : _≡_ {A = ℕ} 0 1 = cc in omega arith, λ e. let z : _≡_ {A = ℕ} 0 1 = cc in omega arith)
+    no-book x (no d) = inl (set-other role p aside x d)
 
     -- A TABLE IS SET ASIDE
     pub aside-booked : Booked sp (after m (asideWrites sp (bookOf m sp) p)) (set role p aside)
+    unfolding then markAt pagesAt rootAt asideAt headerWords
     aside-booked =
-        rw is-then
-        (made then now book-then (other 0 (omega arith) (low 0 (omega arith)) ∙ b .marked) (other 1 (omega arith) (low 1 (omega arith)) ∙ b .sized) sound-then lists-then
-        (λ x u v. still-book x (b .in-book x u v)) (λ x e. b .no-other x (no-book x e (ℕ-discrete p x))))
+        rw writes-are
+        (changed b words now book-then (λ w. (stays markAt w (omega arith) (omega arith), stays pagesAt w (omega arith) (omega arith), stays rootAt w (omega arith) (omega arith))) sound-then lists-then
+        (λ x. no-book x (ℕ-discrete p x)))
 
   -- it gets the number that the ticket of the moment before was, and the others keep theirs
   pub aside-numbered : Numbered (after m (asideWrites sp (bookOf m sp) p)) sp p (bookOf m sp .tickets + bookOf m sp .aside)
-  aside-numbered =
-      rw (is-then, aside-then, other 5 (omega arith) (low 5 (omega arith)), other 3 (omega arith) (low 3 (omega arith)))
-      (bookOf m sp .aside, omega arith, last-then, refl)
+  unfolding then now
+  aside-numbered = rw writes-are (numbered-by sp then book-then (bookOf m sp .aside, omega arith, last-then, refl))
 
   pub aside-others : (x n : ℕ) → Numbered m sp x n → Numbered (after m (asideWrites sp (bookOf m sp) p)) sp x n
-  aside-others x n h =
-      rw (is-then, aside-then, other 5 (omega arith) (low 5 (omega arith)), other 3 (omega arith) (low 3 (omega arith)))
-      (h .0, omega (arith, h .1), page-then (bookOf m sp .free + h .0) (omega (arith, h .1)) ∙ h .2, h .3)
+  unfolding then now
+  aside-others x n h = rw writes-are (numbered-by sp then book-then (h .0, omega (arith, h .1), page-then (bookOf m sp .free + h .0) (omega (arith, h .1)) ∙ h .2, h .3))

@@ -1,5 +1,4 @@
--- The book of a pool: eight words, then a slot for each page of the pool; word k is entry k % 512 of the pool's page k / 512.
---   word 0 the mark · 1 the number of pages · 2 head · 3 free · 4 aside · 5 tickets · 6, 7 nothing yet · 8 + j slot j
+-- The book of a pool, in the pool's first pages; Layout.antt says which word of it is what. Word k is entry k % 512 of the pool's page k / 512.
 -- The slots are a ring. From the head on it lists the free pages, oldest first, and right behind them the pages set aside, oldest first.
 -- Everything here is over a memory m, with h: which pages lie in the window.
 use Prim.Native.Nat.{ℕ, _+_, _-_, _*_, _/_, _^_, _<_, _≤_}
@@ -16,21 +15,19 @@ use Rattle.pool.specs.declared.Listed.{Listed}
 use Rattle.pool.specs.declared.Listed.the-variants.{Page, Bad}
 use Rattle.pool.specs.declared.Due.{Due}
 use Rattle.pool.specs.declared.Due.the-variants.{Pages, Unknown, Spent}
-
--- how many pages a book has
-unfoldable pub bookPages : ℕ → ℕ
-bookPages pages = (pages + 519) / 512
+use Rattle.pool.specs.Layout.{markAt, pagesAt, rootAt, headAt, freeAt, asideAt, ticketsAt, slotAt, bookPages}
 
 -- the number of word k of the book, in memory
 abbrev pub wordOf : Space → ℕ → ℕ
 wordOf sp k = 512 * sp .first + k
 
+-- "the-book" in ASCII
 abbrev pub mark : ℕ
-mark = 7741528751714166900
+mark = 7741528751932270708
 
 -- the header's counts
 abbrev pub bookOf : (ℕ → ℕ) → Space → Book
-bookOf m sp = record { head = m (wordOf sp 2); free = m (wordOf sp 3); aside = m (wordOf sp 4); tickets = m (wordOf sp 5) }
+bookOf m sp = record { head = m (wordOf sp headAt); free = m (wordOf sp freeAt); aside = m (wordOf sp asideAt); tickets = m (wordOf sp ticketsAt) }
 
 -- the slot k positions behind the head, on a ring of so many slots
 unfoldable pub spotOf : ℕ → ℕ → ℕ → ℕ
@@ -38,7 +35,7 @@ spotOf pages head k = cond (ltb k (pages - head)) (head + k) (k - (pages - head)
 
 -- the page at position k
 unfoldable pub pageAt : (ℕ → ℕ) → Space → ℕ → ℕ
-pageAt m sp k = m (wordOf sp (8 + spotOf (sp .pages) (bookOf m sp .head) k))
+pageAt m sp k = m (wordOf sp (slotAt (spotOf (sp .pages) (bookOf m sp .head) k)))
 
 -- What is tested --------------------------------------------------------------------------------------------------------------
 
@@ -67,22 +64,38 @@ pub record Sound (pages : ℕ) (b : Book) : Type 0 where
   pub room : b .free + b .aside + bookPages pages + 1 ≤ pages
   pub early : b .tickets ≤ 2 ^ 62
 
-unfoldable pub checkedOf : Space → ℕ → ℕ → Book → Opened
-checkedOf sp first second b =
-    cond (eqb first mark)
-    (cond (eqb second (sp .pages)) (cond (soundOf (sp .pages) b) (opened.Book b) (opened.Refused BadBook)) (opened.Refused OtherBook))
-    (opened.Refused NoBook)
+-- the header is that of a book of so many pages, with that root
+unfoldable pub headedOf : (ℕ → ℕ) → Space → Fit
+headedOf m sp =
+    cond (eqb (m (wordOf sp markAt)) mark)
+    (cond (eqb (m (wordOf sp pagesAt)) (sp .pages))
+    (cond (eqb (m (wordOf sp rootAt)) (sp .root)) fit.Fits (fit.Refused BadRoot))
+    (fit.Refused OtherBook))
+    (fit.Refused NoBook)
 
-unfoldable pub headerOf : (ℕ → ℕ) → Space → Opened
-headerOf m sp = checkedOf sp (m (wordOf sp 0)) (m (wordOf sp 1)) (bookOf m sp)
+-- and the root is a page of the pool behind the book
+unfoldable pub rootedIn : Space → Fit → Fit
+rootedIn sp fit.Fits = cond (inPool sp (sp .root)) fit.Fits (fit.Refused BadRoot)
+rootedIn sp (fit.Refused r) = fit.Refused r
+
+unfoldable pub namesIn : (ℕ → ℕ) → Space → Fit → Fit
+namesIn m sp fit.Fits = rootedIn sp (headedOf m sp)
+namesIn m sp (fit.Refused r) = fit.Refused r
+
+-- THE BOOK NAMES THIS SPACE: the pool lies in the window, and the book there has its mark, its pages and its root
+unfoldable pub namesOf : (ℕ → Bool) → (ℕ → ℕ) → Space → Fit
+namesOf h m sp = namesIn m sp (roomOf h (sp .first) (sp .pages))
+
+unfoldable pub countsOf : (ℕ → ℕ) → Space → Opened
+countsOf m sp = cond (soundOf (sp .pages) (bookOf m sp)) (opened.Book (bookOf m sp)) (opened.Refused BadBook)
 
 unfoldable pub openedIn : (ℕ → ℕ) → Space → Fit → Opened
-openedIn m sp fit.Fits = cond (inPool sp (sp .root)) (headerOf m sp) (opened.Refused BadRoot)
+openedIn m sp fit.Fits = countsOf m sp
 openedIn m sp (fit.Refused r) = opened.Refused r
 
--- WHAT OPENING ANSWERS
+-- WHAT OPENING ANSWERS: the counts of a book that names this space
 unfoldable pub openedOf : (ℕ → Bool) → (ℕ → ℕ) → Space → Opened
-openedOf h m sp = openedIn m sp (roomOf h (sp .first) (sp .pages))
+openedOf h m sp = openedIn m sp (namesOf h m sp)
 
 -- a page that can become a table: in the pool, not the book's and not the root
 unfoldable pub usableOf : Space → ℕ → Listed
@@ -95,7 +108,7 @@ namedOf h m sp k = cond (h (sp .first + k / 512)) (usableOf sp (m (wordOf sp k))
 -- the free page at position k
 unfoldable pub listedOf : (ℕ → Bool) → (ℕ → ℕ) → Space → Book → ℕ → Listed
 listedOf h m sp b k =
-    cond (ltb k (b .free) && soundOf (sp .pages) b) (namedOf h m sp (8 + spotOf (sp .pages) (b .head) k)) Bad
+    cond (ltb k (b .free) && soundOf (sp .pages) b) (namedOf h m sp (slotAt (spotOf (sp .pages) (b .head) k))) Bad
 
 -- Tickets ---------------------------------------------------------------------------------------------------------------------
 

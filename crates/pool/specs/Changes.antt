@@ -6,6 +6,7 @@ use lib.Dec.{leb}
 use Rattle.word.specs.Writes.{Write, write}
 use Rattle.pool.specs.declared.Space.{Space}
 use Rattle.pool.specs.declared.Book.{Book}
+use Rattle.pool.specs.Layout.{headAt, freeAt, asideAt, ticketsAt, slotAt}
 use Rattle.pool.specs.Book.{soundOf, spotOf}
 
 -- word k of the book becomes w
@@ -16,14 +17,14 @@ put sp k w = write (sp .first + k / 512) (k % 512) w
 unfoldable pub tookWrites : Space → Book → ℕ → List Write
 tookWrites sp b k =
     cond (leb k (b .free) && soundOf (sp .pages) b)
-    (put sp 2 (spotOf (sp .pages) (b .head) k) ∷ put sp 3 (b .free - k) ∷ [])
+    (put sp headAt (spotOf (sp .pages) (b .head) k) ∷ put sp freeAt (b .free - k) ∷ [])
     []
 
 -- page p is set aside, behind all others
 unfoldable pub asideWrites : Space → Book → ℕ → List Write
 asideWrites sp b p =
     cond (soundOf (sp .pages) b)
-    (put sp (8 + spotOf (sp .pages) (b .head) (b .free + b .aside)) p ∷ put sp 4 (b .aside + 1) ∷ [])
+    (put sp (slotAt (spotOf (sp .pages) (b .head) (b .free + b .aside))) p ∷ put sp asideAt (b .aside + 1) ∷ [])
     []
 
 unfoldable pub asideBook : Space → Book → Book
@@ -34,5 +35,5 @@ asideBook sp b =
 unfoldable pub releaseWrites : Space → Book → ℕ → List Write
 releaseWrites sp b k =
     cond (leb k (b .aside) && soundOf (sp .pages) b)
-    (put sp 3 (b .free + k) ∷ put sp 4 (b .aside - k) ∷ put sp 5 (b .tickets + k) ∷ [])
+    (put sp freeAt (b .free + k) ∷ put sp asideAt (b .aside - k) ∷ put sp ticketsAt (b .tickets + k) ∷ [])
     []

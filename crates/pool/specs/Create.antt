@@ -1,16 +1,17 @@
 -- What making a pool answers and writes.
-use Prim.Native.Nat.{ℕ, zero, suc, _+_, _-_, _%_, _^_, _<_, _≤_}
+use Prim.Native.Nat.{ℕ, zero, suc, _+_, _-_, _*_, _%_, _^_, _<_, _≤_}
 use mathlib.Core.Bool.{Bool, cond}
 use mathlib.Core.List.{List, [], _∷_, _++_}
 use lib.Dec.{eqb}
-use Rattle.word.specs.Writes.{Write, zeros}
+use Rattle.word.specs.Writes.{Write, write, zeros}
 use Rattle.pool.specs.declared.Space.{Space}
 use Rattle.pool.specs.declared.Fit.{Fit}
 use Rattle.pool.specs.declared.Fit.the-variants as fit
 use Rattle.pool.specs.declared.Reason.the-variants.{OriginUnaligned, LengthUnaligned}
 use Rattle.pool.specs.declared.Created.{Created}
 use Rattle.pool.specs.declared.Created.the-variants as created
-use Rattle.pool.specs.Book.{bookPages, mark, roomOf}
+use Rattle.pool.specs.Layout.{markAt, pagesAt, rootAt, ticketsAt, freeAt, asideAt, headerWords, slotAt, bookPages}
+use Rattle.pool.specs.Book.{mark, roomOf}
 use Rattle.pool.specs.Changes.{put}
 
 -- the window's ends are page boundaries, and the pool fits
@@ -24,23 +25,44 @@ mayCreate len h origin first pages =
 abbrev pub newSpace : ℕ → ℕ → ℕ → Space
 newSpace origin first pages = record { origin = origin; first = first; pages = pages; root = first + bookPages pages }
 
--- the first n slots list the pages from `from` on
-unfoldable pub fills : Space → ℕ → ℕ → List Write
-fills sp from zero = []
-fills sp from (suc n) = fills sp from n ++ (put sp (8 + n) (from + n) ∷ [])
+-- n words of the book, from word k on, become f 0, f 1, ..
+unfoldable pub row : Space → ℕ → (ℕ → ℕ) → ℕ → List Write
+row sp k f zero = []
+row sp k f (suc n) = row sp k f n ++ (put sp (k + n) (f n) ∷ [])
 
--- a header without its mark
-unfoldable pub counts : Space → ℕ → List Write
-counts sp free =
-    put sp 1 (sp .pages) ∷ put sp 2 0 ∷ put sp 3 free ∷ put sp 4 0 ∷ put sp 5 0 ∷ put sp 6 0 ∷ put sp 7 0 ∷ []
+-- the first n slots list the pages from `from` on
+abbrev pub fills : Space → ℕ → ℕ → List Write
+fills sp from n = row sp (slotAt 0) (λ j. from + j) n
+
+-- n words from word k on become 0
+abbrev pub blanks : Space → ℕ → ℕ → List Write
+blanks sp k n = row sp k (λ j. 0) n
+
+-- n pages from page p on begin with 0, where a book would have its mark
+unfoldable pub unmarks : ℕ → ℕ → List Write
+unmarks p zero = []
+unmarks p (suc n) = unmarks p n ++ (write (p + n) markAt 0 ∷ [])
+
+-- no mark is left, here or in the n pages behind the root
+unfoldable pub bared : Space → ℕ → List Write
+bared sp n = put sp markAt 0 ∷ unmarks (sp .root + 1) n
+
+-- the first n slots list the pages behind the root; every other slot is 0, and every count
+unfoldable pub slots : Space → ℕ → List Write
+slots sp n = fills sp (sp .root + 1) n ++ blanks sp (slotAt n) (2 * sp .pages - n)
+
+-- a header without its mark: the pool's pages and its root, how many pages are free, and else 0
+unfoldable pub header : Space → ℕ → List Write
+header sp free =
+    put sp pagesAt (sp .pages) ∷ put sp rootAt (sp .root) ∷ put sp ticketsAt 0 ∷ put sp freeAt free ∷ blanks sp asideAt (headerWords - asideAt)
 
 -- how many pages of a new pool are free
 abbrev pub newFree : Space → ℕ
 newFree sp = sp .pages - bookPages (sp .pages) - 1
 
--- the slots, the counts, the root, and the mark last
+-- first no mark; then the slots and the counts, the header, the root, and the mark last
 unfoldable pub layOut : Space → List Write
-layOut sp = fills sp (sp .root + 1) (newFree sp) ++ (counts sp (newFree sp) ++ (zeros (sp .root) 512 ++ (put sp 0 mark ∷ [])))
+layOut sp = bared sp (newFree sp) ++ (slots sp (newFree sp) ++ (header sp (newFree sp) ++ (zeros (sp .root) 512 ++ (put sp markAt mark ∷ []))))
 
 -- there is room for the book, the root and a page more, and the numbers are small
 pub record Roomy (sp : Space) : Type 0 where

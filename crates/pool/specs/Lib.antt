@@ -1,3 +1,4 @@
+pub mod Layout
 pub mod Book
 pub mod Changes
 pub mod Create

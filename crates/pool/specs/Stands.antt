@@ -9,18 +9,13 @@ use Rattle.word.specs.declared.Cell.{Cell}
 use Rattle.word.specs.declared.Cell.the-variants.{Outside}
 use Rattle.pool.specs.declared.Space.{Space}
 use Rattle.pool.specs.declared.Book.{Book}
-use Rattle.pool.specs.declared.Reason.the-variants.{BadRoot}
 use Rattle.pool.specs.declared.Fit.{Fit}
-use Rattle.pool.specs.declared.Fit.the-variants.{Fits, Refused}
-use Rattle.pool.specs.Book.{bookPages, inPool, roomOf, soundOf}
-
-unfoldable pub standsIn : Space → Fit → Fit
-standsIn sp Fits = cond (inPool sp (sp .root)) Fits (Refused BadRoot)
-standsIn sp (Refused r) = Refused r
+use Rattle.pool.specs.Layout.{bookPages}
+use Rattle.pool.specs.Book.{roomOf, rootedIn, soundOf}
 
 -- the pool lies in the window with its book, and the root behind that
 unfoldable pub standsOf : (ℕ → Bool) → Space → Fit
-standsOf h sp = standsIn sp (roomOf h (sp .first) (sp .pages))
+standsOf h sp = rootedIn sp (roomOf h (sp .first) (sp .pages))
 
 -- what reading entry i of page p answers, where the pool lies in the window and p is a page of it, and not the book's
 unfoldable pub entryOf : List ℕ → Space → ℕ → ℕ → Cell

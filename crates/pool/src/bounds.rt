@@ -3,17 +3,19 @@ ghost use mathlib.Core.Path.{_≡_};
 ghost use Prim.Native.Nat.{_+_, _-_, _^_, _<_, _≤_};
 ghost use Rattle.word.specs.Writes.{Wrote};
 ghost use Rattle.pool.specs.Book as the;
+ghost use Rattle.pool.specs.Layout.{bookPages};
 ghost use Rattle.pool.specs.Stands as stand;
 use crate::Space;
 use crate::book_pages;
+use crate::layout::HEADER;
 use word::Cell;
 
 // How many pages the book of a pool has, where the pool's pages can be counted.
 pub fn book_of(pages: u64) -> u64
     requires { ⌜ pages ≤ 2 ^ 32 ⌝ }
-    ensures { λ r. ⌜ r ≡ the.bookPages pages ⌝ }
+    ensures { λ r. ⌜ r ≡ bookPages pages ⌝ }
 {
-    (pages + 519) / 512
+    (HEADER + 2 * pages + 511) / 512
 }
 
 // By one comparison, where the pool's numbers are those of one in a window.

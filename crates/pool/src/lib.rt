@@ -7,21 +7,31 @@ ghost use Rattle.word.specs.Memory.{memory, holds};
 ghost use mathlib.Core.List.{[], _∷_};
 ghost use Rattle.word.specs.Writes.{Wrote};
 ghost use Rattle.pool.specs.Book as the;
+ghost use Rattle.pool.specs.Layout.{bookPages};
 ghost use Rattle.pool.specs.Changes as to;
 ghost use Rattle.pool.specs.Stands as stand;
 use word::Cell;
 
 mod bounds;
+mod header;
+mod layout;
 mod making;
 
 use bounds::book_of;
 pub use bounds::entry;
 pub use bounds::in_pool;
 pub use bounds::set_entry;
+pub use header::names;
+pub use header::open;
+use layout::ASIDE_AT;
+pub use layout::FREE_AT;
+use layout::HEAD_AT;
+pub use layout::HEADER;
+pub use layout::TICKETS_AT;
 pub use making::create;
 
-// "the book" in ASCII.
-const MARK: u64 = 7741528751714166900;
+// "the-book" in ASCII.
+const MARK: u64 = 7741528751932270708;
 // The most pages that a pool may have: 16 TiB of tables.
 const MOST: u64 = 4294967296;
 // Tickets end here; it takes a million releases a second for 146,000 years.
@@ -49,6 +59,7 @@ pub enum Reason {
     PoolLarge,
     PoolSmall,
     PoolOutside,
+    // no page of the pool behind its book, or not the one that the book names
     BadRoot,
     // there is no mark
     NoBook,
@@ -89,11 +100,11 @@ pub enum Due {
     Spent,
 }
 
-// How many pages the book of a pool has: eight words, and a slot for each page of the pool.
+// How many pages the book of a pool has: its header, and two words for each page of the pool.
 pub fn book_pages(pages: u64) -> u64
-    ensures { λ r. ⌜ r ≡ the.bookPages pages ⌝ }
+    ensures { λ r. ⌜ r ≡ bookPages pages ⌝ }
 {
-    pages / 512 + (pages % 512 + 519) / 512
+    pages / 256 + (HEADER + 2 * (pages % 256) + 511) / 512
 }
 
 // Does a pool of that many pages have room for a book, a root and a page more, and lie in the window?
@@ -134,65 +145,6 @@ fn sound(pages: u64, b: Book) -> bool
         return false;
     }
     b.tickets <= LAST
-}
-
-// The tests of a header.
-fn checked(space: Space, mark: u64, pages: u64, b: Book) -> Opened
-    ensures { λ r. ⌜ r ≡ the.checkedOf space mark pages b ⌝ }
-{
-    if mark != MARK {
-        return Opened::Refused(Reason::NoBook);
-    }
-    if pages != space.pages {
-        return Opened::Refused(Reason::OtherBook);
-    }
-    if sound(space.pages, b) {
-        return Opened::Book(b);
-    }
-    Opened::Refused(Reason::BadBook)
-}
-
-// Word i of a page in the window.
-fn get(mem: &[u8], origin: u64, p: u64, i: u64) -> u64
-    requires { ⌜ i < 512 ⌝ }
-    ensures { λ r. ⌜ (holds (now (mem .entry)) origin p ≡ true → r ≡ memory (now (mem .entry)) origin (512 * p + i)) ⌝ }
-{
-    let c = word::read(mem, origin, p, i);
-    match c {
-        Cell::Word(w) => w,
-        Cell::Outside => 0,
-    }
-}
-
-// The header of the book in a page of the window.
-fn header(mem: &[u8], space: Space) -> Opened
-    ensures { λ r. ⌜ (holds (now (mem .entry)) (space .origin) (space .first) ≡ true → r ≡ the.headerOf (memory (now (mem .entry)) (space .origin)) space) ⌝ }
-{
-    let mark = get(mem, space.origin, space.first, 0);
-    let pages = get(mem, space.origin, space.first, 1);
-    let b = Book {
-        head: get(mem, space.origin, space.first, 2),
-        free: get(mem, space.origin, space.first, 3),
-        aside: get(mem, space.origin, space.first, 4),
-        tickets: get(mem, space.origin, space.first, 5),
-    };
-    checked(space, mark, pages, b)
-}
-
-// The one function that reads a book's header, and tests all of it.
-pub fn open(mem: &[u8], space: Space) -> Opened
-    ensures { λ r. ⌜ r ≡ the.openedOf (holds (now (mem .entry)) (space .origin)) (memory (now (mem .entry)) (space .origin)) space ⌝ }
-{
-    let fit = room(mem, space.origin, space.first, space.pages);
-    match fit {
-        Fit::Refused(r) => Opened::Refused(r),
-        Fit::Fits => {
-            if in_pool(space, space.root) {
-                return header(mem, space);
-            }
-            Opened::Refused(Reason::BadRoot)
-        }
-    }
 }
 
 // The slot k positions behind the head, on the ring of slots.
@@ -243,7 +195,7 @@ pub fn free_page(mem: &[u8], space: Space, book: Book, k: u64) -> Listed
         return Listed::Bad;
     }
     if sound(space.pages, book) {
-        return named(mem, space, 8 + spot(space.pages, book.head, k));
+        return named(mem, space, HEADER + spot(space.pages, book.head, k));
     }
     Listed::Bad
 }
@@ -295,8 +247,8 @@ pub fn took(mem: &mut [u8], left: &mut u64, space: Space, book: Book, k: u64)
         return;
     }
     if sound(space.pages, book) {
-        put(mem, left, space, 2, spot(space.pages, book.head, k));
-        put(mem, left, space, 3, book.free - k);
+        put(mem, left, space, HEAD_AT, spot(space.pages, book.head, k));
+        put(mem, left, space, FREE_AT, book.free - k);
     }
 }
 
@@ -307,8 +259,8 @@ pub fn set_aside(mem: &mut [u8], left: &mut u64, space: Space, book: Book, p: u6
 {
     if sound(space.pages, book) {
         let at = spot(space.pages, book.head, book.free + book.aside);
-        put(mem, left, space, 8 + at, p);
-        put(mem, left, space, 4, book.aside + 1);
+        put(mem, left, space, HEADER + at, p);
+        put(mem, left, space, ASIDE_AT, book.aside + 1);
         return Book {
             head: book.head,
             free: book.free,
@@ -327,25 +279,9 @@ pub fn release(mem: &mut [u8], left: &mut u64, space: Space, book: Book, k: u64)
         return;
     }
     if sound(space.pages, book) {
-        put(mem, left, space, 3, book.free + k);
-        put(mem, left, space, 4, book.aside - k);
-        put(mem, left, space, 5, book.tickets + k);
-    }
-}
-
-// Does the space make sense: the pool in the window with its book, and the root behind that?
-pub fn stands(mem: &[u8], space: Space) -> Fit
-    ensures { λ r. ⌜ r ≡ stand.standsOf (holds (now (mem .entry)) (space .origin)) space ⌝ }
-{
-    let fit = room(mem, space.origin, space.first, space.pages);
-    match fit {
-        Fit::Refused(r) => Fit::Refused(r),
-        Fit::Fits => {
-            if in_pool(space, space.root) {
-                return Fit::Fits;
-            }
-            Fit::Refused(Reason::BadRoot)
-        }
+        put(mem, left, space, FREE_AT, book.free + k);
+        put(mem, left, space, ASIDE_AT, book.aside - k);
+        put(mem, left, space, TICKETS_AT, book.tickets + k);
     }
 }
 

@@ -1,6 +1,6 @@
 // Making a pool: its book, and an empty root.
 ghost use mathlib.Core.Path.{_≡_};
-ghost use Prim.Native.Nat.{_+_, _^_, _<_};
+ghost use Prim.Native.Nat.{_+_, _^_, _<_, _≤_};
 ghost use lib.ListN.{length};
 ghost use Rattle.word.specs.Memory.{holds};
 ghost use Rattle.word.specs.Writes.{Wrote};
@@ -11,6 +11,13 @@ use crate::MARK;
 use crate::Reason;
 use crate::Space;
 use crate::book_pages;
+use crate::layout::ASIDE_AT;
+use crate::layout::FREE_AT;
+use crate::layout::HEADER;
+use crate::layout::MARK_AT;
+use crate::layout::PAGES_AT;
+use crate::layout::ROOT_AT;
+use crate::layout::TICKETS_AT;
 use crate::put;
 use crate::room;
 
@@ -34,34 +41,76 @@ fn fill(mem: &mut [u8], left: &mut u64, space: Space, from: u64, n: u64)
 {
     let mut j: u64 = 0;
     while j < n {
-        put(mem, left, space, 8 + j, from + j);
+        put(mem, left, space, HEADER + j, from + j);
         j += 1;
     }
 }
 
-// All of the header but its mark: so many pages are free.
-fn count(mem: &mut [u8], left: &mut u64, space: Space, free: u64)
-    ensures { λ _. ⌜ Wrote (space .origin) (made.counts space free) (now (left .entry)) (now (left .exit)) (now (mem .entry)) (now (mem .exit)) ⌝ }
+// n words from word k on become 0.
+fn blank(mem: &mut [u8], left: &mut u64, space: Space, k: u64, n: u64)
+    requires { ⌜ k + n < 2 ^ 63 ⌝ }
+    ensures { λ _. ⌜ Wrote (space .origin) (made.blanks space k n) (now (left .entry)) (now (left .exit)) (now (mem .entry)) (now (mem .exit)) ⌝ }
 {
-    put(mem, left, space, 1, space.pages);
-    put(mem, left, space, 2, 0);
-    put(mem, left, space, 3, free);
-    put(mem, left, space, 4, 0);
-    put(mem, left, space, 5, 0);
-    put(mem, left, space, 6, 0);
-    put(mem, left, space, 7, 0);
+    let mut j: u64 = 0;
+    while j < n {
+        put(mem, left, space, k + j, 0);
+        j += 1;
+    }
 }
 
-// The book of a new pool, all of whose pages behind the root are free, and an empty root. The mark comes last: until then there is no book where there was none.
+// n pages from page p on begin with 0, where a book would have its mark.
+fn unmark(mem: &mut [u8], left: &mut u64, origin: u64, p: u64, n: u64)
+    requires { ⌜ p + n < 2 ^ 63 ⌝ }
+    ensures { λ _. ⌜ Wrote origin (made.unmarks p n) (now (left .entry)) (now (left .exit)) (now (mem .entry)) (now (mem .exit)) ⌝ }
+{
+    let mut j: u64 = 0;
+    while j < n {
+        word::write(mem, left, origin, p + j, MARK_AT, 0);
+        j += 1;
+    }
+}
+
+// No mark is left, here or in the n pages behind the root.
+fn bare(mem: &mut [u8], left: &mut u64, space: Space, n: u64)
+    requires { ⌜ (space .root < 2 ^ 41) × (n ≤ 2 ^ 32) ⌝ }
+    ensures { λ _. ⌜ Wrote (space .origin) (made.bared space n) (now (left .entry)) (now (left .exit)) (now (mem .entry)) (now (mem .exit)) ⌝ }
+{
+    put(mem, left, space, MARK_AT, 0);
+    unmark(mem, left, space.origin, space.root + 1, n);
+}
+
+// The first n slots list the pages behind the root; every other slot is 0, and every count.
+fn put_slots(mem: &mut [u8], left: &mut u64, space: Space, n: u64)
+    requires { ⌜ (space .root < 2 ^ 41) × (space .pages ≤ 2 ^ 32) × (n ≤ space .pages) ⌝ }
+    ensures { λ _. ⌜ Wrote (space .origin) (made.slots space n) (now (left .entry)) (now (left .exit)) (now (mem .entry)) (now (mem .exit)) ⌝ }
+{
+    fill(mem, left, space, space.root + 1, n);
+    blank(mem, left, space, HEADER + n, 2 * space.pages - n);
+}
+
+// All of the header but its mark: so many pages are free.
+fn put_header(mem: &mut [u8], left: &mut u64, space: Space, free: u64)
+    ensures { λ _. ⌜ Wrote (space .origin) (made.header space free) (now (left .entry)) (now (left .exit)) (now (mem .entry)) (now (mem .exit)) ⌝ }
+{
+    put(mem, left, space, PAGES_AT, space.pages);
+    put(mem, left, space, ROOT_AT, space.root);
+    put(mem, left, space, TICKETS_AT, 0);
+    put(mem, left, space, FREE_AT, free);
+    blank(mem, left, space, ASIDE_AT, HEADER - ASIDE_AT);
+}
+
+// The book of a new pool, all of whose pages behind the root are free, and an empty root. The mark goes first and comes last: in between there
+// is no book. No page that becomes free is left with the mark of an older one.
 fn lay_out(mem: &mut [u8], left: &mut u64, space: Space)
     requires { ⌜ made.Roomy space ⌝ }
     ensures { λ _. ⌜ Wrote (space .origin) (made.layOut space) (now (left .entry)) (now (left .exit)) (now (mem .entry)) (now (mem .exit)) ⌝ }
 {
     let free = space.pages - book_pages(space.pages) - 1;
-    fill(mem, left, space, space.root + 1, free);
-    count(mem, left, space, free);
+    bare(mem, left, space, free);
+    put_slots(mem, left, space, free);
+    put_header(mem, left, space, free);
     word::clear(mem, left, space.origin, space.root);
-    put(mem, left, space, 0, MARK);
+    put(mem, left, space, MARK_AT, MARK);
 }
 
 // Makes a pool of these pages, with its book and an empty root, or refuses and changes nothing.

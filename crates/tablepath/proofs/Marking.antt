@@ -16,7 +16,7 @@ use Rattle.world.specs.Events.{Event, write, mark, happen, after}
 use Rattle.world.specs.Marks.{writes, Fair}
 use Rattle.tables.specs.Roles.{Setting}
 use Rattle.tables.specs.Discipline.{walkerOf}
-use Rattle.pool.specs.Book.{bookPages}
+use Rattle.pool.specs.Layout.{bookPages}
 use Rattle.pool.specs.declared.Space.{Space}
 use Rattle.tablepath.specs.Calls.{Marks}
 

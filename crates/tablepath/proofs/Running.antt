@@ -1,9 +1,8 @@
 -- A run of calls, with the machine's marks anywhere: what holds between operations holds at its end, and all of it obeys from the ticket on.
-use Prim.Native.Nat.{ℕ, _+_, _*_, _/_, _<_, _≤_}
+use Prim.Native.Nat.{ℕ, _/_, _≤_}
 use mathlib.Core.Bool.{Bool}
-use mathlib.Core.List.{List, [], _∷_, _++_}
-use mathlib.Core.Path.{_≡_, refl, sym, ap, _∙_, subst}
-use native.Mathlib.Omega.{arith}
+use mathlib.Core.List.{List, [], _++_}
+use mathlib.Core.Path.{_≡_, sym, ap, _∙_, subst}
 use Rattle.word.specs.Memory.{at}
 use Rattle.word.specs.Writes as word
 use Rattle.world.specs.Events.{Event, after, after-append}
@@ -13,21 +12,21 @@ use Rattle.tables.specs.Roles.{Role}
 use Rattle.tables.specs.Unseen.{Alike, alike-sound}
 use Rattle.tables.specs.Discipline.{walkerOf}
 use Rattle.tables.specs.Clearing.{eventsOf, events-after}
-use Rattle.pool.specs.Book.{bookPages, wordOf, bookOf, ticketOf}
-use Rattle.pool.specs.Booked.{settingOf, Booked}
+use Rattle.pool.specs.Book.{wordOf, bookOf, ticketOf}
+use Rattle.pool.specs.Booked.{settingOf, SameBook}
 use Rattle.pool.specs.declared.Space.{Space}
-use Rattle.pool.proofs.Booked.{booked-same}
+use Rattle.pool.proofs.Booked.{same-counts, booked-same}
+use Rattle.pool.proofs.Words.{word-in}
 use Rattle.effect.specs.Whole.{Whole}
 use Rattle.tablepath.specs.Calls.{Call, Within, callWrites, Marks, Run, none, call, From}
 use Rattle.tablepath.proofs.Marking.{MarkedFrom, marks-left, marks-fair}
-use Rattle.effect.specs.Numbers.{SameBook, KeepsNumbers}
+use Rattle.effect.specs.Numbers.{KeepsNumbers}
 use Rattle.effect.proofs.Numbers.{same-keeps}
 use Rattle.tablepath.proofs.Serving.{Served}
 
 -- marks leave the book
 marked-book : (sp : Space) (m m' : ℕ → ℕ) → MarkedFrom sp m m' → SameBook sp m m'
-unfolding bookPages
-marked-book sp m m' k j u = k .books (wordOf sp j) (omega arith) (omega arith)
+marked-book sp m m' k = record { words = λ j u. let i = word-in sp j u in k .books (wordOf sp j) (i .0) (i .1) }
 
 -- and all that holds between operations
 pub marked-whole : (h : ℕ → Bool) (sp : Space) (m m' : ℕ → ℕ) (role : ℕ → Role) → MarkedFrom sp m m' → Whole h sp m role → Whole h sp m' role
@@ -35,7 +34,7 @@ marked-whole h sp m m' role k w = record {
   stands = w .stands;
   small = w .small;
   sound = alike-sound (w .sound .built) m' alike (w .sound .filled);
-  booked = booked-same m' (marked-book sp m m' k) (w .booked);
+  booked = booked-same (marked-book sp m m' k) (w .booked);
 }
   where
     alike : Alike role m m'
@@ -58,7 +57,7 @@ call-ran h sp n m ws es s e k = record {
       (λ x f. (f .0, f .1, kept .numbers (x / 512) (f .0) (f .2)))
       (obeys-beside (walkerOf (settingOf h sp)) es (From sp n m) (From sp n (word.after m ws)) m (marks-fair (settingOf h sp) sp es m k)
       (subst (λ l. Obeys (walkerOf (settingOf h sp)) (From sp n m) m l (From sp n (word.after m ws))) (sym e) (s .obeys)));
-  ticket = omega (arith, s .ticket, kept .tickets, same 4 (omega arith));
+  ticket = rw (ap ticketOf (same-counts same)) (s .ticket);
 }
   where
     now : after m (writes es) ≡ word.after m ws

@@ -9,7 +9,8 @@ use borrow.Author.Tests.{eq-eqb, ne-eqb, le-leb, lt-leb}
 use lib.ListN.{length}
 use Rattle.word.specs.Memory.{holds}
 use Rattle.word.proofs.Tests.{and-both}
-use Rattle.pool.specs.Book.{bookPages, roomOf}
+use Rattle.pool.specs.Layout.{bookPages}
+use Rattle.pool.specs.Book.{roomOf}
 use Rattle.pool.specs.Create.{createdOf, createdIn, mayCreate}
 use Rattle.pool.specs.declared.Created.{Created}
 use Rattle.pool.specs.declared.Created.the-variants as created

@@ -11,10 +11,11 @@ use Rattle.word.specs.Writes.{Write, after, carried}
 use Rattle.word.proofs.Writes.{Every, none, every-map, holds-carried, memory-carried}
 use Rattle.entry.specs.declared.Rights.{Rights}
 use Rattle.tables.specs.Roles.{Role}
-use Rattle.pool.specs.Book.{bookPages, bookOf, roomOf, inPool, dueOf}
+use Rattle.pool.specs.Layout.{bookPages}
+use Rattle.pool.specs.Book.{bookOf, roomOf, inPool, rootedIn, dueOf}
 use Rattle.pool.specs.Booked.{newRole}
 use Rattle.pool.specs.Create.{createdOf, createdIn, createWrites, newSpace, mayCreate}
-use Rattle.pool.specs.Stands.{standsOf, standsIn}
+use Rattle.pool.specs.Stands.{standsOf}
 use Rattle.pool.specs.declared.Created.the-variants as created
 use Rattle.pool.specs.declared.Due.{Due}
 use Rattle.pool.specs.declared.Due.the-variants as due
@@ -70,7 +71,7 @@ module _ (s : List ℕ) (origin first pages : ℕ) where
   pub create-whole : (p : ℕ) → createdOf (length s) (holds s origin) origin first pages ≡ created.Root p
       → (p ≡ first + bookPages pages)
       × WholeBytes (carried s origin (createWrites (length s) (holds s origin) origin first pages)) (newSpace origin first pages) (newRole (newSpace origin first pages))
-  unfolding createdOf standsOf standsIn
+  unfolding createdOf standsOf rootedIn
   create-whole p e =
       let k = create-makes s origin first pages p e in
       let may = root-may p (mayCreate (length s) (holds s origin) origin first pages) e in

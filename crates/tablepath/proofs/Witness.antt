@@ -21,11 +21,13 @@ use Rattle.walk.specs.declared.Found.the-variants as found
 use Rattle.tables.specs.Roles.{Setting, Role, foreign, free, aside, book, root, table, left, entryAt}
 use Rattle.tables.specs.Way.{Comes, comes-left}
 use Rattle.tables.specs.Meaning.{meaning, Ends, too-high, at-nothing, at-page, ends}
-use Rattle.pool.specs.Book.{bookPages, bookOf, pageAt, roomOf}
+use Rattle.pool.specs.Layout.{bookPages}
+use Rattle.pool.specs.Book.{bookOf, pageAt, roomOf}
 use Rattle.pool.specs.Booked.{settingOf, newRole, tablesOf, howMany}
 use Rattle.pool.specs.Create.{newSpace, createdOf, createdIn, mayCreate, createWrites}
 use Rattle.pool.specs.declared.Created.the-variants as created
 use Rattle.pool.specs.declared.Space.{Space}
+use Rattle.pool.proofs.Words.{small-book}
 use Rattle.pool.proofs.Pages.{adds-up}
 use Rattle.plan.specs.Map as map
 use Rattle.plan.specs.declared.Reason.{Reason}
@@ -104,10 +106,14 @@ five = newSpace 0 0 5
 abbrev pub page : Asked
 page = record { base = 0; frame = 1048576; size = 4096; rights = everything }
 
+-- the book is one page
+pub one-page : bookPages 5 ≡ 1
+one-page = small-book 5 (omega arith)
+
 module _ (s : List ℕ) (e : length s ≡ 20480) where
   made : createdOf (length s) (holds s 0) 0 0 5 ≡ created.Root 1
-  unfolding createdOf createdIn mayCreate roomOf holds bookPages
-  made = rw e
+  unfolding createdOf createdIn mayCreate roomOf holds
+  made = rw (e, one-page, one-page)
 
   -- the bytes that create leaves, and their memory
   abbrev pub bytes : List ℕ
@@ -120,7 +126,7 @@ module _ (s : List ℕ) (e : length s ≡ 20480) where
   enough = omega (arith, adds-up (owned start) (start .booked), none-aside start, no-tables)
     where
       no-tables : tablesOf five (newRole five) + 1 + bookPages 5 ≡ 2
-      no-tables = unfold newRole bookPages howMany in refl
+      no-tables = unfold newRole howMany in rw one-page
 
   fine : (r : Reason) → ¬ Cause (holds bytes 0) five (memory bytes 0) page r
   fine r (no-size n) = n 0 (omega arith) (unfold sizeOf in refl)

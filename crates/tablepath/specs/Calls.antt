@@ -11,7 +11,7 @@ use Rattle.entry.specs.declared.Rights.{Rights}
 use Rattle.world.specs.Events.{Event, write, mark, after}
 use Rattle.world.specs.Marks.{writes}
 use Rattle.tables.specs.Clearing.{eventsOf}
-use Rattle.pool.specs.Book.{bookPages}
+use Rattle.pool.specs.Layout.{bookPages}
 use Rattle.pool.specs.Booked.{Numbered}
 use Rattle.pool.specs.declared.Space.{Space}
 use Rattle.plan.specs.declared.maps.Asked.{Asked}

@@ -12,7 +12,8 @@ use Rattle.entry.specs.declared.Rights.{Rights}
 use Rattle.walk.specs.declared.Found.the-variants as found
 use Rattle.tables.specs.Roles.{Role, free, aside}
 use Rattle.tables.specs.Meaning.{meaning}
-use Rattle.pool.specs.Book.{bookPages, bookOf, pageAt, ticketOf, openedOf, dueOf}
+use Rattle.pool.specs.Layout.{bookPages}
+use Rattle.pool.specs.Book.{bookOf, pageAt, ticketOf, openedOf, dueOf}
 use Rattle.pool.specs.Booked.{settingOf, Taken, Numbered, tablesOf}
 use Rattle.pool.specs.Create.{createdOf, createWrites}
 use Rattle.pool.specs.declared.Space.{Space}

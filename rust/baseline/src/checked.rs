@@ -2,7 +2,8 @@
 //! the one test of an index is also the test that a way stays in the pool.
 
 use crate::book::{
-    book_pages, Book, ASIDE, FREE, HEAD, LAST_TICKET, MARK, MOST_PAGES, PAGES, SLOTS, THE_MARK, TICKETS,
+    book_pages, new_header, Book, ASIDE, FREE, HEAD, LAST_TICKET, MARK, MOST_PAGES, PAGES, ROOT, SLOTS, THE_MARK,
+    TICKETS,
 };
 use crate::words::{
     frame, index, is_page, page_word, present, reserved, rights, size, table, table_word, with_rights, END, LIMIT,
@@ -124,6 +125,9 @@ impl<'a> Pool<'a> {
         if get(&header[PAGES]) != self.pages {
             return Err(Reason::OtherBook);
         }
+        if get(&header[ROOT]) != self.address(self.root) / PAGE {
+            return Err(Reason::BadRoot);
+        }
         let book = Book {
             pages: self.pages,
             head: get(&header[HEAD]),
@@ -188,14 +192,20 @@ pub fn create(mem: &mut [u8], origin: u64, pool: u64, pages: u64) -> Result<u64,
     let root = pool + behind * PAGE;
     let free = pages - behind - 1;
     let (book, tables) = all.split_at_mut_checked(behind as usize).ok_or(Reason::PoolSmall)?;
-    let (header, slots) = book.as_flattened_mut().split_at_mut(SLOTS);
+    let (header, behind) = book.as_flattened_mut().split_at_mut(SLOTS);
+    let (slots, rest) = behind.split_at_mut(free as usize);
     for (slot, page) in slots.iter_mut().zip(0..free) {
         put(slot, root / PAGE + 1 + page);
     }
-    for (word, to) in header.iter_mut().zip([MARK, pages, 0, free, 0, 0, 0, 0]) {
-        put(word, to);
+    rest[..(2 * pages - free) as usize].fill([0; 8]);
+    for (word, entry) in header.iter_mut().enumerate() {
+        put(entry, new_header(word, pages, root / PAGE, free));
     }
-    tables[0] = [[0; 8]; 512];
+    let (root_table, others) = tables.split_first_mut().ok_or(Reason::PoolSmall)?;
+    *root_table = [[0; 8]; 512];
+    for page in others {
+        page[0] = [0; 8];
+    }
     Ok(root)
 }
 

@@ -1,7 +1,7 @@
 //! Unchecked reads and writes: the same operations and bytes on tables and books that these operations made, and no refusal
 //! but of what cannot be done: a range that overlaps, a pool that runs dry, a base where no page starts.
 
-use crate::book::{book_pages, Book, ASIDE, FREE, HEAD, MARK, PAGES, SLOTS, THE_MARK, TICKETS};
+use crate::book::{book_pages, new_header, Book, ASIDE, FREE, HEAD, SLOTS, TICKETS};
 use crate::words::{
     frame, index, is_page, page_word, present, rights, size, table, table_word, with_rights, END, PAGE, ROOT_LEVEL,
 };
@@ -87,12 +87,14 @@ pub unsafe fn create(mem: *mut u8, origin: u64, pool: u64, pages: u64) -> u64 {
     let root = pool + book_pages(pages) * PAGE;
     let free = pages - book_pages(pages) - 1;
     for slot in 0..free {
+        memory.put(root + (slot + 1) * PAGE, 0, 0);
         memory.put(pool, SLOTS + slot as usize, root / PAGE + 1 + slot);
     }
-    for (word, to) in
-        [(THE_MARK, MARK), (PAGES, pages), (HEAD, 0), (FREE, free), (ASIDE, 0), (TICKETS, 0), (6, 0), (7, 0)]
-    {
-        memory.put(pool, word, to);
+    for word in free..2 * pages {
+        memory.put(pool, SLOTS + word as usize, 0);
+    }
+    for word in 0..SLOTS {
+        memory.put(pool, word, new_header(word, pages, root / PAGE, free));
     }
     memory.clear(root);
     root

@@ -2,6 +2,7 @@
 //! the same bytes. What a row needs beside itself (to map again what it unmapped) is a part with no row.
 
 use operations::baselines::Checked;
+use operations::layout::{ASIDE, FREE, TICKETS};
 use operations::{Operations, Space};
 
 pub const FRAME: u64 = 256 << 30;
@@ -17,10 +18,6 @@ const STRIDE: u64 = 8;
 const SPARSE: u64 = 64;
 /// Pools side by side, each of which is reported to.
 const POOLS: u64 = 64;
-/// Words of a book's header.
-const FREE: u64 = 3;
-const ASIDE: u64 = 4;
-const TICKETS: u64 = 5;
 
 pub enum Work {
     LookUp,

@@ -2,6 +2,7 @@
 //! places and at other levels; and which addresses are watched.
 
 use crate::onlooker::Shared;
+use operations::layout::{ASIDE, FREE, HEAD, HEADER};
 use operations::ledger::{Ledger, GIB1, KIB4, MIB2, PHYSICAL, SIZES};
 use operations::random::Random;
 use operations::{LookedUp, Operations, Request, Space};
@@ -103,17 +104,17 @@ impl Scene {
 
     /// The physical addresses of the pages at these positions of the ring.
     fn listed(&self, memory: Shared, from: u64, count: u64) -> Vec<u64> {
-        let head = self.book(memory, 2);
-        (from..from + count).map(|at| 4096 * self.book(memory, 8 + (head + at) % self.space().pages)).collect()
+        let head = self.book(memory, HEAD);
+        (from..from + count).map(|at| 4096 * self.book(memory, HEADER + (head + at) % self.space().pages)).collect()
     }
 
     pub fn aside(&self, memory: Shared) -> Vec<u64> {
-        self.listed(memory, self.book(memory, 3), self.book(memory, 4))
+        self.listed(memory, self.book(memory, FREE), self.book(memory, ASIDE))
     }
 
     /// The last pages that a report made free are anyone's: they are filled with junk.
     pub fn spoil(&mut self, memory: Shared, released: u64) {
-        for page in self.listed(memory, self.book(memory, 3) - released, released) {
+        for page in self.listed(memory, self.book(memory, FREE) - released, released) {
             for place in (0..4096).step_by(8) {
                 memory.write(page + place, junk(&mut self.random));
             }

@@ -1,6 +1,7 @@
 //! Book-keeping, read from the bytes: each page of the pool is the book's, the root, a table that is reached once, free or
 //! set aside, and never two of these; and the pages that the tables map are those of the ledger.
 
+use crate::layout::{ASIDE, FREE, HEAD, HEADER};
 use crate::ledger::{Ledger, Mapping};
 use crate::Space;
 
@@ -18,8 +19,8 @@ pub struct Lists {
 /// Reads the book of a pool that is in order.
 pub fn lists(mem: &[u8], space: &Space) -> Lists {
     let at = |index: u64| word(mem, (space.pool - space.origin + 8 * index) as usize);
-    let (head, free, aside) = (at(2), at(3).min(space.pages), at(4).min(space.pages));
-    let page = |position: u64| at(8 + head.wrapping_add(position) % space.pages);
+    let (head, free, aside) = (at(HEAD), at(FREE).min(space.pages), at(ASIDE).min(space.pages));
+    let page = |position: u64| at(HEADER + head.wrapping_add(position) % space.pages);
     Lists { free: (0..free).map(page).collect(), aside: (free..free + aside).map(page).collect() }
 }
 

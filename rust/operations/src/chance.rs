@@ -22,9 +22,9 @@ fn pages(random: &mut Random) -> u64 {
         0..=9 => 3,
         10..=21 => 4 + random.below(6),
         22..=60 => 10 + random.below(30).min(random.below(90)),
-        61 => 100 + random.below(405),
-        62 => random.pick(&[503, 504]),
-        _ => random.pick(&[505, 506, 520]),
+        61 => 100 + random.below(149),
+        62 => random.pick(&[247, 248]),
+        _ => random.pick(&[249, 250, 264, 504, 505]),
     }
 }
 

@@ -50,8 +50,8 @@ impl Cover {
             3 => "pool of 3 pages",
             4..=9 => "pool of 4 to 9",
             10..=99 => "pool of 10 to 99",
-            100..=504 => "pool of 100 to 504",
-            _ => "pool with a book of two pages",
+            100..=248 => "pool of 100 to 248",
+            _ => "pool with a book of several pages",
         });
         if answer.reason() != 0 {
             let reason = REASONS.get(answer.reason() as usize).unwrap_or(&"?");
@@ -167,7 +167,7 @@ impl Cover {
                 need(5, format!("frame right before the pool, {size}"));
                 need(5, format!("frame right after the pool, {size}"));
             }
-            for pool in ["of 3 pages", "of 4 to 9", "of 10 to 99", "of 100 to 504", "with a book of two pages"] {
+            for pool in ["of 3 pages", "of 4 to 9", "of 10 to 99", "of 100 to 248", "with a book of several pages"] {
                 need(300, format!("pool {pool}"));
             }
         }

@@ -1,6 +1,7 @@
 //! Damage at random: bits anywhere, books, tables and spaces that nobody made.
 
 use crate::chance::Scene;
+use crate::layout::{HEAD, HEADER};
 use crate::ledger::KIB4;
 use crate::run::Run;
 use crate::steps::{Setup, Step};
@@ -79,9 +80,9 @@ impl Scene {
                 let at = 8 * self.random.index(len / 8);
                 Step::Put { at, word: word(at) ^ 1 << self.random.below(64) }
             }
-            // A header: its mark, its counts.
+            // A header: its mark, what it names, its counts.
             3 | 4 => {
-                let which = self.random.below(6);
+                let which = self.random.below(HEAD + 1);
                 let old = word(book(which));
                 let near = self.random.below(pages + 2);
                 let word = self.random.pick(&[
@@ -100,13 +101,13 @@ impl Scene {
             }
             // What the ring lists next, or anywhere.
             5..=7 => {
-                let (head, slot) = (word(book(2)), self.random.below(pages));
+                let (head, slot) = (word(book(HEAD)), self.random.below(pages));
                 let slot =
                     if self.random.chance(3, 4) { head.wrapping_add(self.random.below(3)) % pages } else { slot };
                 let page = self.page() / KIB4;
                 let word =
                     self.random.pick(&[page, page, page, self.setup.space().root / KIB4, page + pages, page << 40]);
-                Step::Put { at: book(8 + slot), word }
+                Step::Put { at: book(HEADER + slot), word }
             }
             8 => {
                 let at = (self.page() - origin) as usize;

@@ -2,6 +2,7 @@
 //! Ways are the manual's walk, in a window that is only the pool behind its book: where that walk leaves it, the way is
 //! stray.
 
+use crate::layout::{ASIDE, FREE, HEAD, HEADER, MARK, PAGES, ROOT, TICKETS};
 use crate::ledger::{asked, created};
 use crate::{Answer, LookedUp, Mapped, Protected, Request, Space, Told, Unmapped};
 use model::{walk, End, Kind, Read, Walk, Window};
@@ -19,7 +20,7 @@ pub struct Due {
     pub writes: Vec<Write>,
 }
 
-/// The last four words of a book's header that say something.
+/// The counts of a book's header.
 struct Book {
     head: u64,
     free: u64,
@@ -67,13 +68,19 @@ pub fn looked_up(walk: Walk) -> Answer {
 
 fn new_pool(pool: u64, pages: u64, root: u64) -> Vec<Write> {
     let behind = (root - pool) / 4096 + 1;
+    let unmarked = [0].into_iter().chain(behind..pages).map(|page| (512 * page, 0));
+    let listed = (behind..pages).map(|page| (HEADER + page - behind, pool / 4096 + page));
+    let rest = (HEADER + pages - behind..HEADER + 2 * pages).map(|word| (word, 0));
+    let header = (1..HEADER).map(|word| match word {
+        PAGES => (word, pages),
+        ROOT => (word, root / 4096),
+        FREE => (word, pages - behind),
+        _ => (word, 0),
+    });
     let mut writes: Vec<Write> =
-        (behind..pages).map(|page| Word(pool + 8 * (8 + page - behind), pool / 4096 + page)).collect();
-    for (word, value) in [(1, pages), (2, 0), (3, pages - behind), (4, 0), (5, 0), (6, 0), (7, 0)] {
-        writes.push(Word(pool + 8 * word, value));
-    }
+        unmarked.chain(listed).chain(rest).chain(header).map(|(word, value)| Word(pool + 8 * word, value)).collect();
     writes.push(Clear(root));
-    writes.push(Word(pool, u64::from_le_bytes(*b"the book")));
+    writes.push(Word(pool, u64::from_le_bytes(MARK)));
     writes
 }
 
@@ -127,13 +134,17 @@ impl<'a> Pool<'a> {
     }
 
     fn open(&self) -> Result<Book, u64> {
-        if !self.book.starts_with(b"the book") {
+        if !self.book.starts_with(&MARK) {
             return Err(20);
         }
-        if self.word(1) != self.space.pages {
+        if self.word(PAGES) != self.space.pages {
             return Err(21);
         }
-        let book = Book { head: self.word(2), free: self.word(3), aside: self.word(4), tickets: self.word(5) };
+        if self.word(ROOT) != self.space.root / 4096 {
+            return Err(19);
+        }
+        let book =
+            Book { head: self.word(HEAD), free: self.word(FREE), aside: self.word(ASIDE), tickets: self.word(TICKETS) };
         if book.head >= self.space.pages || !self.lists(&book, 0) || book.tickets > 1 << 62 {
             return Err(22);
         }
@@ -148,7 +159,7 @@ impl<'a> Pool<'a> {
 
     /// The word of the book that lists the page at this position.
     fn slot(&self, book: &Book, position: u64) -> u64 {
-        8 + (book.head + position) % self.space.pages
+        HEADER + (book.head + position) % self.space.pages
     }
 
     /// The physical addresses of so many of the oldest free pages.
@@ -200,8 +211,8 @@ impl<'a> Pool<'a> {
                 writes.extend([Clear(page), Word(at, page + 7)]);
                 at = page + 8 * index(level(kind) - down, base);
             }
-            after.push(self.book_word(2, (book.head + need) % self.space.pages));
-            after.push(self.book_word(3, book.free - need));
+            after.push(self.book_word(HEAD, (book.head + need) % self.space.pages));
+            after.push(self.book_word(FREE, book.free - need));
         }
         let large = if target > 0 { 1 << 7 } else { 0 };
         writes.push(Word(at, frame + 1 + large + rights_bits(rights)));
@@ -244,7 +255,7 @@ impl<'a> Pool<'a> {
         for (more, pair) in (0..).zip(way[..empty + 1].windows(2)) {
             writes.push(Word(pair[1].address, 0));
             writes.push(self.book_word(self.slot(&book, book.free + book.aside + more), pair[0].address / 4096));
-            writes.push(self.book_word(4, book.aside + more + 1));
+            writes.push(self.book_word(ASIDE, book.aside + more + 1));
         }
         let ticket = book.tickets + book.aside + aside;
         Ok((Answer::Unmapped(Unmapped { reason: 0, frame, size, aside, ticket }), writes))
@@ -268,7 +279,7 @@ impl<'a> Pool<'a> {
             return Err(24);
         }
         let released = ticket - book.tickets;
-        let writes = [(3, book.free + released), (4, book.aside - released), (5, ticket)];
+        let writes = [(FREE, book.free + released), (ASIDE, book.aside - released), (TICKETS, ticket)];
         let writes = writes.map(|(word, value)| self.book_word(word, value)).to_vec();
         Ok((Answer::Told(Told { reason: 0, released }), writes))
     }

@@ -11,6 +11,7 @@ mod chance;
 pub mod cover;
 mod damage;
 pub mod due;
+pub mod layout;
 pub mod ledger;
 #[cfg(feature = "library")]
 pub mod library;

@@ -3,6 +3,7 @@
 use crate::audit::{audit, lists};
 use crate::cover::Cover;
 use crate::due::{due, looked_up, Write};
+use crate::layout::TICKETS;
 use crate::ledger::{Ledger, TOP};
 use crate::random::Random;
 use crate::steps::{Hints, Setup, Step};
@@ -50,7 +51,7 @@ impl<'a> Run<'a> {
         let mut run = Run { of, beside, setup, room, other, should, ledger: None, thorough, hints };
         let Setup { len, origin, pool, pages, released, .. } = setup;
         run.ask(&Request::Create { origin, pool, pages }, 0, len, 0, None)?;
-        run.put((pool - origin) as usize + 40, released);
+        run.put((pool - origin + 8 * TICKETS) as usize, released);
         run.ledger = Some(Ledger::new(len, origin, pool, pages, released));
         run.audit()?;
         Ok(run)

@@ -1,5 +1,6 @@
 //! A space, and when it makes no sense: worked out in numbers that cannot overflow.
 
+use crate::layout::HEADER;
 use std::fmt;
 
 /// The physical address of the window's first byte, of the pool's first page and of the root table, and how many pages the
@@ -13,7 +14,7 @@ pub struct Space {
 }
 
 impl Space {
-    /// How many pages hold the book: eight words, and one for each page of the pool.
+    /// How many pages hold the book: its header, and two words for each page of the pool.
     pub fn book(&self) -> u64 {
         book(self.pages)
     }
@@ -48,7 +49,7 @@ impl Space {
 }
 
 fn book(pages: u64) -> u64 {
-    let bytes = 8 * (8 + u128::from(pages));
+    let bytes = 8 * (u128::from(HEADER) + 2 * u128::from(pages));
     bytes.div_ceil(4096) as u64
 }
 

@@ -5,6 +5,7 @@ use model::{walk, Read, Window};
 use operations::audit::lists;
 use operations::baselines::Checked;
 use operations::cover::{Cover, Sort};
+use operations::layout::{ASIDE, FREE, HEAD, HEADER, ROOT, TICKETS};
 use operations::shrink::shrink;
 use operations::{test, Created, LookedUp, Mapped, Operations, Protected, Space, Told, Unmapped};
 
@@ -23,6 +24,8 @@ enum Flaw {
     ThreePagesRefused,
     LengthNotAsked,
     MarkForgotten,
+    RootNotNamed,
+    LastCountLeft,
     // map
     OverlapByBases,
     LastPageRefused,
@@ -74,6 +77,7 @@ enum Flaw {
     StrayIsNothing,
     BadBookIsNoBook,
     BadListIsNoRoom,
+    OtherRootTaken,
     StopsAtStray,
 }
 use Flaw::*;
@@ -110,7 +114,7 @@ impl Words<'_> {
 
     /// The word of the book that lists the page at this position.
     fn slot(&self, position: u64) -> u64 {
-        8 + (self.book(2) + position) % self.space.pages
+        HEADER + (self.book(HEAD) + position) % self.space.pages
     }
 
     /// The entries on the way of an address, from the root's on.
@@ -175,11 +179,11 @@ impl Flawed {
             LinkGrantsLess if tables > 0 => words.put(new[0].address, new[0].word & !4),
             Bit7OfSmall if size == 4096 => words.put(new[tables as usize].address, new[tables as usize].word | 128),
             TakenTwice | FreeNotCounted => {
-                let head = old(words, words.space.pool + 16);
-                let free = old(words, words.space.pool + 24);
-                words.put_book(3, free);
+                let head = old(words, words.space.pool + 8 * HEAD);
+                let free = old(words, words.space.pool + 8 * FREE);
+                words.put_book(FREE, free);
                 if self.0 == TakenTwice {
-                    words.put_book(2, head);
+                    words.put_book(HEAD, head);
                 }
             }
             OutsideTouched => {
@@ -204,22 +208,22 @@ impl Flawed {
                 words.mem.copy_from_slice(before);
                 words.put(last.address, 0);
                 words.put(way[way.len() - 2].address, 0);
-                let aside = words.book(4);
-                words.put_book(words.slot(words.book(3) + aside), last.address / 4096);
-                words.put_book(4, aside + 1);
-                (answer.aside, answer.ticket) = (1, words.book(5) + aside + 1);
+                let aside = words.book(ASIDE);
+                words.put_book(words.slot(words.book(FREE) + aside), last.address / 4096);
+                words.put_book(ASIDE, aside + 1);
+                (answer.aside, answer.ticket) = (1, words.book(TICKETS) + aside + 1);
             }
             NotEmptyUnlinked if answer.aside == 0 && way.len() > 1 => words.put(way[way.len() - 2].address, 0),
             RootSetAside if answer.aside as usize == way.len() - 1 => {
                 let root = words.space.root;
                 if (0..512).all(|index| words.get(root + 8 * index) == 0) {
-                    let aside = words.book(4);
-                    words.put_book(words.slot(words.book(3) + aside), root / 4096);
-                    words.put_book(4, aside + 1);
+                    let aside = words.book(ASIDE);
+                    words.put_book(words.slot(words.book(FREE) + aside), root / 4096);
+                    words.put_book(ASIDE, aside + 1);
                 }
             }
             AsideTopDown if answer.aside > 1 => {
-                let end = words.book(3) + words.book(4);
+                let end = words.book(FREE) + words.book(ASIDE);
                 let (one, other) = (words.slot(end - 1), words.slot(end - 2));
                 let (first, second) = (words.book(one), words.book(other));
                 words.put_book(one, second);
@@ -251,8 +255,13 @@ impl Operations for Flawed {
                     let at = words.at(answer.root);
                     words.mem[at..at + 4096].copy_from_slice(&before[at..at + 4096]);
                 }
-                OnePageLost => words.put_book(3, words.book(3) - 1),
+                OnePageLost => words.put_book(FREE, words.book(FREE) - 1),
                 MarkForgotten => words.put_book(0, 0),
+                RootNotNamed => words.put_book(ROOT, 0),
+                LastCountLeft => {
+                    let last = words.at(pool + 8 * (HEADER + 2 * pages - 1));
+                    words.mem[last..last + 8].copy_from_slice(&before[last..last + 8]);
+                }
                 _ => {}
             }
         }
@@ -302,7 +311,7 @@ impl Operations for Flawed {
                 let undone = match self.0 {
                     LastPageRefused if base + size == TOP => 4,
                     FrameBeforePoolRefused if frame + size == space.pool => 6,
-                    LastPagesKept if answer.tables > 0 && words.book(3) == 0 => 8,
+                    LastPagesKept if answer.tables > 0 && words.book(FREE) == 0 => 8,
                     ReservedIsOverlap => {
                         let entry = words.way(base)[words.way(base).len() - 1 - answer.tables as usize];
                         let at = words.at(entry.address);
@@ -386,11 +395,18 @@ impl Operations for Flawed {
 
     fn told(&self, mem: &mut [u8], space: Space, ticket: u64) -> Told {
         let space = self.space(space);
+        if self.0 == OtherRootTaken && space.refused(mem.len()) == 0 {
+            let named = words(mem, space).book(ROOT);
+            words(mem, space).put_book(ROOT, space.root / 4096);
+            let answer = Checked.told(mem, space, ticket);
+            words(mem, space).put_book(ROOT, named);
+            return answer;
+        }
         let mut answer = Checked.told(&mut mem.to_vec(), space, ticket);
         let mut asked = ticket;
         if answer.reason == 0 || answer.reason == 23 {
             let words = words(mem, space);
-            let (last, all) = (words.book(5), words.book(5) + words.book(4));
+            let (last, all) = (words.book(TICKETS), words.book(TICKETS) + words.book(ASIDE));
             match self.0 {
                 AllReleased if answer.released > 0 => asked = all,
                 OneMoreReleased if answer.released > 0 => asked = all.min(ticket + 1),
@@ -399,11 +415,11 @@ impl Operations for Flawed {
                 _ => {}
             }
         }
-        let old = if answer.reason == 0 { words(mem, space).book(5) } else { 0 };
+        let old = if answer.reason == 0 { words(mem, space).book(TICKETS) } else { 0 };
         answer = Checked.told(mem, space, asked);
         answer.reason = self.reason(answer.reason);
         if answer.reason == 0 && self.0 == TicketsNotCounted {
-            words(mem, space).put_book(5, old);
+            words(mem, space).put_book(TICKETS, old);
         }
         answer
     }
@@ -440,6 +456,8 @@ flaws! {
     three_pages_refused: ThreePagesRefused, Sound;
     length_not_asked: LengthNotAsked, Sound;
     mark_forgotten: MarkForgotten, Sound;
+    root_not_named: RootNotNamed, Sound;
+    last_count_left: LastCountLeft, Sound;
     overlap_by_bases: OverlapByBases, Sound;
     last_page_refused: LastPageRefused, Sound;
     not_cleared: NotCleared, Sound;
@@ -485,6 +503,7 @@ flaws! {
     stray_is_nothing: StrayIsNothing, Damaged;
     bad_book_is_no_book: BadBookIsNoBook, Damaged;
     bad_list_is_no_room: BadListIsNoRoom, Damaged;
+    other_root_taken: OtherRootTaken, Damaged;
     stops_at_stray: StopsAtStray, Damaged;
 }
 

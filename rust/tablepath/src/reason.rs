@@ -85,7 +85,7 @@ reasons! {
     PoolLarge = 16, "more pages than a book can list";
     PoolSmall = 17, "no room for the book and a root";
     PoolOutside = 18, "the pool does not lie in the window";
-    BadRoot = 19, "the root is no page of the pool behind its book";
+    BadRoot = 19, "the root is no page of the pool behind its book, or not the book's";
     NoBook = 20, "no pool was made here";
     OtherBook = 21, "a pool of another size was made here";
     BadBook = 22, "the book does not add up";

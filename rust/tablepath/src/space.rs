@@ -11,7 +11,7 @@ use crate::{numbers, Found, Mapped, Protected, Reason, Rights, Size, Ticket, Unm
 pub struct Space {
     /// The physical address of the window's first byte.
     pub origin: u64,
-    /// The physical address of the pool's first page. Its first pages hold a book of what is free.
+    /// The physical address of the pool's first page. Its first `(pages + 263) / 256` pages hold a book of what is free.
     pub pool: u64,
     /// How many pages of 4096 bytes the pool has.
     pub pages: u64,

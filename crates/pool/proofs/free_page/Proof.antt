@@ -1,3 +1,4 @@
+use Rattle.pool.specs.Layout.{slotAt}
 use mathlib.Core.Path.{sym, _∙_}
 use native.Mathlib.Omega.{arith}
 use borrow.Author.Tests.{lt-ltb, le-ltb}
@@ -35,7 +36,7 @@ named-requires c κs = search needs
 
 -- src/lib.rt:252:9
 returns-2 : tie.Need-returns-2
-unfolding listedOf
+unfolding listedOf slotAt
 returns-2 c = simp (lt-ltb _ _ (c .before .before .before .before .if1 .left), sym (c .before .before .before .sound .ensures) ∙ c .before .before .if2 .taken, c .named .ensures, c .before .spot .ensures)
 
 -- src/lib.rt:245:1

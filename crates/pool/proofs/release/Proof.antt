@@ -1,3 +1,4 @@
+use Rattle.pool.specs.Layout.{freeAt, asideAt, ticketsAt}
 use mathlib.Core.Path.{sym, _∙_}
 use native.Mathlib.Omega.{arith}
 use borrow.Author.Tests.{le-leb, lt-leb}
@@ -47,7 +48,7 @@ same-length c = search needs
 
 -- src/lib.rt:323:1
 returns-2 : tie.Need-returns-2
-unfolding releaseWrites
+unfolding releaseWrites freeAt asideAt ticketsAt
 returns-2 c = simp (le-leb _ _ (c .before .before .before .before .before .before .before .before .before .before .before .before .before .before .before .before .before .before .before .before .if1 .left), sym (c .before .before .before .before .before .before .before .before .before .before .before .before .before .before .before .before .before .before .before .sound .ensures) ∙ c .before .before .before .before .before .before .before .before .before .before .before .before .before .before .before .before .before .before .if2 .taken) (wrote-then _ _ _ _ _ _ _ _ _ (c .before .before .before .before .before .before .before .before .before .before .before .before .before .before .put .ensures) (wrote-then _ _ _ _ _ _ _ _ _ (c .before .before .before .before .before .before .before .before .put2 .ensures) (c .before .before .put3 .ensures)))
 
 -- src/lib.rt:323:1

@@ -2,7 +2,8 @@ use mathlib.Core.Path.{sym, _∙_}
 use native.Mathlib.Omega.{arith}
 use borrow.Author.Tests.{le-leb, lt-leb}
 use Prim.Native.Nat.{_+_}
-use Rattle.pool.specs.Book.{bookPages, roomOf}
+use Rattle.pool.specs.Layout.{bookPages}
+use Rattle.pool.specs.Book.{roomOf}
 use Rattle.word.proofs.Runs.{spans-ends}
 use borrow.Author.Needs.{needs}
 use Rattle.pool.proofs.room.Statement.{statement}

@@ -1,3 +1,4 @@
+use Rattle.pool.specs.Layout.{asideAt, slotAt}
 use mathlib.Core.Path.{sym, _∙_}
 use native.Mathlib.Omega.{arith}
 use Prim.Native.Nat.{_+_}
@@ -51,7 +52,7 @@ same-length c = search needs
 
 -- src/lib.rt:312:9
 returns : tie.Need-returns
-unfolding asideWrites asideBook
+unfolding asideWrites asideBook asideAt slotAt
 returns c = let e = sym (c .before .before .before .before .before .before .before .before .before .before .before .before .before .before .before .sound .ensures) ∙ c .before .before .before .before .before .before .before .before .before .before .before .before .before .before .if1 .taken in (rw e, simp e (rw (← c .before .before .before .before .before .before .before .before .before .before .before .before .spot .ensures) (wrote-then _ _ _ _ _ _ _ _ _ (c .before .before .before .before .before .before .before .before .before .put .ensures) (c .before .before .before .put2 .ensures))))
 
 -- src/lib.rt:304:1

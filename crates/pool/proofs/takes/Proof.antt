@@ -2,7 +2,7 @@ use mathlib.Core.Path.{sym, _∙_}
 use Prim.Native.Nat.{_+_, _<_, _≤_}
 use native.Mathlib.Omega.{arith}
 use borrow.Author.Tests.{le-leb, lt-leb}
-use Rattle.pool.specs.Book.{bookPages}
+use Rattle.pool.specs.Layout.{bookPages}
 use Rattle.pool.specs.Stands.{takesOf}
 use Rattle.pool.proofs.Counts.{sound-is}
 use borrow.Author.Needs.{needs}

@@ -1,3 +1,4 @@
+use Rattle.pool.specs.Layout.{headAt, freeAt}
 use mathlib.Core.Path.{sym, _∙_}
 use borrow.Author.Tests.{le-leb, lt-leb}
 use Rattle.word.proofs.Budget.{wrote-none, wrote-then}
@@ -38,7 +39,7 @@ same-length c = search needs
 
 -- src/lib.rt:302:1
 returns-2 : tie.Need-returns-2
-unfolding tookWrites
+unfolding tookWrites headAt freeAt
 returns-2 c = simp (le-leb _ _ (c .before .before .before .before .before .before .before .before .before .before .before .before .before .before .if1 .left), sym (c .before .before .before .before .before .before .before .before .before .before .before .before .before .sound .ensures) ∙ c .before .before .before .before .before .before .before .before .before .before .before .before .if2 .taken) (rw (← c .before .before .before .before .before .before .before .before .before .spot .ensures) (wrote-then _ _ _ _ _ _ _ _ _ (c .before .before .before .before .before .before .before .before .put .ensures) (c .before .before .put2 .ensures)))
 
 -- src/lib.rt:302:1

@@ -1,3 +1,4 @@
+use Rattle.pool.proofs.Opening.{names-stands}
 use mathlib.Core.Path.{sym, _∙_}
 use native.Mathlib.Omega.{arith}
 use Rattle.word.proofs.Budget.{wrote-none}
@@ -12,7 +13,7 @@ use Rattle.entry.proofs.size.Reads as size-reads
 use Rattle.plan.proofs.direct.placed.Reads as placed-reads
 use Rattle.plan.proofs.maps.fits.Reads as fits-reads
 use Rattle.plan.proofs.maps.meets.Reads as meets-reads
-use Rattle.pool.proofs.stands.Reads as stands-reads
+use Rattle.pool.proofs.names.Reads as names-reads
 
 -- src/direct.rt:131:9
 returns : tie.Need-returns
@@ -58,8 +59,8 @@ returns-4 : tie.Need-returns-4
 returns-4 c = wrote-none _ _ _
 
 -- src/direct.rt:146:9
-stands-requires : tie.Need-stands-requires
-stands-requires c κs = search needs
+names-requires : tie.Need-names-requires
+names-requires c κs = search needs
 
 enum-told-4 : tie.Need-enum-told-4
 enum-told-4 c = search needs
@@ -90,7 +91,7 @@ returns-6 c = wrote-none _ _ _
 
 -- src/direct.rt:153:5
 placed-requires : tie.Need-placed-requires
-placed-requires c κs = (c .before .before .before .before .before .before .before .before .before .before .before .before .before .before .before .before .before .before .before .if1 .left, sym (c .before .before .before .before .before .before .stands .ensures) ∙ c .before .before .before .before .enum-told4 .given .1)
+placed-requires c κs = (c .before .before .before .before .before .before .before .before .before .before .before .before .before .before .before .before .before .before .before .if1 .left, names-stands _ _ _ (sym (c .before .before .before .before .before .before .names .ensures) ∙ c .before .before .before .before .enum-told4 .given .1))
 
 -- src/direct.rt:127:1
 same-length-3 : tie.Need-same-length-3
@@ -98,7 +99,7 @@ same-length-3 c = search needs
 
 -- src/direct.rt:127:1
 returns-7 : tie.Need-returns-7
-returns-7 c = found-at-once _ _ _ (c .before .before .placed .last .0) _ (c .before .before .before .before .before .before .before .before .before .before .before .before .before .before .before .before .before .before .before .before .before .before .before .before .args .q) _ _ (sym (c .before .before .before .before .before .before .before .before .before .before .before .before .before .before .page-word .ensures) ∙ c .before .before .before .before .before .before .before .before .before .before .before .before .m .given .1) _ _ _ (c .before .before .before .before .before .before .before .before .before .before .before .before .before .before .before .before .before .before .before .before .before .before .if1 .left) (c .before .before .before .before .before .before .before .before .before .before .before .before .before .before .before .before .before .before .before .if2 .left) (c .before .before .before .before .before .before .before .before .before .before .before .before .before .before .before .before .before .before .before .before .before .size .ensures .0 (omega (arith, c .before .before .before .before .before .before .before .before .before .before .before .before .before .before .before .before .before .before .before .before .before .before .if1 .left))) (sym (c .before .before .before .before .before .before .before .before .before .before .before .before .before .before .before .before .before .before .fits2 .ensures) ∙ c .before .before .before .before .before .before .before .before .before .before .before .before .before .before .before .before .enum-told .given .1) (sym (c .before .before .before .before .before .before .before .before .before .stands .ensures) ∙ c .before .before .before .before .before .before .before .enum-told4 .given .1) (c .before .before .before .before .before .before .meets .ensures) (c .before .before .before .before .before .if3 .left) (c .before .before .placed .result) (c .before .before .placed .ensures)
+returns-7 c = found-at-once _ _ _ (c .before .before .placed .last .0) _ (c .before .before .before .before .before .before .before .before .before .before .before .before .before .before .before .before .before .before .before .before .before .before .before .before .args .q) _ _ (sym (c .before .before .before .before .before .before .before .before .before .before .before .before .before .before .page-word .ensures) ∙ c .before .before .before .before .before .before .before .before .before .before .before .before .m .given .1) _ _ _ (c .before .before .before .before .before .before .before .before .before .before .before .before .before .before .before .before .before .before .before .before .before .before .if1 .left) (c .before .before .before .before .before .before .before .before .before .before .before .before .before .before .before .before .before .before .before .if2 .left) (c .before .before .before .before .before .before .before .before .before .before .before .before .before .before .before .before .before .before .before .before .before .size .ensures .0 (omega (arith, c .before .before .before .before .before .before .before .before .before .before .before .before .before .before .before .before .before .before .before .before .before .before .if1 .left))) (sym (c .before .before .before .before .before .before .before .before .before .before .before .before .before .before .before .before .before .before .fits2 .ensures) ∙ c .before .before .before .before .before .before .before .before .before .before .before .before .before .before .before .before .enum-told .given .1) (sym (c .before .before .before .before .before .before .before .before .before .names .ensures) ∙ c .before .before .before .before .before .before .before .enum-told4 .given .1) (c .before .before .before .before .before .before .meets .ensures) (c .before .before .before .before .before .if3 .left) (c .before .before .placed .result) (c .before .before .placed .ensures)
 
 pub at-once-spec : {M : Type 1} → statement M
 at-once-spec =
@@ -115,7 +116,7 @@ at-once-spec =
     enum-known-m
     enum-told-3
     returns-4
-    stands-requires
+    names-requires
     enum-told-4
     enum-told-5
     same-length

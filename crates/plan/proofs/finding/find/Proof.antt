@@ -1,3 +1,4 @@
+use Rattle.pool.proofs.Opening.{names-stands}
 use Rattle.plan.proofs.Ways.{way-paged}
 use Rattle.plan.specs.Find.{foundOf, soughtOf}
 use mathlib.Core.Path.{_≡_, sym, _∙_}
@@ -9,11 +10,11 @@ use Rattle.plan.proofs.finding.find.Reads as reads
 use Rattle.plan.proofs.finding.find.Lts as lts
 use Rattle.plan.proofs.descent.descend.Reads as descend-reads
 use Rattle.plan.proofs.finding.stopped.Reads as stopped-reads
-use Rattle.pool.proofs.stands.Reads as stands-reads
+use Rattle.pool.proofs.names.Reads as names-reads
 
 -- src/finding.rt:72:9
-stands-requires : tie.Need-stands-requires
-stands-requires c κs = search needs
+names-requires : tie.Need-names-requires
+names-requires c κs = search needs
 
 -- src/finding.rt:74:22
 enum-known-fit : tie.Need-enum-known-fit
@@ -26,11 +27,11 @@ enum-told c = search needs
 -- src/finding.rt:77:17
 returns : tie.Need-returns
 unfolding foundOf soughtOf
-returns c = simp (sym (c .before .before .before .stands .ensures) ∙ c .before .enum-told .given .1, le-ltb _ _ (c .if1 .taken))
+returns c = simp (sym (c .before .before .before .names .ensures) ∙ c .before .enum-told .given .1, le-ltb _ _ (c .if1 .taken))
 
 -- src/finding.rt:79:25
 descend-requires : tie.Need-descend-requires
-descend-requires c κs = sym (c .before .before .before .stands .ensures) ∙ c .before .enum-told .given .1
+descend-requires c κs = names-stands _ _ _ (sym (c .before .before .before .names .ensures) ∙ c .before .enum-told .given .1)
 
 -- src/finding.rt:79:13
 stopped-requires : tie.Need-stopped-requires
@@ -39,18 +40,18 @@ stopped-requires c κs = search needs
 -- src/finding.rt:69:1
 returns-2 : tie.Need-returns-2
 unfolding foundOf soughtOf
-returns-2 c = simp (sym (c .before .before .before .stands .ensures) ∙ c .before .fit .given .1)
+returns-2 c = simp (sym (c .before .before .before .names .ensures) ∙ c .before .fit .given .1)
 
 -- src/finding.rt:69:1
 returns-3 : tie.Need-returns-3
 unfolding foundOf soughtOf
-returns-3 c = simp (sym (c .before .before .before .before .before .stands .ensures) ∙ c .before .before .before .enum-told .given .1, lt-ltb _ _ (c .before .before .if1 .left), c .stopped .ensures _ (way-paged _ _ _ _ _) (c .before .descend .ensures))
+returns-3 c = simp (sym (c .before .before .before .before .before .names .ensures) ∙ c .before .before .before .enum-told .given .1, lt-ltb _ _ (c .before .before .if1 .left), c .stopped .ensures _ (way-paged _ _ _ _ _) (c .before .descend .ensures))
 
 pub find-spec : {M : Type 1} → statement M
 find-spec =
     tie.close
     (tie.spec
-    stands-requires
+    names-requires
     enum-known-fit
     enum-told
     returns

@@ -1,4 +1,4 @@
-use Rattle.plan.proofs.Standing.{stands}
+use Rattle.pool.proofs.Opening.{names-shows, names-stands}
 use Rattle.plan.specs.Map.{standingOf, fittingOf, placingOf}
 use mathlib.Core.Path.{sym, _∙_}
 use borrow.Author.Needs.{needs}
@@ -9,11 +9,11 @@ use Rattle.plan.proofs.maps.standing.Lts as lts
 use Rattle.plan.proofs.descent.descend.Reads as descend-reads
 use Rattle.plan.proofs.maps.meets.Reads as meets-reads
 use Rattle.plan.proofs.maps.stopped.Reads as stopped-reads
-use Rattle.pool.proofs.stands.Reads as stands-reads
+use Rattle.pool.proofs.names.Reads as names-reads
 
 -- src/maps.rt:255:9
-stands-requires : tie.Need-stands-requires
-stands-requires c κs = search needs
+names-requires : tie.Need-names-requires
+names-requires c κs = search needs
 
 -- src/maps.rt:257:22
 enum-known-fit : tie.Need-enum-known-fit
@@ -30,11 +30,11 @@ meets-requires c κs = search needs
 -- src/maps.rt:260:17
 returns : tie.Need-returns
 unfolding standingOf fittingOf placingOf
-returns c = λ u. let e = sym (c .before .before .before .before .stands .ensures) ∙ c .before .before .enum-told .given .1 in simp (e, sym (c .before .meets .ensures u (stands _ _ e .fits .small)) ∙ c .if1 .taken)
+returns c = λ u. let e = sym (c .before .before .before .before .names .ensures) ∙ c .before .before .enum-told .given .1 in simp (e, sym (c .before .meets .ensures u (names-shows _ _ _ e .fits .small)) ∙ c .if1 .taken)
 
 -- src/maps.rt:262:47
 descend-requires : tie.Need-descend-requires
-descend-requires c κs = sym (c .before .before .before .before .stands .ensures) ∙ c .before .before .enum-told .given .1
+descend-requires c κs = names-stands _ _ _ (sym (c .before .before .before .before .names .ensures) ∙ c .before .before .enum-told .given .1)
 
 -- src/maps.rt:262:13
 stopped-requires : tie.Need-stopped-requires
@@ -43,18 +43,18 @@ stopped-requires c κs = search needs
 -- src/maps.rt:251:1
 returns-2 : tie.Need-returns-2
 unfolding standingOf fittingOf placingOf
-returns-2 c = λ u. simp (sym (c .before .before .before .stands .ensures) ∙ c .before .fit .given .1)
+returns-2 c = λ u. simp (sym (c .before .before .before .names .ensures) ∙ c .before .fit .given .1)
 
 -- src/maps.rt:251:1
 returns-3 : tie.Need-returns-3
 unfolding standingOf fittingOf
-returns-3 c = λ u. let e = sym (c .before .before .before .before .before .before .stands .ensures) ∙ c .before .before .before .before .enum-told .given .1 in simp (e, sym (c .before .before .before .meets .ensures u (stands _ _ e .fits .small)) ∙ c .before .before .if1 .left) (c .stopped .ensures _ (c .before .descend .ensures))
+returns-3 c = λ u. let e = sym (c .before .before .before .before .before .before .names .ensures) ∙ c .before .before .before .before .enum-told .given .1 in simp (e, sym (c .before .before .before .meets .ensures u (names-shows _ _ _ e .fits .small)) ∙ c .before .before .if1 .left) (c .stopped .ensures _ (c .before .descend .ensures))
 
 pub standing-spec : {M : Type 1} → statement M
 standing-spec =
     tie.close
     (tie.spec
-    stands-requires
+    names-requires
     enum-known-fit
     enum-told
     meets-requires

@@ -1,5 +1,5 @@
 use native.Mathlib.Omega.{arith}
-use Rattle.pool.specs.Book.{bookPages}
+use Rattle.pool.specs.Layout.{bookPages}
 use borrow.Author.Needs.{needs}
 use Rattle.pool.proofs.bounds.in_pool.Statement.{statement}
 use Rattle.pool.proofs.bounds.in_pool.Tie as tie

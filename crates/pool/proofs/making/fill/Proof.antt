@@ -1,10 +1,11 @@
-use Prim.Native.Nat.{_≤_, _-_}
+use Prim.Native.Nat.{_+_, _≤_, _-_}
 use mathlib.Core.Path.{_≡_}
 use native.Mathlib.Omega.{arith}
 use Rattle.word.specs.Writes.{Wrote}
 use Rattle.word.proofs.Budget.{length-wrote}
+use Rattle.pool.specs.Layout.{slotAt}
 use Rattle.pool.specs.Create.{fills}
-use Rattle.pool.proofs.Fills.{wrote-no-slot, wrote-slot}
+use Rattle.pool.proofs.Rows.{wrote-no-word, wrote-word}
 use Rattle.pool.proofs.making.fill.Statement.{statement}
 use Rattle.pool.proofs.making.fill.Tie as tie
 use Rattle.pool.proofs.making.fill.Reads as reads
@@ -19,7 +20,7 @@ abbrev μ-loop : tie.MeasureT-loop
 
 -- src/making.rt:36:5
 loop-holds : tie.Need-loop-holds Inv-loop μ-loop
-loop-holds c = (omega arith, wrote-no-slot _ _ _ _)
+loop-holds c = (omega arith, wrote-no-word _ _ _ _ _)
 
 -- src/making.rt:37:31
 add-put : tie.Need-add-put Inv-loop μ-loop
@@ -43,7 +44,8 @@ loop-less c = omega arith
 
 -- src/making.rt:36:5
 loop-again : tie.Need-loop-again Inv-loop μ-loop
-loop-again c = (omega arith, wrote-slot _ _ _ _ _ _ _ _ _ (c .before .before .before .before .before .before .loop .inv .1) (c .before .before .put .ensures))
+unfolding slotAt
+loop-again c = (omega arith, wrote-word _ _ (λ j. c .before .before .before .before .before .before .before .before .args .from + j) _ _ _ _ _ _ _ (c .before .before .before .before .before .before .loop .inv .1) (c .before .before .put .ensures))
 
 -- src/making.rt:31:1
 same-length : tie.Need-same-length Inv-loop μ-loop

@@ -1,4 +1,5 @@
 use Rattle.word.proofs.Budget.{wrote-then}
+use Rattle.pool.specs.Layout.{markAt}
 use Rattle.pool.specs.Create.{layOut}
 use borrow.Author.Needs.{needs}
 use Rattle.pool.proofs.making.lay_out.Statement.{statement}
@@ -6,51 +7,52 @@ use Rattle.pool.proofs.making.lay_out.Tie as tie
 use Rattle.pool.proofs.making.lay_out.Reads as reads
 use Rattle.pool.proofs.making.lay_out.Lts as lts
 use Rattle.pool.proofs.book_pages.Reads as book-pages-reads
-use Rattle.pool.proofs.making.count.Reads as count-reads
-use Rattle.pool.proofs.making.fill.Reads as fill-reads
+use Rattle.pool.proofs.making.bare.Reads as bare-reads
+use Rattle.pool.proofs.making.put_header.Reads as put-header-reads
+use Rattle.pool.proofs.making.put_slots.Reads as put-slots-reads
 use Rattle.pool.proofs.put.Reads as put-reads
 use Rattle.word.proofs.clear.Reads as clear-reads
 
--- src/making.rt:60:30
+-- src/making.rt:108:30
 book-pages-requires : tie.Need-book-pages-requires
 book-pages-requires c κs = search needs
 
--- src/making.rt:60:16
+-- src/making.rt:108:16
 sub-free : tie.Need-sub-free
 sub-free c = search needs
 
--- src/making.rt:60:16
+-- src/making.rt:108:16
 sub-free-2 : tie.Need-sub-free-2
 sub-free-2 c = search needs
 
--- src/making.rt:61:28
-add-fill : tie.Need-add-fill
-add-fill c = search needs
+-- src/making.rt:109:5
+bare-requires : tie.Need-bare-requires
+bare-requires c κs = search needs
 
--- src/making.rt:61:5
-fill-requires : tie.Need-fill-requires
-fill-requires c κs = search needs
+-- src/making.rt:110:5
+put-slots-requires : tie.Need-put-slots-requires
+put-slots-requires c κs = search needs
 
--- src/making.rt:62:5
-count-requires : tie.Need-count-requires
-count-requires c κs = search needs
+-- src/making.rt:111:5
+put-header-requires : tie.Need-put-header-requires
+put-header-requires c κs = search needs
 
--- src/making.rt:63:5
+-- src/making.rt:112:5
 clear-requires : tie.Need-clear-requires
 clear-requires c κs = search needs
 
--- src/making.rt:64:5
+-- src/making.rt:113:5
 put-requires : tie.Need-put-requires
 put-requires c κs = search needs
 
--- src/making.rt:56:1
+-- src/making.rt:104:1
 same-length : tie.Need-same-length
 same-length c = search needs
 
--- src/making.rt:56:1
+-- src/making.rt:104:1
 returns : tie.Need-returns
-unfolding layOut
-returns c = rw (← c .before .before .before .before .before .before .before .before .before .before .before .before .before .before .before .before .before .before .before .before .before .before .book-pages .ensures) (wrote-then _ _ _ _ _ _ _ _ _ (c .before .before .before .before .before .before .before .before .before .before .before .before .before .before .before .before .before .fill .ensures) (wrote-then _ _ _ _ _ _ _ _ _ (c .before .before .before .before .before .before .before .before .before .before .before .before .count .ensures) (wrote-then _ _ _ _ _ _ _ _ _ (c .before .before .before .before .before .before .before .clear .ensures) (c .before .before .put .ensures))))
+unfolding layOut markAt
+returns c = rw (← c .before .before .before .before .before .before .before .before .before .before .before .before .before .before .before .before .before .before .before .before .before .before .before .before .before .before .book-pages .ensures) (wrote-then _ _ _ _ _ _ _ _ _ (c .before .before .before .before .before .before .before .before .before .before .before .before .before .before .before .before .before .before .before .before .before .before .bare .ensures) (wrote-then _ _ _ _ _ _ _ _ _ (c .before .before .before .before .before .before .before .before .before .before .before .before .before .before .before .before .before .put-slots .ensures) (wrote-then _ _ _ _ _ _ _ _ _ (c .before .before .before .before .before .before .before .before .before .before .before .before .put-header .ensures) (wrote-then _ _ _ _ _ _ _ _ _ (c .before .before .before .before .before .before .before .clear .ensures) (c .before .before .put .ensures)))))
 
 pub lay-out-spec : {M : Type 1} → statement M
 lay-out-spec =
@@ -59,9 +61,9 @@ lay-out-spec =
     book-pages-requires
     sub-free
     sub-free-2
-    add-fill
-    fill-requires
-    count-requires
+    bare-requires
+    put-slots-requires
+    put-header-requires
     clear-requires
     put-requires
     same-length
