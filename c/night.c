@@ -54,28 +54,28 @@ static int unchanged(void) {
 }
 
 static struct tp_mapped map(uint64_t root, uint64_t base, uint64_t frame, uint64_t size, uint64_t rights) {
-    return tp_map(mem, sizeof mem, ORIGIN, ORIGIN, PAGES, root, base, frame, size, rights);
+    return tp_raw_map(mem, sizeof mem, ORIGIN, ORIGIN, PAGES, root, base, frame, size, rights);
 }
 
 static struct tp_unmapped unmap(uint64_t root, uint64_t base) {
-    return tp_unmap(mem, sizeof mem, ORIGIN, ORIGIN, PAGES, root, base);
+    return tp_raw_unmap(mem, sizeof mem, ORIGIN, ORIGIN, PAGES, root, base);
 }
 
-static struct tp_found look(uint64_t root, uint64_t va) { return tp_look_up(mem, sizeof mem, ORIGIN, root, va); }
+static struct tp_found look(uint64_t root, uint64_t va) { return tp_raw_look_up(mem, sizeof mem, ORIGIN, root, va); }
 
 static void check_found(const char *what, struct tp_found f, uint64_t base, uint64_t size, uint64_t frame, uint64_t rights) {
     check(what, f.kind == TP_PAGE && f.base == base && f.size == size && f.frame == frame && f.rights == rights);
 }
 
 static void check_entry(const char *what, uint64_t table, uint64_t level, uint64_t index, struct tp_said should) {
-    struct tp_said s = tp_entry(mem, sizeof mem, ORIGIN, table, level, index);
+    struct tp_said s = tp_raw_entry(mem, sizeof mem, ORIGIN, table, level, index);
     check(what, s.kind == should.kind && s.address == should.address && s.rights == should.rights && s.marks == should.marks);
 }
 
 /* the way to the page at 2 GiB, entry by entry; the machine has walked it and written to the page, and then a reserved bit is set */
 static void check_way(uint64_t root) {
-    uint64_t upper = tp_entry(mem, sizeof mem, ORIGIN, root, 3, 0).address;
-    uint64_t lower = tp_entry(mem, sizeof mem, ORIGIN, upper, 2, 2).address;
+    uint64_t upper = tp_raw_entry(mem, sizeof mem, ORIGIN, root, 3, 0).address;
+    uint64_t lower = tp_raw_entry(mem, sizeof mem, ORIGIN, upper, 2, 2).address;
     check_entry("a table", root, 3, 0, (struct tp_said){TP_TABLE, upper, TP_WRITABLE | TP_USER, 0});
     check_entry("a page of 1 GiB", upper, 2, 1, (struct tp_said){TP_PAGE, 2ull * GIB1, TP_WRITABLE | TP_USER | TP_NO_EXECUTE, 0});
     uint8_t *entry = mem + (lower - ORIGIN);
@@ -101,7 +101,7 @@ static void check_refusals(uint64_t root) {
     check("overlap", map(root, GIB1 + MIB2, 0, 4096, 0).reason == TP_OVERLAP);
     check("nothing starts", unmap(root, GIB1 + 4096).reason == TP_NOTHING_STARTS);
     check("root", map(ORIGIN, 0, 0, 4096, 0).reason == TP_BAD_ROOT);
-    check("unknown", tp_told(mem, sizeof mem, ORIGIN, ORIGIN, PAGES, root, 99).reason == TP_UNKNOWN);
+    check("unknown", tp_raw_told(mem, sizeof mem, ORIGIN, ORIGIN, PAGES, root, 99).reason == TP_UNKNOWN);
     check("a refusal changes nothing", unchanged());
 }
 
@@ -113,13 +113,13 @@ static void night(uint64_t root) {
     check("map 2 MiB", m.reason == TP_DONE && m.tables == 1);
     check_way(root);
     check_refusals(root);
-    struct tp_protected p = tp_protect(mem, sizeof mem, ORIGIN, ORIGIN, PAGES, root, 2ull * GIB1, TP_USER);
+    struct tp_protected p = tp_raw_protect(mem, sizeof mem, ORIGIN, ORIGIN, PAGES, root, 2ull * GIB1, TP_USER);
     check("protect", p.reason == TP_DONE && p.frame == 5ull * MIB2 && p.size == MIB2);
     check_found("look up after protect", look(root, 2ull * GIB1 + MIB2 - 1), 2ull * GIB1, MIB2, 5ull * MIB2, TP_USER);
     struct tp_unmapped u = unmap(root, 2ull * GIB1);
     check("unmap 2 MiB", u.reason == TP_DONE && u.frame == 5ull * MIB2 && u.size == MIB2 && u.aside == 1 && u.ticket == 1);
     check("nothing there", look(root, 2ull * GIB1).kind == TP_NOTHING);
-    struct tp_report r = tp_told(mem, sizeof mem, ORIGIN, ORIGIN, PAGES, root, u.ticket);
+    struct tp_report r = tp_raw_told(mem, sizeof mem, ORIGIN, ORIGIN, PAGES, root, u.ticket);
     check("told", r.reason == TP_DONE && r.released == 1);
     u = unmap(root, GIB1);
     check("unmap 1 GiB", u.reason == TP_DONE && u.frame == 2ull * GIB1 && u.size == GIB1 && u.aside == 1);
@@ -135,14 +135,14 @@ static void dry(uint64_t root) {
         n++;
     }
     check("the pool runs dry", reason == TP_NO_ROOM && n == 1 && unchanged());
-    check("outside", tp_look_up(mem, 4096, ORIGIN, root, 0).kind == TP_OUTSIDE);
+    check("outside", tp_raw_look_up(mem, 4096, ORIGIN, root, 0).kind == TP_OUTSIDE);
 }
 
 __asm__(".globl _start\n_start: and $-16, %rsp\n call run\n");
 
 void run(void);
 void run(void) {
-    struct tp_created c = tp_create(mem, sizeof mem, ORIGIN, ORIGIN, PAGES);
+    struct tp_created c = tp_raw_create(mem, sizeof mem, ORIGIN, ORIGIN, PAGES);
     check("create", c.reason == TP_DONE && c.root > ORIGIN && c.root < ORIGIN + PAGES * 4096);
     check("empty", look(c.root, 0).kind == TP_NOTHING);
     night(c.root);

@@ -2,7 +2,7 @@
  *
  * A space is five numbers, the same at every call: the window (len bytes at mem, which are the physical memory from the physical
  * address origin on), the pool (pages of 4096 bytes from the physical address pool on, inside the window), and the physical
- * address of the root, which tp_create answers and which goes into CR3. The pool's first pages hold a book of what is free;
+ * address of the root, which tp_raw_create answers and which goes into CR3. The pool's first pages hold a book of what is free;
  * no other memory is used.
  *
  * Any bytes and any numbers may be given: every call ends, reads and writes inside the window alone, and writes words of the pool
@@ -76,7 +76,7 @@ struct tp_unmapped {
     uint64_t frame;
     uint64_t size;
     uint64_t aside;  /* how many tables became empty and were set aside */
-    uint64_t ticket; /* to be reported by tp_told; 0 where none was set aside */
+    uint64_t ticket; /* to be reported by tp_raw_told; 0 where none was set aside */
 };
 
 struct tp_protected {
@@ -119,31 +119,31 @@ struct tp_said {
 };
 
 /* Makes a pool of these pages, with its book and an empty root. What the pages held is lost. */
-struct tp_created tp_create(uint8_t *mem, size_t len, uint64_t origin, uint64_t pool, uint64_t pages);
+struct tp_created tp_raw_create(uint8_t *mem, size_t len, uint64_t origin, uint64_t pool, uint64_t pages);
 
 /* Maps the frame at the base. */
-struct tp_mapped tp_map(uint8_t *mem, size_t len, uint64_t origin, uint64_t pool, uint64_t pages, uint64_t root, uint64_t base,
+struct tp_mapped tp_raw_map(uint8_t *mem, size_t len, uint64_t origin, uint64_t pool, uint64_t pages, uint64_t root, uint64_t base,
                         uint64_t frame, uint64_t size, uint64_t rights);
 
 /* Unmaps the page that starts exactly at the base. Tables that become empty are set aside: nothing touches them before the report.
  * Whether caches still hold the page itself is for the caller to see to (INVLPG on every processor) before the frame is used anew. */
-struct tp_unmapped tp_unmap(uint8_t *mem, size_t len, uint64_t origin, uint64_t pool, uint64_t pages, uint64_t root, uint64_t base);
+struct tp_unmapped tp_raw_unmap(uint8_t *mem, size_t len, uint64_t origin, uint64_t pool, uint64_t pages, uint64_t root, uint64_t base);
 
 /* Gives the page that starts exactly at the base other rights. Accessed and dirty stay as they were in the entry that it read. */
-struct tp_protected tp_protect(uint8_t *mem, size_t len, uint64_t origin, uint64_t pool, uint64_t pages, uint64_t root, uint64_t base,
+struct tp_protected tp_raw_protect(uint8_t *mem, size_t len, uint64_t origin, uint64_t pool, uint64_t pages, uint64_t root, uint64_t base,
                                uint64_t rights);
 
 /* Reports that no processor walks, or holds in a cache, anything from before this ticket was handed out. What was set aside before
  * it is free again. */
-struct tp_report tp_told(uint8_t *mem, size_t len, uint64_t origin, uint64_t pool, uint64_t pages, uint64_t root, uint64_t ticket);
+struct tp_report tp_raw_told(uint8_t *mem, size_t len, uint64_t origin, uint64_t pool, uint64_t pages, uint64_t root, uint64_t ticket);
 
 /* What a walk from this root finds for the address. */
-struct tp_found tp_look_up(const uint8_t *mem, size_t len, uint64_t origin, uint64_t root, uint64_t va);
+struct tp_found tp_raw_look_up(const uint8_t *mem, size_t len, uint64_t origin, uint64_t root, uint64_t va);
 
 /* What one entry says, for whoever draws tables or looks for damage in them: of the table at this physical address (as in CR3), whose
  * entries are of this level (3 at the root, 0 at the last table), the one with this index. TP_OUTSIDE where the window has no such
  * table, and where there is no such index (from 512 on) or level (from 4 on). */
-struct tp_said tp_entry(const uint8_t *mem, size_t len, uint64_t origin, uint64_t table, uint64_t level, uint64_t index);
+struct tp_said tp_raw_entry(const uint8_t *mem, size_t len, uint64_t origin, uint64_t table, uint64_t level, uint64_t index);
 
 #ifdef __cplusplus
 }

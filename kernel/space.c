@@ -4,7 +4,7 @@
 #include "machine.h"
 
 struct space create(uint8_t *mem, uint64_t origin, uint64_t pages) {
-    struct tp_created c = tp_create(mem, pages * PAGE, origin, origin, pages);
+    struct tp_created c = tp_raw_create(mem, pages * PAGE, origin, origin, pages);
     if (c.reason != TP_DONE) give_up("create is refused for reason %u", c.reason);
     return (struct space){ mem, origin, pages, c.root };
 }

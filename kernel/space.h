@@ -11,23 +11,23 @@ struct space {
 };
 
 static inline struct tp_mapped map(const struct space *s, uint64_t base, uint64_t frame, uint64_t size, uint64_t rights) {
-    return tp_map(s->mem, s->pages * 4096, s->origin, s->origin, s->pages, s->root, base, frame, size, rights);
+    return tp_raw_map(s->mem, s->pages * 4096, s->origin, s->origin, s->pages, s->root, base, frame, size, rights);
 }
 
 static inline struct tp_unmapped unmap(const struct space *s, uint64_t base) {
-    return tp_unmap(s->mem, s->pages * 4096, s->origin, s->origin, s->pages, s->root, base);
+    return tp_raw_unmap(s->mem, s->pages * 4096, s->origin, s->origin, s->pages, s->root, base);
 }
 
 static inline struct tp_protected protect(const struct space *s, uint64_t base, uint64_t rights) {
-    return tp_protect(s->mem, s->pages * 4096, s->origin, s->origin, s->pages, s->root, base, rights);
+    return tp_raw_protect(s->mem, s->pages * 4096, s->origin, s->origin, s->pages, s->root, base, rights);
 }
 
 static inline struct tp_report told(const struct space *s, uint64_t ticket) {
-    return tp_told(s->mem, s->pages * 4096, s->origin, s->origin, s->pages, s->root, ticket);
+    return tp_raw_told(s->mem, s->pages * 4096, s->origin, s->origin, s->pages, s->root, ticket);
 }
 
 static inline struct tp_found look_up(const struct space *s, uint64_t va) {
-    return tp_look_up(s->mem, s->pages * 4096, s->origin, s->root, va);
+    return tp_raw_look_up(s->mem, s->pages * 4096, s->origin, s->root, va);
 }
 
 /* Makes the pool and the root; gives up where that is refused. */

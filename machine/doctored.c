@@ -58,12 +58,12 @@ static void give(uint8_t *mem, size_t len) {
     }
 }
 
-struct tp_mapped odd_tp_map(uint8_t *mem, size_t len, uint64_t origin, uint64_t pool, uint64_t pages, uint64_t root, uint64_t base,
+struct tp_mapped odd_tp_raw_map(uint8_t *mem, size_t len, uint64_t origin, uint64_t pool, uint64_t pages, uint64_t root, uint64_t base,
                             uint64_t frame, uint64_t size, uint64_t rights);
-struct tp_mapped odd_tp_map(uint8_t *mem, size_t len, uint64_t origin, uint64_t pool, uint64_t pages, uint64_t root, uint64_t base,
+struct tp_mapped odd_tp_raw_map(uint8_t *mem, size_t len, uint64_t origin, uint64_t pool, uint64_t pages, uint64_t root, uint64_t base,
                             uint64_t frame, uint64_t size, uint64_t rights) {
     take(mem, len);
-    struct tp_mapped answer = tp_map(copy, len, origin, pool, pages, root, base, frame, size, rights);
+    struct tp_mapped answer = tp_raw_map(copy, len, origin, pool, pages, root, base, frame, size, rights);
     give(mem, len);
     return answer;
 }

@@ -18,7 +18,7 @@ SLACK = 2  # pages of the window that are not of the pool
 
 
 def plain(tables, operation, arguments):
-    return {'tp_map': tables.map, 'tp_unmap': tables.unmap, 'tp_protect': tables.protect, 'tp_told': tables.told}[operation](*arguments)
+    return {'tp_raw_map': tables.map, 'tp_raw_unmap': tables.unmap, 'tp_raw_protect': tables.protect, 'tp_raw_told': tables.told}[operation](*arguments)
 
 
 class Night:
@@ -30,7 +30,7 @@ class Night:
         window = bytearray((self.pages + SLACK) * 4096)
         window[self.pages * 4096:] = bytes([0xa5]) * (SLACK * 4096)
         code.lend(window)
-        answer = code.call('tp_create', ORIGIN, ORIGIN, self.pages)
+        answer = code.call('tp_raw_create', ORIGIN, ORIGIN, self.pages)
         self.tables = Tables(code.window(), ORIGIN, self.pages)
         if answer != (0, self.tables.root << 12):
             raise Wrong(f'create answered {answer}')
@@ -44,15 +44,15 @@ class Night:
 
     def choose(self):
         dice = self.dice
-        kind = dice.choice(('tp_map', 'tp_map', 'tp_map', 'tp_unmap', 'tp_unmap', 'tp_protect', 'tp_told'))
-        if kind == 'tp_map':
+        kind = dice.choice(('tp_raw_map', 'tp_raw_map', 'tp_raw_map', 'tp_raw_unmap', 'tp_raw_unmap', 'tp_raw_protect', 'tp_raw_told'))
+        if kind == 'tp_raw_map':
             size = dice.choice(SIZES)
             frame = dice.choice((0x8000_0000, 0xc000_0000, (1 << 52) - (1 << 30), ORIGIN))
             return kind, (self.base(size), frame, size, dice.randrange(8))
-        if kind == 'tp_told':
+        if kind == 'tp_raw_told':
             return kind, (dice.randrange(self.tickets + len(self.aside) + 2),)
         base = dice.choice(self.mapped) if self.mapped and dice.random() < 0.9 else self.base(4096)
-        return (kind, (base,)) if kind == 'tp_unmap' else (kind, (base, dice.randrange(8)))
+        return (kind, (base,)) if kind == 'tp_raw_unmap' else (kind, (base, dice.randrange(8)))
 
     def mark(self):
         """The machine sets accessed and dirty by itself, now and then."""
@@ -65,9 +65,9 @@ class Night:
 
     def sampled(self, operation, arguments):
         samples = {self.base(4096) + self.dice.randrange(4096) for _ in range(3)}
-        if operation != 'tp_told':
+        if operation != 'tp_raw_told':
             base = arguments[0]
-            size = arguments[2] if operation == 'tp_map' else 4096
+            size = arguments[2] if operation == 'tp_raw_map' else 4096
             samples |= {base, base - 1, base + size - 1, base + size}
         return sorted(va for va in samples if 0 <= va < 1 << 48)
 
@@ -94,7 +94,7 @@ class Night:
         """Every load and store of one operation."""
         tables, code = self.tables, self.code
         frozen = set(self.aside)
-        entries, anew = [], not what.startswith('tp_map')
+        entries, anew = [], not what.startswith('tp_raw_map')
         for at, size, stored in code.loads:
             if at < 0 or at + size > code.size:
                 raise Wrong(f'{what} loads {size} bytes at {at:#x}, beyond the window')
@@ -130,13 +130,13 @@ class Night:
     def keep(self, operation, arguments, planned, before):
         if planned is None:
             return
-        if operation == 'tp_map':
+        if operation == 'tp_raw_map':
             self.mapped.append(arguments[0])
-        if operation == 'tp_unmap':
+        if operation == 'tp_raw_unmap':
             self.mapped.remove(arguments[0])
             after = self.tables.linked()
             self.aside += sorted(before.keys() - after.keys(), key=before.get)
-        if operation == 'tp_told':
+        if operation == 'tp_raw_told':
             due = max(0, arguments[0] - self.tickets)
             self.aside, self.tickets = self.aside[due:], self.tickets + due
 

@@ -34,7 +34,7 @@ use Rattle.abi.specs.Calls.{siteOf, askedSite, shapedSite, ask, createAn
 use Rattle.abi.specs.Relied as c
 use Rattle.abi.specs.Relied.{Numbers, spaceOf, asked, granted, WholeAt, Call, reason, tpCreate, tpMap, tpUnmap, tpProtect, tpTold}
 use Rattle.abi.specs.Reasons.{MapReasons, StartReasons, ToldReasons, Shaped, SiteReasons, CreateReasons}
-use Rattle.abi.specs.declared.Sited.the-variants.{Refused}
+use Rattle.abi.specs.declared.sites.Sited.the-variants.{Refused}
 use Rattle.abi.proofs.Named.{map-answers, unmap-answers, protect-answers, told-answers}
 use Rattle.abi.proofs.Reasons.{one-reason, never-done}
 

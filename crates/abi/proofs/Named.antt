@@ -16,7 +16,7 @@ use Rattle.abi.specs.Answers.{rightsIn, rightsWord, mapped, unmapped, pr
 use Rattle.abi.specs.Calls.{siteOf, ask, bytesAfter, unmapAnswer, protectAnswer, toldAnswer}
 use Rattle.abi.specs.Relied as c
 use Rattle.abi.specs.Relied.{Numbers, Aligned, spaceOf, Call, callOf, granted, asked, leaves, tpMap, tpUnmap, tpProtect, tpTold}
-use Rattle.abi.specs.declared.Sited.the-variants.{At}
+use Rattle.abi.specs.declared.sites.Sited.the-variants.{At}
 use Rattle.abi.proofs.Asked.{answer-asked, bytes-asked}
 
 -- Rights -----------------------------------------------------------------------------------------------------------------------------

@@ -36,8 +36,8 @@ use Rattle.abi.specs.Relied.{Numbers, Call, tpCreate, createLeaves, leav
 use Rattle.abi.specs.declared.answers.Created.{Created}
 use Rattle.abi.specs.declared.answers.Unmapped.{Unmapped}
 use Rattle.abi.specs.declared.answers.Protected.{Protected}
-use Rattle.abi.specs.declared.Sited.{Sited}
-use Rattle.abi.specs.declared.Sited.the-variants.{At, Refused}
+use Rattle.abi.specs.declared.sites.Sited.{Sited}
+use Rattle.abi.specs.declared.sites.Sited.the-variants.{At, Refused}
 
 module _ (s : List ℕ) where
   same : {k : List ℕ} → k ≡ replicate (length k) 0 → Untouched s s k

@@ -1,4 +1,4 @@
--- EXACTLY AS ASKED, by the numbers that C gives and gets: every call keeps the space whole, and what tp_look_up answers after each.
+-- EXACTLY AS ASKED, by the numbers that C gives and gets: every call keeps the space whole, and what tp_raw_look_up answers after each.
 use Prim.Native.Nat.{ℕ, _*_, _/_, _%_, _^_, _≤_}
 use mathlib.Core.List.{List}
 use mathlib.Core.Path.{_≡_, refl, sym, ap, _∙_, subst}
@@ -49,7 +49,7 @@ every-call-keeps s n w x =
 -- Look-up after each -------------------------------------------------------------------------------------------------------------------
 
 module _ (n : Numbers) (a : Aligned n) where
-  -- the root is given to tp_look_up as it is to the others
+  -- the root is given to tp_raw_look_up as it is to the others
   pub looks : (s : List ℕ) (va : ℕ) → tpLookUp s n va ≡ lookedUp (lookUp s (spaceOf n) va)
   looks s va = let same : 4096 * (n .root / 4096) ≡ n .root = omega (arith, a .root) in rw same
 

@@ -28,8 +28,8 @@ use Rattle.abi.specs.declared.answers.Unmapped.{Unmapped}
 use Rattle.abi.specs.declared.answers.Protected.{Protected}
 use Rattle.abi.specs.declared.answers.Told.{Told}
 use Rattle.abi.specs.declared.answers.LookedUp.{LookedUp}
-use Rattle.abi.specs.declared.Sited.{Sited}
-use Rattle.abi.specs.declared.Sited.the-variants.{At, Refused}
+use Rattle.abi.specs.declared.sites.Sited.{Sited}
+use Rattle.abi.specs.declared.sites.Sited.the-variants.{At, Refused}
 
 -- Spaces, in bytes --------------------------------------------------------------------------------------------------------------
 

@@ -97,12 +97,12 @@ answers! {
 // Two words come back in registers, by C's convention on each processor and by that of the module alike.
 #[rustfmt::skip]
 extern "C" {
-    fn tp_create(mem: *mut u8, len: usize, origin: u64, pool: u64, pages: u64) -> Created;
-    fn tp_map(
+    fn tp_raw_create(mem: *mut u8, len: usize, origin: u64, pool: u64, pages: u64) -> Created;
+    fn tp_raw_map(
         mem: *mut u8, len: usize, origin: u64, pool: u64, pages: u64, root: u64,
         base: u64, frame: u64, size: u64, rights: u64,
     ) -> Mapped;
-    fn tp_told(mem: *mut u8, len: usize, origin: u64, pool: u64, pages: u64, root: u64, ticket: u64) -> Told;
+    fn tp_raw_told(mem: *mut u8, len: usize, origin: u64, pool: u64, pages: u64, root: u64, ticket: u64) -> Told;
 }
 
 /// A function whose answer has more than two words. On x86-64 it is C's. Elsewhere the module is one that was lowered for x86-64
@@ -132,56 +132,56 @@ macro_rules! long {
     };
 }
 
-long!(tp_unmap(mem: *mut u8, len: usize, origin: u64, pool: u64, pages: u64, root: u64, base: u64) -> Unmapped);
-long!(tp_protect(mem: *mut u8, len: usize, origin: u64, pool: u64, pages: u64, root: u64, base: u64, rights: u64) -> Protected);
-long!(tp_look_up(mem: *const u8, len: usize, origin: u64, root: u64, va: u64) -> LookedUp);
-long!(tp_entry(mem: *const u8, len: usize, origin: u64, table: u64, level: u64, index: u64) -> Said);
+long!(tp_raw_unmap(mem: *mut u8, len: usize, origin: u64, pool: u64, pages: u64, root: u64, base: u64) -> Unmapped);
+long!(tp_raw_protect(mem: *mut u8, len: usize, origin: u64, pool: u64, pages: u64, root: u64, base: u64, rights: u64) -> Protected);
+long!(tp_raw_look_up(mem: *const u8, len: usize, origin: u64, root: u64, va: u64) -> LookedUp);
+long!(tp_raw_entry(mem: *const u8, len: usize, origin: u64, table: u64, level: u64, index: u64) -> Said);
 
 // SAFETY, of every call below: pointer and length are those of one slice, which is lent for the call, and the library is proved to
 // end and to read and write inside it alone, for any bytes and any numbers (crates/abi: no function has a `requires`).
 
-/// `tp_create`.
+/// `tp_raw_create`.
 #[inline]
 pub fn create(mem: &mut [u8], origin: u64, pool: u64, pages: u64) -> Created {
-    unsafe { tp_create(mem.as_mut_ptr(), mem.len(), origin, pool, pages) }
+    unsafe { tp_raw_create(mem.as_mut_ptr(), mem.len(), origin, pool, pages) }
 }
 
-/// `tp_map`.
+/// `tp_raw_map`.
 #[inline]
 pub fn map(mem: &mut [u8], space: Space, base: u64, frame: u64, size: u64, rights: u64) -> Mapped {
     let Space { origin, pool, pages, root } = space;
-    unsafe { tp_map(mem.as_mut_ptr(), mem.len(), origin, pool, pages, root, base, frame, size, rights) }
+    unsafe { tp_raw_map(mem.as_mut_ptr(), mem.len(), origin, pool, pages, root, base, frame, size, rights) }
 }
 
-/// `tp_unmap`.
+/// `tp_raw_unmap`.
 #[inline]
 pub fn unmap(mem: &mut [u8], space: Space, base: u64) -> Unmapped {
     let Space { origin, pool, pages, root } = space;
-    unsafe { tp_unmap(mem.as_mut_ptr(), mem.len(), origin, pool, pages, root, base) }
+    unsafe { tp_raw_unmap(mem.as_mut_ptr(), mem.len(), origin, pool, pages, root, base) }
 }
 
-/// `tp_protect`.
+/// `tp_raw_protect`.
 #[inline]
 pub fn protect(mem: &mut [u8], space: Space, base: u64, rights: u64) -> Protected {
     let Space { origin, pool, pages, root } = space;
-    unsafe { tp_protect(mem.as_mut_ptr(), mem.len(), origin, pool, pages, root, base, rights) }
+    unsafe { tp_raw_protect(mem.as_mut_ptr(), mem.len(), origin, pool, pages, root, base, rights) }
 }
 
-/// `tp_told`.
+/// `tp_raw_told`.
 #[inline]
 pub fn told(mem: &mut [u8], space: Space, ticket: u64) -> Told {
     let Space { origin, pool, pages, root } = space;
-    unsafe { tp_told(mem.as_mut_ptr(), mem.len(), origin, pool, pages, root, ticket) }
+    unsafe { tp_raw_told(mem.as_mut_ptr(), mem.len(), origin, pool, pages, root, ticket) }
 }
 
-/// `tp_look_up`.
+/// `tp_raw_look_up`.
 #[inline]
 pub fn look_up(mem: &[u8], origin: u64, root: u64, va: u64) -> LookedUp {
-    unsafe { tp_look_up(mem.as_ptr(), mem.len(), origin, root, va) }
+    unsafe { tp_raw_look_up(mem.as_ptr(), mem.len(), origin, root, va) }
 }
 
-/// `tp_entry`.
+/// `tp_raw_entry`.
 #[inline]
 pub fn entry(mem: &[u8], origin: u64, table: u64, level: u64, index: u64) -> Said {
-    unsafe { tp_entry(mem.as_ptr(), mem.len(), origin, table, level, index) }
+    unsafe { tp_raw_entry(mem.as_ptr(), mem.len(), origin, table, level, index) }
 }
