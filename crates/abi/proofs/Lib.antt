@@ -2,6 +2,7 @@ pub mod Rooted
 pub mod Walked
 pub mod Asked
 pub mod Shortcut
+pub mod Meant
 pub mod Named
 pub mod Reasons
 pub mod Says

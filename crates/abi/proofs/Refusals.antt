@@ -30,7 +30,7 @@ use Rattle.plan.specs.declared.protects.Changing.the-variants as changing
 use Rattle.tablepath.specs.Answers as the
 use Rattle.abi.specs.Answers.{rightsIn, created, mapped, unmapped, protected, told}
 use Rattle.abi.specs.Calls as call
-use Rattle.abi.specs.Calls.{siteOf, askedSite, ask, bytesAfter, createAnswer, mapAnswer, mapBytes, unmapAnswer, unmapBytes, protectAnswer, protectBytes, toldAnswer, toldBytes}
+use Rattle.abi.specs.Calls.{siteOf, mapSite, protectSite, ask, bytesAfter, createAnswer, mapAnswer, mapBytes, unmapAnswer, unmapBytes, protectAnswer, protectBytes, toldAnswer, toldBytes}
 use Rattle.abi.specs.Relied as c
 use Rattle.abi.specs.Relied.{Numbers, Call, tpCreate, createLeaves, leaves, reason, others, Untouched}
 use Rattle.abi.specs.declared.answers.Created.{Created}
@@ -98,9 +98,9 @@ module _ (s : List ℕ) where
   -- EVERY CALL in a space, or in what is none
   pub call-refused : (n : Numbers) (x : Call) → reason s n x ≢ 0 → Untouched s (leaves s n x) (others s n x)
   unfolding reason leaves others unmapFields protectFields
-  call-refused n (c.map base frame size rights) k = map-refused (ask base frame size rights) (askedSite (n .origin) (n .pool) (n .pages) (n .root) (ask base frame size rights)) k
+  call-refused n (c.map base frame size rights) k = map-refused (ask base frame size rights) (mapSite (n .origin) (n .pool) (n .pages) (n .root) base frame size rights) k
   call-refused n (c.unmap base) k = unmap-refused base (siteOf (n .origin) (n .pool) (n .pages) (n .root)) k
-  call-refused n (c.protect base rights) k = protect-refused base (rightsIn rights) (siteOf (n .origin) (n .pool) (n .pages) (n .root)) k
+  call-refused n (c.protect base rights) k = protect-refused base (rightsIn rights) (protectSite (n .origin) (n .pool) (n .pages) (n .root) rights) k
   call-refused n (c.told ticket) k = told-refused ticket (siteOf (n .origin) (n .pool) (n .pages) (n .root)) k
 
   -- CREATE

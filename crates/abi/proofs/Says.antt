@@ -1,5 +1,5 @@
 -- THE ANSWER TELLS THE OPERATION'S: from the numbers that C gets, field by field, what the operation answered is known again, for any bytes.
-use Prim.Native.Nat.{ℕ}
+use Prim.Native.Nat.{ℕ, _<_}
 use mathlib.Core.List.{List}
 use mathlib.Core.Logic.{inl, inr}
 use mathlib.Core.Path.{_≡_, refl, sym, ap, _∙_}
@@ -126,16 +126,16 @@ module _ (s : List ℕ) where
   look-up-says n va = looked-up-says _
 
   module _ (n : Numbers) (a : Aligned n) where
-    pub map-says : (base frame size rights : ℕ) → MapSays (tpMap s n base frame size rights)
+    pub map-says : (base frame size rights : ℕ) → rights < 8 → MapSays (tpMap s n base frame size rights)
         (the.mapAnswer (holds s (n .origin)) (memory s (n .origin)) (spaceOf n) (asked base frame size rights))
-    map-says base frame size rights = rw (map-answers n a s base frame size rights) (mapped-says _)
+    map-says base frame size rights l = rw (map-answers n a s base frame size rights l) (mapped-says _)
 
     pub unmap-says : (base : ℕ) → UnmapSays (tpUnmap s n base) (the.unmapAnswer (holds s (n .origin)) (memory s (n .origin)) (spaceOf n) base)
     unmap-says base = rw (unmap-answers n a s base) (unmapped-says _)
 
-    pub protect-says : (base rights : ℕ) → ProtectSays (tpProtect s n base rights)
+    pub protect-says : (base rights : ℕ) → rights < 8 → ProtectSays (tpProtect s n base rights)
         (the.protectAnswer (holds s (n .origin)) (memory s (n .origin)) (spaceOf n) base (granted rights))
-    protect-says base rights = rw (protect-answers n a s base rights) (protected-says _)
+    protect-says base rights l = rw (protect-answers n a s base rights l) (protected-says _)
 
     pub told-says : (ticket : ℕ) → ToldSays (tpTold s n ticket) (the.toldAnswer (holds s (n .origin)) (memory s (n .origin)) (spaceOf n) ticket)
     told-says ticket = rw (told-answers n a s ticket) (told-struct _)

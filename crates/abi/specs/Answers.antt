@@ -32,11 +32,11 @@ use Rattle.abi.specs.declared.answers.LookedUp.{LookedUp}
 unfoldable pub rightsWord : Rights → ℕ
 rightsWord r = flag (r .writable) + 2 * flag (r .user) + 4 * flag (r .noexec)
 
--- bits above the third count for nothing
+-- by the three lowest bits
 unfoldable pub rightsIn : ℕ → Rights
 rightsIn w = record { writable = eqb (w % 2) 1; user = eqb (w / 2 % 2) 1; noexec = eqb (w / 4 % 2) 1 }
 
--- Reasons: 0 is done; 14 and 15 are in Calls, 23 and 24 in `told` below ---------------------------------------------------------
+-- Reasons: 0 is done; 14, 15 and 25 are in Calls, 23 and 24 in `told` below ------------------------------------------------------
 
 unfoldable pub poolReason : inPool.Reason → ℕ
 poolReason pool.OriginUnaligned = 12

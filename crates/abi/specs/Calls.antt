@@ -1,10 +1,10 @@
--- What each call answers and bytesAfter, as functions of the bytes at entry and the numbers that were given. A space is refused by the number
+-- What each call answers and leaves, as functions of the bytes at entry and the numbers that were given. A space is refused by the number
 -- of its reason; what is then left are the bytes at entry.
 use Prim.Native.Nat.{ℕ, _/_, _%_}
 use mathlib.Core.Bool.{cond}
 use mathlib.Core.List.{List, []}
 use mathlib.Core.Path.{_≡_}
-use lib.Dec.{eqb}
+use lib.Dec.{eqb, ltb}
 use lib.ListN.{length}
 use Rattle.word.specs.Memory.{memory, holds}
 use Rattle.word.specs.Writes.{Write, Wrote, carried}
@@ -59,6 +59,16 @@ misplacedOf q y = misplacedBy y (shapeOf (q .size) (q .base) (q .frame))
 
 abbrev pub ask : ℕ → ℕ → ℕ → ℕ → Asked
 ask base frame size rights = record { base = base; frame = frame; size = size; rights = rightsIn rights }
+
+-- before all else, map and protect look at the rights: bits above the third mean nothing
+unfoldable pub rightsSite : ℕ → Sited → Sited
+rightsSite rights s = cond (ltb rights 8) s (Refused 25)
+
+abbrev pub mapSite : ℕ → ℕ → ℕ → ℕ → ℕ → ℕ → ℕ → ℕ → Sited
+mapSite origin pool pages root base frame size rights = rightsSite rights (askedSite origin pool pages root (ask base frame size rights))
+
+abbrev pub protectSite : ℕ → ℕ → ℕ → ℕ → ℕ → Sited
+protectSite origin pool pages root rights = rightsSite rights (siteOf origin pool pages root)
 
 -- Bytes and writes -----------------------------------------------------------------------------------------------------------------
 

@@ -36,7 +36,7 @@ use Rattle.abi.specs.declared.answers.LookedUp.{LookedUp}
 
 -- Numbers ----------------------------------------------------------------------------------------------------------------------------
 
--- what the field `reason` says: done, an operation's own reason (the pool's among them), or one of four more
+-- what the field `reason` says: done, an operation's own reason (the pool's among them), or one of five more
 pub data Why : Type 0 where
   done : Why
   refused : Reason → Why
@@ -44,6 +44,7 @@ pub data Why : Type 0 where
   root-unaligned : Why
   unknown : Why
   spent : Why
+  rights : Why
 
 unfoldable pub numberOf : Why → ℕ
 numberOf done = 0
@@ -52,6 +53,7 @@ numberOf pool-unaligned = 14
 numberOf root-unaligned = 15
 numberOf unknown = 23
 numberOf spent = 24
+numberOf rights = 25
 
 -- THE HEADER'S enum tp_reason, from 0 on
 unfoldable pub header : List Why
@@ -60,7 +62,7 @@ header =
     ∷ refused Overlap ∷ refused NoRoom ∷ refused NothingStarts ∷ refused Stray ∷ refused BadList ∷ refused (Pool pool.OriginUnaligned)
     ∷ refused (Pool pool.LengthUnaligned) ∷ pool-unaligned ∷ root-unaligned ∷ refused (Pool pool.PoolLarge) ∷ refused (Pool pool.PoolSmall)
     ∷ refused (Pool pool.PoolOutside) ∷ refused (Pool pool.BadRoot) ∷ refused (Pool pool.NoBook) ∷ refused (Pool pool.OtherBook)
-    ∷ refused (Pool pool.BadBook) ∷ unknown ∷ spent ∷ []
+    ∷ refused (Pool pool.BadBook) ∷ unknown ∷ spent ∷ rights ∷ []
 
 -- What an answer x says: that the operation's own answer was a. Known: it has no other number -----------------------------------------------
 
@@ -100,22 +102,29 @@ pub record LookUpSays (x : LookedUp) (a : Found) : Type 0 where
 
 -- When each number is given, in a space that is whole -----------------------------------------------------------------------------------
 
--- by map: each exactly for its cause, and no others
-pub record MapReasons (n : ℕ) (cause : Reason → Type 0) : Type 0 where
-  pub size : (n ≡ 1) ↔ cause Size
-  pub base-unaligned : (n ≡ 2) ↔ cause BaseUnaligned
-  pub frame-unaligned : (n ≡ 3) ↔ cause FrameUnaligned
-  pub base-range : (n ≡ 4) ↔ cause BaseRange
-  pub frame-range : (n ≡ 5) ↔ cause FrameRange
-  pub frame-in-pool : (n ≡ 6) ↔ cause FrameInPool
-  pub overlap : (n ≡ 7) ↔ cause Overlap
-  pub no-room : (n ≡ 8) ↔ cause NoRoom
-  pub no-other : n ≤ 8
+-- by map: rights that mean nothing before all else; then each exactly for its cause, and no others
+pub record MapReasons (n rights : ℕ) (cause : Reason → Type 0) : Type 0 where
+  pub rights-mean : (n ≡ 25) ↔ (8 ≤ rights)
+  pub size : (n ≡ 1) ↔ ((rights < 8) × cause Size)
+  pub base-unaligned : (n ≡ 2) ↔ ((rights < 8) × cause BaseUnaligned)
+  pub frame-unaligned : (n ≡ 3) ↔ ((rights < 8) × cause FrameUnaligned)
+  pub base-range : (n ≡ 4) ↔ ((rights < 8) × cause BaseRange)
+  pub frame-range : (n ≡ 5) ↔ ((rights < 8) × cause FrameRange)
+  pub frame-in-pool : (n ≡ 6) ↔ ((rights < 8) × cause FrameInPool)
+  pub overlap : (n ≡ 7) ↔ ((rights < 8) × cause Overlap)
+  pub no-room : (n ≡ 8) ↔ ((rights < 8) × cause NoRoom)
+  pub no-other : rights < 8 → n ≤ 8
 
--- by unmap and protect: whether a page starts at the base
+-- by unmap: whether a page starts at the base
 pub record StartReasons (n : ℕ) (starts : Type 0) : Type 0 where
   pub done : (n ≡ 0) ↔ starts
   pub nothing-starts : (n ≡ 9) ↔ (¬ starts)
+
+-- by protect: the rights, then the same
+pub record ProtectReasons (n rights : ℕ) (starts : Type 0) : Type 0 where
+  pub rights-mean : (n ≡ 25) ↔ (8 ≤ rights)
+  pub done : (n ≡ 0) ↔ ((rights < 8) × starts)
+  pub nothing-starts : (n ≡ 9) ↔ ((rights < 8) × (¬ starts))
 
 -- by told, with this book: whether the ticket was handed out, and whether it is one of the first 2^62
 pub record ToldReasons (n : ℕ) (b : Book) (ticket : ℕ) : Type 0 where
@@ -125,11 +134,11 @@ pub record ToldReasons (n : ℕ) (b : Book) (ticket : ℕ) : Type 0 where
 
 -- Numbers that name no space, whatever the bytes -----------------------------------------------------------------------------------------
 
--- map looks at its size, alignments and ranges first; of the others nothing else is looked at before the space
+-- after the rights, map looks at its size, alignments and ranges; of the others nothing else is looked at before the space
 abbrev pub Shaped : Call → Type 0
-Shaped (c.map base frame size rights) = (l : ℕ) × (shapeOf size base frame ≡ Level l)
+Shaped (c.map base frame size w) = (l : ℕ) × (shapeOf size base frame ≡ Level l)
 Shaped (c.unmap base) = Unit {0}
-Shaped (c.protect base rights) = Unit {0}
+Shaped (c.protect base w) = Unit {0}
 Shaped (c.told ticket) = Unit {0}
 
 pub record SiteReasons (k : ℕ) (n : Numbers) : Type 0 where

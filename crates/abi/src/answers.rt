@@ -73,7 +73,7 @@ pub fn rights_word(r: Rights) -> u64
     bit(r.writable) + 2 * bit(r.user) + 4 * bit(r.noexec)
 }
 
-// Bits above the third count for nothing.
+// By the three lowest bits; whoever asks with others is refused before.
 pub fn rights(w: u64) -> Rights
     ensures { λ r. ⌜ r ≡ the.rightsIn w ⌝ }
 {

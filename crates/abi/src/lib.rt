@@ -44,8 +44,8 @@ pub extern "C" fn tp_raw_map(
     size: u64,
     rights: u64,
 ) -> Mapped
-    ensures answer { λ r. ⌜ r ≡ call.mapAnswer (now (mem .entry)) (call.ask base frame size rights) (call.askedSite origin pool pages root (call.ask base frame size rights)) ⌝ }
-    ensures bytes { λ _. ⌜ now (mem .exit) ≡ call.mapBytes (now (mem .entry)) (call.ask base frame size rights) (call.askedSite origin pool pages root (call.ask base frame size rights)) ⌝ }
+    ensures answer { λ r. ⌜ r ≡ call.mapAnswer (now (mem .entry)) (call.ask base frame size rights) (call.mapSite origin pool pages root base frame size rights) ⌝ }
+    ensures bytes { λ _. ⌜ now (mem .exit) ≡ call.mapBytes (now (mem .entry)) (call.ask base frame size rights) (call.mapSite origin pool pages root base frame size rights) ⌝ }
 {
     let mut left: u64 = word::ENDLESS;
     maps::map_up_to(
@@ -90,8 +90,8 @@ pub extern "C" fn tp_raw_protect(
     base: u64,
     rights: u64,
 ) -> Protected
-    ensures answer { λ r. ⌜ r ≡ call.protectAnswer (now (mem .entry)) base (the.rightsIn rights) (call.siteOf origin pool pages root) ⌝ }
-    ensures bytes { λ _. ⌜ now (mem .exit) ≡ call.protectBytes (now (mem .entry)) base (the.rightsIn rights) (call.siteOf origin pool pages root) ⌝ }
+    ensures answer { λ r. ⌜ r ≡ call.protectAnswer (now (mem .entry)) base (the.rightsIn rights) (call.protectSite origin pool pages root rights) ⌝ }
+    ensures bytes { λ _. ⌜ now (mem .exit) ≡ call.protectBytes (now (mem .entry)) base (the.rightsIn rights) (call.protectSite origin pool pages root rights) ⌝ }
 {
     let mut left: u64 = word::ENDLESS;
     up_to::protect_up_to(mem, &mut left, origin, pool, pages, root, base, rights)

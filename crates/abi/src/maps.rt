@@ -119,9 +119,15 @@ pub fn map_up_to(
     size: u64,
     rights: u64,
 ) -> Mapped
-    ensures answer { λ r. ⌜ r ≡ call.mapAnswer (now (mem .entry)) (call.ask base frame size rights) (call.askedSite origin pool pages root (call.ask base frame size rights)) ⌝ }
-    ensures order { λ _. ⌜ call.InOrder (call.askedSite origin pool pages root (call.ask base frame size rights)) (call.mapWrites (now (mem .entry)) (call.ask base frame size rights)) (now (left .entry)) (now (left .exit)) (now (mem .entry)) (now (mem .exit)) ⌝ }
+    ensures answer { λ r. ⌜ r ≡ call.mapAnswer (now (mem .entry)) (call.ask base frame size rights) (call.mapSite origin pool pages root base frame size rights) ⌝ }
+    ensures order { λ _. ⌜ call.InOrder (call.mapSite origin pool pages root base frame size rights) (call.mapWrites (now (mem .entry)) (call.ask base frame size rights)) (now (left .entry)) (now (left .exit)) (now (mem .entry)) (now (mem .exit)) ⌝ }
 {
+    if 8 <= rights {
+        return Mapped {
+            reason: 25,
+            tables: 0,
+        };
+    }
     if size == 4096 {
         return sized(
             mem,

@@ -72,9 +72,16 @@ pub fn protect_up_to(
     base: u64,
     rights: u64,
 ) -> Protected
-    ensures answer { λ r. ⌜ r ≡ call.protectAnswer (now (mem .entry)) base (the.rightsIn rights) (call.siteOf origin pool pages root) ⌝ }
-    ensures order { λ _. ⌜ call.InOrder (call.siteOf origin pool pages root) (call.protectWrites (now (mem .entry)) base (the.rightsIn rights)) (now (left .entry)) (now (left .exit)) (now (mem .entry)) (now (mem .exit)) ⌝ }
+    ensures answer { λ r. ⌜ r ≡ call.protectAnswer (now (mem .entry)) base (the.rightsIn rights) (call.protectSite origin pool pages root rights) ⌝ }
+    ensures order { λ _. ⌜ call.InOrder (call.protectSite origin pool pages root rights) (call.protectWrites (now (mem .entry)) base (the.rightsIn rights)) (now (left .entry)) (now (left .exit)) (now (mem .entry)) (now (mem .exit)) ⌝ }
 {
+    if 8 <= rights {
+        return Protected {
+            reason: 25,
+            frame: 0,
+            size: 0,
+        };
+    }
     let s = crate::sites::site(origin, pool, pages, root);
     match s {
         Sited::Refused(y) => Protected {
