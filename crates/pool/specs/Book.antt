@@ -2,7 +2,7 @@
 --   word 0 the mark · 1 the number of pages · 2 head · 3 free · 4 aside · 5 tickets · 6, 7 nothing yet · 8 + j slot j
 -- The slots are a ring. From the head on it lists the free pages, oldest first, and right behind them the pages set aside, oldest first.
 -- Everything here is over a memory m, with h: which pages lie in the window.
-use Prim.Native.Nat.{ℕ, _+_, _-_, _*_, _/_, _^_, _<_, _≤_}
+use Prim.Native.Nat.{ℕ, _+_, _-_, _*_, _/_, _%_, _^_, _<_, _≤_}
 use mathlib.Core.Bool.{Bool, cond, _&&_, not}
 use lib.Dec.{leb, ltb, eqb}
 use Rattle.pool.specs.declared.Space.{Space}
@@ -104,9 +104,9 @@ listedOf h m sp b k =
 abbrev pub ticketOf : Book → ℕ
 ticketOf b = b .tickets + b .aside
 
--- the same as a number of 64 bits; a book that was opened has no larger one
+-- the same as a number of 64 bits; a book that can be has no larger one
 unfoldable pub ticketIn : Book → ℕ
-ticketIn b = cond (ltb (ticketOf b) (2 ^ 64)) (ticketOf b) 0
+ticketIn b = ticketOf b % 2 ^ 64
 
 -- how many pages a report of this ticket releases: those whose number is below it
 unfoldable pub dueOf : Book → ℕ → Due

@@ -3,3 +3,4 @@ pub mod Changes
 pub mod Create
 pub mod Booked
 pub mod Stands
+pub mod State

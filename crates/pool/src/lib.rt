@@ -13,12 +13,17 @@ use word::Cell;
 
 mod bounds;
 mod making;
+mod moment;
 
 use bounds::book_of;
 pub use bounds::entry;
 pub use bounds::in_pool;
 pub use bounds::set_entry;
 pub use making::create;
+pub use moment::Counts;
+pub use moment::Stated;
+pub use moment::book_now;
+pub use moment::state;
 
 // "the book" in ASCII.
 const MARK: u64 = 7741528751714166900;
@@ -252,10 +257,7 @@ pub fn free_page(mem: &[u8], space: Space, book: Book, k: u64) -> Listed
 pub fn ticket(book: Book) -> u64
     ensures { λ r. ⌜ r ≡ the.ticketIn book ⌝ }
 {
-    if 18446744073709551615 - book.tickets < book.aside {
-        return 0;
-    }
-    book.tickets + book.aside
+    std::num::wrapping_add_u64(book.tickets, book.aside)
 }
 
 // How many of the oldest pages set aside a report of this ticket releases. A count in its place would be wrong where two reports overlap:
