@@ -2,7 +2,7 @@
 use Prim.Native.Nat.{ℕ}
 use mathlib.Core.Path.{_≡_, refl}
 use native.Mathlib.Omega.{arith}
-use Rattle.pool.specs.Book.{ticketOf}
+use Rattle.pool.specs.Book.{ticketIn}
 use Rattle.pool.specs.declared.Space.{Space}
 use Rattle.plan.specs.declared.Reason.{Reason}
 use Rattle.plan.specs.declared.unmaps.Removal.{Removal}
@@ -16,7 +16,7 @@ unfolding unmappingOf
 unmapping-refused sp (Go r) y e = let z : _≡_ {A = ℕ} 0 1 = cc in absurd (omega arith)
 unmapping-refused sp (Refused x) y e = cc
 
-pub unmapping-done : (sp : Space) (d : Removing) (r : Removal) (t : ℕ) → unmappingOf sp d ≡ unmapping.Done r t → (d ≡ Go r) × (t ≡ ticketOf (bookAfter sp r))
+pub unmapping-done : (sp : Space) (d : Removing) (r : Removal) (t : ℕ) → unmappingOf sp d ≡ unmapping.Done r t → (d ≡ Go r) × (t ≡ ticketIn (bookAfter sp r))
 unfolding unmappingOf
-unmapping-done sp (Go x) r t e = let a : x ≡ r = cc in let b : ticketOf (bookAfter sp x) ≡ t = cc in (cc, rw (← b, a))
+unmapping-done sp (Go x) r t e = let a : x ≡ r = cc in let b : ticketIn (bookAfter sp x) ≡ t = cc in (cc, rw (← b, a))
 unmapping-done sp (Refused x) r t e = let z : _≡_ {A = ℕ} 0 1 = cc in absurd (omega arith)

@@ -7,7 +7,7 @@ use Rattle.word.specs.Scan.{besidesOf}
 use Rattle.word.specs.Writes.{Write, write}
 use Rattle.walk.specs.Walk.{indexOf}
 use Rattle.pool.specs.Stands.{takesOf}
-use Rattle.pool.specs.Book.{openedOf, ticketOf}
+use Rattle.pool.specs.Book.{bookOf, openedOf, ticketIn}
 use Rattle.pool.specs.Changes.{asideWrites, asideBook}
 use Rattle.pool.specs.declared.Space.{Space}
 use Rattle.pool.specs.declared.Book.{Book}
@@ -26,7 +26,6 @@ use Rattle.plan.specs.declared.unmaps.Removing.the-variants.{Go, Refused
 use Rattle.plan.specs.declared.unmaps.Unmapping.{Unmapping}
 use Rattle.plan.specs.declared.unmaps.Unmapping.the-variants as unmapping
 use Rattle.plan.specs.Find.{foundOf}
-use Rattle.plan.specs.Map.{noBook}
 
 -- Which tables become empty ------------------------------------------------------------------------------------------------------
 
@@ -48,9 +47,9 @@ unfoldable pub openOf : Space → Spot → ℕ → Opened → Removing
 openOf sp s n (opened.Book b) = bookedOf sp s n b
 openOf sp s n (opened.Refused r) = Refused (Pool r)
 
--- a book is needed only where a table becomes empty
+-- a book is opened only where a table becomes empty; else its counts are carried as they stand
 unfoldable pub removeOf : (ℕ → Bool) → (ℕ → ℕ) → Space → Spot → ℕ → Removing
-removeOf h m sp s n = cond (eqb n 0) (Go (record { spot = s; empties = 0; book = noBook })) (openOf sp s n (openedOf h m sp))
+removeOf h m sp s n = cond (eqb n 0) (Go (record { spot = s; empties = 0; book = bookOf m sp })) (openOf sp s n (openedOf h m sp))
 
 unfoldable pub soughtOf : (ℕ → Bool) → (ℕ → ℕ) → Space → ℕ → Sought → Removing
 soughtOf h m sp va (sought.Found s) = removeOf h m sp s (emptiedOf h m va (s .way))
@@ -97,5 +96,5 @@ didOf sp va (Refused y) = []
 
 -- what is done, and the ticket of the book after it
 unfoldable pub unmappingOf : Space → Removing → Unmapping
-unmappingOf sp (Go r) = unmapping.Done r (ticketOf (bookAfter sp r))
+unmappingOf sp (Go r) = unmapping.Done r (ticketIn (bookAfter sp r))
 unmappingOf sp (Refused y) = unmapping.Refused y

@@ -5,6 +5,8 @@ ghost use Prim.Native.Nat.{_+_, _-_, _<_, _≤_};
 ghost use Rattle.word.specs.Memory.{memory, holds};
 ghost use Rattle.word.specs.Writes.{Wrote};
 ghost use Rattle.walk.specs.Walk.{indexOf};
+ghost use Rattle.pool.specs.Book.{roomOf};
+ghost use Rattle.pool.specs.declared.Fit.the-variants.{Fits};
 ghost use Rattle.plan.specs.Unmap as the;
 use crate::Reason;
 use crate::descent::Way;
@@ -15,7 +17,7 @@ use pool::Book;
 use pool::Opened;
 use pool::Space;
 
-// The page that goes, how many tables become empty with it, and the book that takes them.
+// The page that goes, how many tables become empty with it, and the book: opened where it takes some.
 pub struct Removal {
     pub spot: Spot,
     pub empties: u64,
@@ -72,20 +74,15 @@ fn booked(space: Space, s: Spot, n: u64, b: Book) -> Removing
     Removing::Refused(Reason::Pool(pool::Reason::BadBook))
 }
 
-// A book is needed only where a table becomes empty.
+// A book is opened only where a table becomes empty; else it is read for the ticket alone.
 fn remove(mem: &[u8], space: Space, s: Spot, n: u64) -> Removing
-    ensures { λ r. ⌜ r ≡ the.removeOf (holds (now (mem .entry)) (space .origin)) (memory (now (mem .entry)) (space .origin)) space s n ⌝ }
+    ensures { λ r. ⌜ (roomOf (holds (now (mem .entry)) (space .origin)) (space .first) (space .pages) ≡ Fits → r ≡ the.removeOf (holds (now (mem .entry)) (space .origin)) (memory (now (mem .entry)) (space .origin)) space s n) ⌝ }
 {
     if n == 0 {
         return Removing::Go(Removal {
             spot: s,
             empties: 0,
-            book: Book {
-                head: 0,
-                free: 0,
-                aside: 0,
-                tickets: 0,
-            },
+            book: pool::book_now(mem, space),
         });
     }
     // A copy, so that the space itself need not lie in memory where no book is needed.

@@ -2,7 +2,7 @@ use borrow.Author.Needs.{needs}
 use mathlib.Core.Path.{sym, _∙_}
 use Rattle.word.proofs.Budget.{wrote-none}
 use Rattle.plan.specs.Unmap.{didOf, unmappingOf}
-use Rattle.plan.proofs.Low.{unmap-fits, ticket-is}
+use Rattle.plan.proofs.Low.{unmap-fits}
 use Rattle.plan.proofs.unmaps.unmap.Statement.{statement}
 use Rattle.plan.proofs.unmaps.unmap.Tie as tie
 use Rattle.plan.proofs.unmaps.unmap.Reads as reads
@@ -47,7 +47,7 @@ same-length-2 c = search needs
 -- src/unmaps.rt:161:1
 returns-2 : tie.Need-returns-2
 unfolding didOf unmappingOf
-returns-2 c = let e = sym (c .before .before .before .before .before .before .before .before .before .decide-unmap .ensures) ∙ c .before .before .before .before .before .before .before .d2 .given .1 in (rw (e, c .ticket .ensures, c .before .before .before .carry-unmap .ensures .0, ticket-is _ _ _ (unmap-fits _ _ _ _ _ e)), rw e (c .before .before .before .carry-unmap .ensures .1))
+returns-2 c = let e = sym (c .before .before .before .before .before .before .before .before .before .decide-unmap .ensures) ∙ c .before .before .before .before .before .before .before .d2 .given .1 in (rw (e, c .ticket .ensures, c .before .before .before .carry-unmap .ensures .0), rw e (c .before .before .before .carry-unmap .ensures .1))
 
 pub unmap-spec : {M : Type 1} → statement M
 unmap-spec =
