@@ -38,7 +38,7 @@ use Rattle.tablepath.specs.declared.Unmapped.the-variants as unmapped
 use Rattle.tablepath.specs.declared.Same.{Same}
 use Rattle.tablepath.specs.declared.Protected.the-variants as protected
 use Rattle.tablepath.specs.declared.Report.the-variants as told
-use Rattle.tablepath.specs.Answers.{mapAnswer, mapWrites, mapSaid, unmapAnswer, unmapWrites, unmapSaid, goneOf, protectAnswer, protectWrites, protectSaid, toldAnswer, toldWrites, toldSaid, toldDid, dueSaid, dueDid}
+use Rattle.tablepath.specs.Answers.{mapAnswer, mapWrites, mapSaid, unmapAnswer, unmapWrites, unmapSaid, goneOf, protectAnswer, protectWrites, sameOf, protectSaid, toldAnswer, toldWrites, toldSaid, toldDid, dueSaid, dueDid}
 use Rattle.tablepath.specs.Says.{ToldOpened, Declined, RefusalLeaves}
 
 -- An answer comes of one decision --------------------------------------------------------------------------------------------------
@@ -68,7 +68,7 @@ unfolding protectSaid
 protect-refused-by y (changing.Go c) e = let z : _≡_ {A = ℕ} 0 1 = cc in absurd (omega arith)
 protect-refused-by y (changing.Refused r) e = let same : r ≡ y = cc in ap changing.Refused same
 
-pub protect-done-by : (g : Same) (x : Changing) → protectSaid x ≡ protected.Done g → (c : Change) × (x ≡ changing.Go c) × (record { frame = c .frame; size = c .size } ≡ g)
+pub protect-done-by : (g : Same) (x : Changing) → protectSaid x ≡ protected.Done g → (c : Change) × (x ≡ changing.Go c) × (sameOf c ≡ g)
 unfolding protectSaid
 protect-done-by g (changing.Go c) e = (c, refl, cc)
 protect-done-by g (changing.Refused y) e = let z : _≡_ {A = ℕ} 0 1 = cc in absurd (omega arith)

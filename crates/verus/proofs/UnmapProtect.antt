@@ -37,7 +37,7 @@ use Rattle.effect.proofs.Exactly.{unmap-exactly, protect-exactly}
 use Rattle.effect.proofs.UnmapDone.{unmapped}
 use Rattle.effect.proofs.ProtectDone.{protected}
 use Rattle.effect.proofs.Wholes.{root-low}
-use Rattle.tablepath.specs.Answers.{unmapAnswer, unmapWrites, unmapSaid, goneOf, protectAnswer, protectWrites, protectSaid}
+use Rattle.tablepath.specs.Answers.{unmapAnswer, unmapWrites, unmapSaid, goneOf, protectAnswer, protectWrites, sameOf, protectSaid}
 use Rattle.tablepath.specs.declared.Unmapped.the-variants as unmapped′
 use Rattle.tablepath.specs.declared.Gone.{Gone}
 use Rattle.tablepath.specs.declared.Protected.the-variants as protected′
@@ -133,14 +133,14 @@ module _ {h : ℕ → Bool} {sp : Space} {m : ℕ → ℕ} {role : ℕ → Role}
 
   -- PROTECT, OK: the base was mapped; the one changing write was made; it has the same frame with the new flags.
   pub protect-ok : (r : Rights) (g : Same) → protectAnswer h m sp base r ≡ protected′.Done g → ProtectOk h sp m (protectWrites h m sp base r) base (g .frame) (g .size) r
-  unfolding protectAnswer protectWrites protectSaid protect.didOf
+  unfolding protectAnswer protectWrites protectSaid sameOf protect.didOf
   protect-ok r g done = go (protect.decideOf h m sp base r) refl done
     where
       go : (x : Changing) → protect.decideOf h m sp base r ≡ x → protectSaid x ≡ protected′.Done g → ProtectOk h sp m (protect.didOf x) base (g .frame) (g .size) r
       go (changing.Refused y) e f = let z : _≡_ {A = ℕ} 0 1 = cc in absurd (omega arith)
       go (changing.Go c) e f =
           let d : ProtectDone h sp m role base r c = protected w base r c e in
-          let same : record { frame = c .frame; size = c .size } ≡ g = cc in
+          let same : sameOf c ≡ g = cc in
           subst (λ (y : Same). ProtectOk h sp m (protect.writesOf c) base (y .frame) (y .size) r) same (record {
             made = change-made (c .size) (c .frame) (d .had) (d .before) (d .level) (Page base (c .size) (c .frame) r) (protect.writesOf c) role (d .size-is) (d .aligned) (d .changed) (d .whole) r refl;
             before = d .had;
