@@ -98,9 +98,9 @@ void __wrap_shoot_down(uint64_t va) {
 #if defined HANG
     while (1) pause();
 #elif defined UNMAP_UNTOLD
-    if (look_up(&process_space, va).kind == TP_NOTHING) return;
+    if (tp_look_up(&process_space, va).kind == TP_NOTHING) return;
 #else
-    if (look_up(&process_space, va).kind == TP_PAGE) return;
+    if (tp_look_up(&process_space, va).kind == TP_PAGE) return;
 #endif
     __real_shoot_down(va);
 }

@@ -10,5 +10,6 @@ pub mod RoundTrips
 pub mod Created
 pub mod Refusals
 pub mod Causes
+pub mod Counted
 pub mod Witness
 pub mod EntrySays

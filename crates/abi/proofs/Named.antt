@@ -10,12 +10,13 @@ use Rattle.word.specs.Memory.{memory, holds}
 use Rattle.word.specs.Writes.{carried}
 use Rattle.entry.specs.Entry.{bit}
 use Rattle.entry.specs.Words.{flag}
+use Rattle.pool.specs.State.{stateOf}
 use Rattle.tablepath.specs.Calls.{callWrites}
 use Rattle.tablepath.specs.Answers as the
-use Rattle.abi.specs.Answers.{rightsIn, rightsWord, mapped, unmapped, protected, told}
-use Rattle.abi.specs.Calls.{siteOf, askedSite, ask, bytesAfter, unmapAnswer, protectAnswer, toldAnswer}
+use Rattle.abi.specs.Answers.{rightsIn, rightsWord, mapped, unmapped, protected, told, counted}
+use Rattle.abi.specs.Calls.{siteOf, askedSite, ask, bytesAfter, unmapAnswer, protectAnswer, toldAnswer, stateAnswer}
 use Rattle.abi.specs.Relied as c
-use Rattle.abi.specs.Relied.{Numbers, Aligned, spaceOf, Call, Meant, callOf, granted, asked, leaves, tpMap, tpUnmap, tpProtect, tpTold}
+use Rattle.abi.specs.Relied.{Numbers, Aligned, spaceOf, Call, Meant, callOf, granted, asked, leaves, tpMap, tpUnmap, tpProtect, tpTold, tpState}
 use Rattle.abi.specs.declared.sites.Sited.the-variants.{At}
 use Rattle.abi.proofs.Asked.{answer-asked, bytes-asked}
 use Rattle.abi.proofs.Meant.{meant}
@@ -80,3 +81,7 @@ module _ (n : Numbers) (a : Aligned n) where
     pub told-answers : (ticket : ℕ) → tpTold s n ticket ≡ told (the.toldAnswer (holds s (n .origin)) (memory s (n .origin)) (spaceOf n) ticket)
     unfolding toldAnswer
     told-answers ticket = rw named
+
+    pub state-answers : tpState s n ≡ counted (stateOf (holds s (n .origin)) (memory s (n .origin)) (spaceOf n))
+    unfolding stateAnswer
+    state-answers = rw named

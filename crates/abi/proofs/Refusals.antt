@@ -67,7 +67,7 @@ module _ (s : List ℕ) where
       go (removing.Refused y) k = same refl
 
   protectFields : Protected → List ℕ
-  protectFields x = x .frame ∷ x .size ∷ []
+  protectFields x = x .frame ∷ x .size ∷ x .ticket ∷ []
 
   protect-refused : (base : ℕ) (r : Rights) (x : Sited) → protectAnswer s base r x .reason ≢ 0
       → Untouched s (protectBytes s base r x) (protectFields (protectAnswer s base r x))

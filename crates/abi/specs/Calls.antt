@@ -12,6 +12,7 @@ use Rattle.entry.specs.declared.Rights.{Rights}
 use Rattle.walk.specs.Walk.{walk}
 use Rattle.pool.specs.Create.{createdOf}
 use Rattle.pool.specs.Create as made
+use Rattle.pool.specs.State.{stateOf}
 use Rattle.pool.specs.declared.Space.{Space}
 use Rattle.plan.specs.Map.{shapeOf, decideOf}
 use Rattle.plan.specs.AtOnce as plan
@@ -21,12 +22,13 @@ use Rattle.plan.specs.declared.maps.Asked.{Asked}
 use Rattle.plan.specs.declared.maps.Shape.{Shape}
 use Rattle.plan.specs.declared.maps.Shape.the-variants.{Level, Bad}
 use Rattle.tablepath.specs.Answers as the
-use Rattle.abi.specs.Answers.{reasonOf, rightsIn, created, mapped, unmapped, protected, told, lookedUp}
+use Rattle.abi.specs.Answers.{reasonOf, rightsIn, created, mapped, unmapped, protected, told, uncounted, counted, lookedUp}
 use Rattle.abi.specs.declared.answers.Created.{Created}
 use Rattle.abi.specs.declared.answers.Mapped.{Mapped}
 use Rattle.abi.specs.declared.answers.Unmapped.{Unmapped}
 use Rattle.abi.specs.declared.answers.Protected.{Protected}
 use Rattle.abi.specs.declared.answers.Told.{Told}
+use Rattle.abi.specs.declared.answers.Counts.{Counts}
 use Rattle.abi.specs.declared.answers.LookedUp.{LookedUp}
 use Rattle.abi.specs.declared.sites.Sited.{Sited}
 use Rattle.abi.specs.declared.sites.Sited.the-variants.{At, Refused}
@@ -138,7 +140,7 @@ unmapBytes s base x = bytesAfter s x (unmapWrites s base)
 
 unfoldable pub protectAnswer : List ℕ → ℕ → Rights → Sited → Protected
 protectAnswer s base r (At sp) = protected (the.protectAnswer (holds s (sp .origin)) (memory s (sp .origin)) sp base r)
-protectAnswer s base r (Refused y) = record { reason = y; frame = 0; size = 0 }
+protectAnswer s base r (Refused y) = record { reason = y; frame = 0; size = 0; ticket = 0 }
 
 abbrev pub protectWrites : List ℕ → ℕ → Rights → Space → List Write
 protectWrites s base r sp = the.protectWrites (holds s (sp .origin)) (memory s (sp .origin)) sp base r
@@ -157,6 +159,12 @@ toldWrites s ticket sp = the.toldWrites (holds s (sp .origin)) (memory s (sp .or
 
 abbrev pub toldBytes : List ℕ → ℕ → Sited → List ℕ
 toldBytes s ticket x = bytesAfter s x (toldWrites s ticket)
+
+-- State -------------------------------------------------------------------------------------------------------------------------
+
+unfoldable pub stateAnswer : List ℕ → Sited → Counts
+stateAnswer s (At sp) = counted (stateOf (holds s (sp .origin)) (memory s (sp .origin)) sp)
+stateAnswer s (Refused y) = uncounted y
 
 -- Look-up -----------------------------------------------------------------------------------------------------------------------
 

@@ -6,10 +6,14 @@ use mathlib.Core.Logic.{_↔_, _⊎_, _≢_}
 use mathlib.Core.Path.{_≡_}
 use Rattle.walk.specs.declared.Found.{Found}
 use Rattle.walk.specs.declared.Found.the-variants as found
+use Rattle.tables.specs.Roles.{Role}
 use Rattle.pool.specs.Book.{ticketOf}
 use Rattle.pool.specs.declared.Book.{Book}
 use Rattle.pool.specs.declared.Reason as inPool
 use Rattle.pool.specs.declared.Reason.the-variants as pool
+use Rattle.pool.specs.Booked.{tablesOf}
+use Rattle.pool.specs.declared.moment.Stated.{Stated}
+use Rattle.pool.specs.declared.moment.Stated.the-variants as state
 use Rattle.pool.specs.declared.Created as ofPool
 use Rattle.pool.specs.declared.Created.the-variants as create
 use Rattle.plan.specs.declared.Reason.{Reason}
@@ -26,12 +30,13 @@ use Rattle.tablepath.specs.declared.Report.{Report}
 use Rattle.tablepath.specs.declared.Report.the-variants as report
 use Rattle.abi.specs.Answers.{reasonOf, poolReason}
 use Rattle.abi.specs.Relied as c
-use Rattle.abi.specs.Relied.{Numbers, Call, granted}
+use Rattle.abi.specs.Relied.{Numbers, Call, spaceOf, granted}
 use Rattle.abi.specs.declared.answers.Created.{Created}
 use Rattle.abi.specs.declared.answers.Mapped.{Mapped}
 use Rattle.abi.specs.declared.answers.Unmapped.{Unmapped}
 use Rattle.abi.specs.declared.answers.Protected.{Protected}
 use Rattle.abi.specs.declared.answers.Told.{Told}
+use Rattle.abi.specs.declared.answers.Counts.{Counts}
 use Rattle.abi.specs.declared.answers.LookedUp.{LookedUp}
 
 -- Numbers ----------------------------------------------------------------------------------------------------------------------------
@@ -82,7 +87,7 @@ pub record UnmapSays (x : Unmapped) (a : ofUnmap.Unmapped) : Type 0 where
   pub known : (x .reason ≡ 0) ⊎ ((y : Reason) × (x .reason ≡ reasonOf y))
 
 pub record ProtectSays (x : Protected) (a : ofProtect.Protected) : Type 0 where
-  pub done : x .reason ≡ 0 → a ≡ protect.Done (record { frame = x .frame; size = x .size })
+  pub done : x .reason ≡ 0 → a ≡ protect.Done (record { frame = x .frame; size = x .size; ticket = x .ticket })
   pub refused : (y : Reason) → x .reason ≡ reasonOf y → a ≡ protect.Refused y
   pub known : (x .reason ≡ 0) ⊎ ((y : Reason) × (x .reason ≡ reasonOf y))
 
@@ -92,6 +97,11 @@ pub record ToldSays (x : Told) (a : Report) : Type 0 where
   pub spent : x .reason ≡ 24 → a ≡ report.Spent
   pub refused : (y : inPool.Reason) → x .reason ≡ poolReason y → a ≡ report.Refused y
   pub known : (x .reason ≡ 0) ⊎ (x .reason ≡ 23) ⊎ (x .reason ≡ 24) ⊎ ((y : inPool.Reason) × (x .reason ≡ poolReason y))
+
+pub record StateSays (x : Counts) (a : Stated) : Type 0 where
+  pub done : x .reason ≡ 0 → a ≡ state.Counts (record { pages = x .pages; free = x .free; aside = x .aside; tables = x .tables; ticket = x .ticket })
+  pub refused : (y : inPool.Reason) → x .reason ≡ poolReason y → a ≡ state.Refused y
+  pub known : (x .reason ≡ 0) ⊎ ((y : inPool.Reason) × (x .reason ≡ poolReason y))
 
 pub record LookUpSays (x : LookedUp) (a : Found) : Type 0 where
   pub nothing : x .kind ≡ 0 → a ≡ found.Nothing
@@ -131,6 +141,15 @@ pub record ToldReasons (n : ℕ) (b : Book) (ticket : ℕ) : Type 0 where
   pub done : (n ≡ 0) ↔ ((ticket ≤ ticketOf b) × (ticket ≤ 2 ^ 62))
   pub unknown : (n ≡ 23) ↔ (ticketOf b < ticket)
   pub spent : (n ≡ 24) ↔ ((ticket ≤ ticketOf b) × (2 ^ 62 < ticket))
+
+-- WHAT tp_raw_state ANSWERS, with this book and these roles: it is never refused, and each number is what it says
+pub record StateCounts (x : Counts) (n : Numbers) (b : Book) (role : ℕ → Role) : Type 0 where
+  pub done : x .reason ≡ 0
+  pub pages-are : x .pages ≡ n .pages
+  pub free-are : x .free ≡ b .free
+  pub aside-are : x .aside ≡ b .aside
+  pub tables-are : x .tables ≡ tablesOf (spaceOf n) role
+  pub ticket-is : x .ticket ≡ ticketOf b
 
 -- Numbers that name no space, whatever the bytes -----------------------------------------------------------------------------------------
 

@@ -13,12 +13,13 @@ use Rattle.tablepath.specs.Calls as calls
 use Rattle.tablepath.proofs.RoundTrips.{In}
 use Rattle.tablepath.proofs.Wholes.{WholeBytes}
 use Rattle.abi.specs.Answers.{rightsIn}
-use Rattle.abi.specs.Calls.{siteOf, mapSite, protectSite, ask, createAnswer, createBytes, mapAnswer, mapBytes, unmapAnswer, unmapBytes, protectAnswer, protectBytes, toldAnswer, toldBytes, lookUpAnswer}
+use Rattle.abi.specs.Calls.{siteOf, mapSite, protectSite, ask, createAnswer, createBytes, mapAnswer, mapBytes, unmapAnswer, unmapBytes, protectAnswer, protectBytes, toldAnswer, toldBytes, stateAnswer, lookUpAnswer}
 use Rattle.abi.specs.declared.answers.Created.{Created}
 use Rattle.abi.specs.declared.answers.Mapped.{Mapped}
 use Rattle.abi.specs.declared.answers.Unmapped.{Unmapped}
 use Rattle.abi.specs.declared.answers.Protected.{Protected}
 use Rattle.abi.specs.declared.answers.Told.{Told}
+use Rattle.abi.specs.declared.answers.Counts.{Counts}
 use Rattle.abi.specs.declared.answers.LookedUp.{LookedUp}
 
 -- The calls: what each answers, and the bytes that it leaves -----------------------------------------------------------------------
@@ -49,6 +50,9 @@ tpProtect s n base rights = protectAnswer s base (rightsIn rights) (protectSite 
 abbrev pub tpTold : List ℕ → Numbers → ℕ → Told
 tpTold s n ticket = toldAnswer s ticket (siteOf (n .origin) (n .pool) (n .pages) (n .root))
 
+abbrev pub tpState : List ℕ → Numbers → Counts
+tpState s n = stateAnswer s (siteOf (n .origin) (n .pool) (n .pages) (n .root))
+
 abbrev pub tpLookUp : List ℕ → Numbers → ℕ → LookedUp
 tpLookUp s n va = lookUpAnswer s (n .origin) (n .root) va
 
@@ -76,7 +80,7 @@ reason s n (told ticket) = tpTold s n ticket .reason
 unfoldable pub others : List ℕ → Numbers → Call → List ℕ
 others s n (map base frame size rights) = tpMap s n base frame size rights .tables ∷ []
 others s n (unmap base) = let x = tpUnmap s n base in x .frame ∷ x .size ∷ x .aside ∷ x .ticket ∷ []
-others s n (protect base rights) = let x = tpProtect s n base rights in x .frame ∷ x .size ∷ []
+others s n (protect base rights) = let x = tpProtect s n base rights in x .frame ∷ x .size ∷ x .ticket ∷ []
 others s n (told ticket) = tpTold s n ticket .released ∷ []
 
 -- the rights that are asked have no bit that means nothing

@@ -5,6 +5,7 @@ ghost use mathlib.Core.Path.{_≡_};
 ghost use Rattle.abi.specs.Answers as the;
 ghost use Rattle.abi.specs.Calls as call;
 ghost use Rattle.abi.specs.Entries as one;
+use sites::Sited;
 use word::Cell;
 
 mod answers;
@@ -13,6 +14,7 @@ mod maps;
 mod sites;
 mod up_to;
 
+pub use answers::Counts;
 pub use answers::Created;
 pub use answers::LookedUp;
 pub use answers::Mapped;
@@ -112,6 +114,18 @@ pub extern "C" fn tp_raw_told(
 {
     let mut left: u64 = word::ENDLESS;
     up_to::told_up_to(mem, &mut left, origin, pool, pages, root, ticket)
+}
+
+// How many pages of the pool are free, set aside and tables, and the ticket of this moment.
+#[no_mangle]
+pub extern "C" fn tp_raw_state(mem: &[u8], origin: u64, pool: u64, pages: u64, root: u64) -> Counts
+    ensures answer { λ r. ⌜ r ≡ call.stateAnswer (now (mem .entry)) (call.siteOf origin pool pages root) ⌝ }
+{
+    let s = sites::site(origin, pool, pages, root);
+    match s {
+        Sited::Refused(y) => answers::uncounted(y),
+        Sited::At(space) => answers::of_state(tablepath::state(mem, space)),
+    }
 }
 
 // What the address means in the tables below this root, for any bytes and any numbers; the root is given as in CR3.

@@ -80,6 +80,7 @@ pub fn protect_up_to(
             reason: 25,
             frame: 0,
             size: 0,
+            ticket: 0,
         };
     }
     let s = crate::sites::site(origin, pool, pages, root);
@@ -88,6 +89,7 @@ pub fn protect_up_to(
             reason: y,
             frame: 0,
             size: 0,
+            ticket: 0,
         },
         Sited::At(space) => crate::answers::of_protect(tablepath::protect_up_to(
             mem,
