@@ -3,7 +3,8 @@
 one aligned store of 8 bytes for each planned write, in the planned order; after every single store the tables mean to each sampled
 address what they meant before the operation or what they mean after it, and it turns at one store only; no store into a page that
 is set aside; none outside the pool. No load is beyond the window, and an entry of a linked table is loaded once in an operation, by one
-load; but a map that could not be done at once begins anew at the root, before any store. The last line counts the operations."""
+load; but a map that could not be done at once begins anew at the root, before any store. Look-up loads each entry of the way once, whole, from
+the root down, and nothing else; entry loads one; and neither they nor state store anything. The last line counts the operations."""
 import os
 import random
 import sys
@@ -48,11 +49,11 @@ class Night:
         if kind == 'tp_raw_map':
             size = dice.choice(SIZES)
             frame = dice.choice((0x8000_0000, 0xc000_0000, (1 << 52) - (1 << 30), ORIGIN))
-            return kind, (self.base(size), frame, size, dice.randrange(8))
+            return kind, (self.base(size), frame, size, dice.randrange(9))
         if kind == 'tp_raw_told':
             return kind, (dice.randrange(self.tickets + len(self.aside) + 2),)
         base = dice.choice(self.mapped) if self.mapped and dice.random() < 0.9 else self.base(4096)
-        return (kind, (base,)) if kind == 'tp_raw_unmap' else (kind, (base, dice.randrange(8)))
+        return (kind, (base,)) if kind == 'tp_raw_unmap' else (kind, (base, dice.randrange(9)))
 
     def mark(self):
         """The machine sets accessed and dirty by itself, now and then."""
@@ -82,13 +83,36 @@ class Night:
             then.words[at] = word
         samples = self.sampled(operation, arguments)
         old, new = [tables.walk(va) for va in samples], [then.walk(va) for va in samples]
-        reason = self.code.call(operation, *self.pool, *arguments)[0]
-        if (reason == 0) != (planned is not None):
-            raise Wrong(f'{what} answered {reason}')
+        answer = self.code.call(operation, *self.pool, *arguments)
+        if (answer[0] == 0) != (planned is not None):
+            raise Wrong(f'{what} answered {answer}')
         self.held(what, before, planned or [], samples, old, new)
         if bytes(self.code.window()) != bytes(tables.words.cast('B')):
             raise Wrong(f'{what} left bytes that no recorded store put there')
         self.keep(operation, arguments, planned, before)
+        if planned is not None and operation in ('tp_raw_unmap', 'tp_raw_protect') and answer[-1] != tables.ticket():
+            raise Wrong(f'{what} answered the ticket {answer[-1]}, not {tables.ticket()}')
+        for va in samples:
+            self.look_up(va)
+        if self.code.call('tp_raw_state', *self.pool) != (0, *tables.state()) or self.code.stores:
+            raise Wrong('state does not say what is there, or stores something')
+
+    def look_up(self, va):
+        """One load for each entry of the way, in its order, as a processor makes them; and the same of the last entry alone."""
+        tables, code, what = self.tables, self.code, f'look-up of {va:#x}'
+        way, word = tables.path(va, 0)
+        entries = [(8 * tables.at(page, va >> 12 + 9 * (3 - n) & 511), 8) for n, page in enumerate(way)]
+        found = tables.walk(va)
+        should = (0, 0, 0, 0, 0) if found is None else (1, *found[:3], found[3][0] | found[3][1] << 1 | found[3][2] << 2)
+        for name, numbers, loads in (('tp_raw_look_up', (self.pool[3], va), entries),
+                                     ('tp_raw_entry', (way[-1] << 12, 4 - len(way), va >> 12 + 9 * (4 - len(way)) & 511), entries[-1:])):
+            answer = code.call(name, ORIGIN, *numbers)
+            if name == 'tp_raw_look_up' and answer != should or name == 'tp_raw_entry' and answer[0] != word & 1:
+                raise Wrong(f'{what}: {name} answered {answer}')
+            if [(at, size) for at, size, _ in code.loads] != loads:
+                raise Wrong(f'{what}: {name} loads {code.loads}, not {loads}')
+            if code.stores:
+                raise Wrong(f'{what}: {name} stores something')
 
     def held(self, what, before, planned, samples, old, new):
         """Every load and store of one operation."""

@@ -111,7 +111,7 @@ fn a_ticket_from_every_unmap_and_every_protect() {
     assert_eq!((first.aside, first.ticket), (0, Ticket::from(0)), "no table was ever set aside");
     let second = space.unmap(&mut pool, 0x1000).unwrap();
     assert_eq!((second.aside, second.frame, second.ticket), (3, 0x80_1000, Ticket::from(3)));
-    space.map(&mut pool, 0, 0, Size::Gib1, Rights::NONE).unwrap();
+    space.map(&mut pool, 0, 0x4000_0000, Size::Gib1, Rights::NONE).unwrap();
     assert_eq!(space.protect(&mut pool, 0, Rights::USER).unwrap().ticket, second.ticket, "none since");
     assert_eq!(space.state(&pool).unwrap().ticket, second.ticket);
     assert_eq!(space.told(&mut pool, first.ticket), Ok(0), "an older ticket releases less");

@@ -58,7 +58,7 @@ impl Pool {
                 2 => wrong.pages = random.below(2 * WINDOW as u64),
                 3 => wrong.pool = ORIGIN + 4096 * random.below(WINDOW as u64),
                 4 => {
-                    let by = 4096 * random.below(4) * (random.below(2) * 2).wrapping_sub(1);
+                    let by = (4096 * random.below(4)).wrapping_mul((random.below(2) * 2).wrapping_sub(1));
                     let Handle { origin, pool, root, .. } = wrong;
                     let moved = [origin, pool, root].map(|number| number.wrapping_add(by));
                     (wrong.origin, wrong.pool, wrong.root) = (moved[0], moved[1], moved[2]);
