@@ -57,7 +57,12 @@ pub fn unmap_up_to(
             aside: 0,
             ticket: 0,
         },
-        Sited::At(space) => crate::answers::of_unmap(tablepath::unmap_up_to(mem, left, space, base)),
+        Sited::At(space) => crate::answers::of_unmap(tablepath::unmap_up_to(
+            mem,
+            left,
+            space,
+            base,
+        )),
     }
 }
 
@@ -120,6 +125,11 @@ pub fn told_up_to(
             reason: y,
             released: 0,
         },
-        Sited::At(space) => crate::answers::of_told(tablepath::told_up_to(mem, left, space, ticket)),
+        Sited::At(space) => crate::answers::of_told(tablepath::told_up_to(
+            mem,
+            left,
+            space,
+            ticket,
+        )),
     }
 }
