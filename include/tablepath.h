@@ -1,29 +1,32 @@
 /* Tablepath: x86-64 page tables over bytes that you lend, proved. For x86-64 kernels and the System V calling convention.
  *
- * A SPACE is one struct tp_space: the window (len bytes at mem, which are the physical memory from the physical address origin on), the pool
- * (pages of 4096 bytes from the physical address pool on, inside the window), and the physical address of the root, which goes into CR3.
- * The pool's first pages hold a book: which pages are free, which are set aside. No other memory is used.
+ * A SPACE is one struct tp_space: the window (len bytes at mem, which are the physical memory from the physical address origin on), the
+ * pool (pages of 4096 bytes from the physical address pool on, inside the window), and the physical address of the root, which goes into
+ * CR3. The pool's first pages hold a book: which pages are free, which are set aside. No other memory is used.
  *
- * ANY BYTES AND ANY NUMBERS may be given: every call ends, reads and writes inside the window alone, and writes words of the pool alone. What
- * can't be done is refused with a reason, and then no byte has changed. tp_reason_text says the reason.
+ * ANY BYTES AND ANY NUMBERS may be given: every call ends, reads and writes inside the window alone, and writes words of the pool alone.
+ * What can't be done is refused with a reason, and then no byte has changed. tp_reason_text says the reason.
  *
  * LOCKS. One call that writes at a time on a pool; a lock is the caller's. Pools that share no page may be written at the same time, in one
  * window too. tp_state reads several words of the book and takes the same lock. Processors may walk the tables meanwhile, since words of a
  * table are written one by one, each by one store. tp_look_up and tp_entry may run without the lock: they read one entry at a time, each by
  * one load, as a processor does, and what tp_look_up answers is what the tables meant at some moment while it ran (docs/PROVED.md,
- * each-walk-ends). Such a look-up counts as a walk: let it run with interrupts off, so that its processor answers a shootdown only after it.
+ * each-walk-ends). Such a look-up counts as a walk: let it run with interrupts off, so that its processor answers a shootdown after it.
  *
- * AFTER tp_unmap AND tp_protect processors may still use what they hold in caches. When these pages matter no more to anyone is known so:
- *   1. a fence, MFENCE or any locked instruction, so that the stores have left this processor's buffer (sending an x2APIC IPI does not serialise);
- *   2. the shootdown: on every processor that uses these tables INVLPG of each page, one address of it, and a wait until all have answered;
+ * AFTER tp_unmap AND tp_protect processors may still use what they hold in caches. So, before a frame is used anew:
+ *   1. a fence, MFENCE or any locked instruction, so that the stores have left this processor's buffer (sending an x2APIC IPI does not
+ *      serialise);
+ *   2. the shootdown: INVLPG of each page, one address of it, on every processor that uses these tables; and all have answered;
  *   3. the report: tp_told with the ticket that the last of these calls answered, or with any other from before the shootdown began.
- * Then the frames may be used anew, and the pages of tables that became empty are free again: until then they are set aside, and nothing
- * writes or hands out such a page. Many calls may share a shootdown, and shootdowns may overlap: a ticket speaks of the last moment at which
- * it was answered, and no report frees what was set aside later. INVLPG is enough on Intel, where it also drops all upper entries of the
- * current PCID, and on AMD, where with EFER.TCE it drops those that lead to the address; so is a write of CR3, since no page is global.
+ * The report also frees the pages of tables that became empty: until then they are set aside, and nothing writes or hands out such a page.
+ * Many calls may share a shootdown, and shootdowns may overlap: a ticket speaks of the last moment at which it was answered, and no report
+ * frees what was set aside later. INVLPG is enough on Intel, where it also drops all upper entries of the current PCID, and on AMD, where
+ * with EFER.TCE it drops those that lead to the address. So is a write of CR3, since no page is global. Every PCID under which these tables
+ * may be cached must be told.
  *
- * AFTER tp_map a walk that begins after the call finds the page (on another processor: once the stores have left the buffer). A cached upper
- * entry that leads to a table set aside may give "nothing" until its report: such a fault is spurious, and INVLPG of the address ends it.
+ * AFTER tp_map a walk that begins after the call finds the page (on another processor: once the stores have left the buffer). A cached
+ * upper entry that leads to a table set aside may give "nothing" until its report: such a fault is spurious, and INVLPG of the address
+ * ends it.
  *
  * LIMITS. Levels: four. Sizes: 4096, 2 MiB, 1 GiB. Virtual addresses: 0 to 2^48 - 1. Physical addresses: 0 to 2^52 - 1.
  * The library calls no function but memset, for pages that are no table yet. Its code uses general registers alone, and nothing below the
@@ -190,9 +193,11 @@ TP_CHECKED static inline uint64_t tp_create(struct tp_space *space) {
 }
 
 /* Maps the frame at the base. */
-TP_CHECKED static inline struct tp_mapped tp_map(const struct tp_space *space, uint64_t base, uint64_t frame, uint64_t size, uint64_t rights) {
+TP_CHECKED static inline struct tp_mapped tp_map(const struct tp_space *space, uint64_t base, uint64_t frame, uint64_t size,
+                                                 uint64_t rights) {
     struct tp_mapped answer = {TP_POINTER_UNALIGNED, 0};
-    if (tp_agrees(space)) answer = tp_raw_map(space->mem, space->len, space->origin, space->pool, space->pages, space->root, base, frame, size, rights);
+    if (tp_agrees(space))
+        answer = tp_raw_map(space->mem, space->len, space->origin, space->pool, space->pages, space->root, base, frame, size, rights);
     return answer;
 }
 
@@ -206,7 +211,8 @@ TP_CHECKED static inline struct tp_unmapped tp_unmap(const struct tp_space *spac
 /* Gives the page that starts exactly at the base other rights. Accessed and dirty stay as they were in the entry that it read. */
 TP_CHECKED static inline struct tp_protected tp_protect(const struct tp_space *space, uint64_t base, uint64_t rights) {
     struct tp_protected answer = {TP_POINTER_UNALIGNED, 0, 0, 0};
-    if (tp_agrees(space)) answer = tp_raw_protect(space->mem, space->len, space->origin, space->pool, space->pages, space->root, base, rights);
+    if (tp_agrees(space))
+        answer = tp_raw_protect(space->mem, space->len, space->origin, space->pool, space->pages, space->root, base, rights);
     return answer;
 }
 
