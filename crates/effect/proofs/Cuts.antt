@@ -169,31 +169,30 @@ module _ {h : ℕ → Bool} {sp : Space} {m : ℕ → ℕ} {role : ℕ → Role}
       let d = risen j (λ i u. f i (omega arith)) in
       aside-one sp (after m (cuts sp m va (s .way) j)) (d .booked) ∙ ap (asideMore 1) (d .book) ∙ aside-more j (bookOf m sp) ∙ sym (risen (suc j) f .book)
 
-  module _ (n : ℕ) (f : Empty h m va (s .way) n) where
-    -- the removal, with the book as it is before it
-    abbrev gone : Removal
-    gone = removal s n (bookOf m sp)
+  module _ (n : ℕ) (b : Book) (f : Empty h m va (s .way) n) (e : 0 < n → b ≡ bookOf m sp) where
+    zeroth : 0 < n → b ≡ bookThen 0
+    zeroth u = e u ∙ sym book-first
 
-    first : 0 < n → book1 sp gone ≡ bookThen 1
-    first u = cut-book sp 0 n (bookOf m sp) u ∙ ap (asideBook sp) (sym book-first) ∙ book-next 0 (λ j v. f j (omega arith))
+    first : 0 < n → book1 sp (removal s n b) ≡ bookThen 1
+    first u = cut-book sp 0 n b u ∙ ap (asideBook sp) (zeroth u) ∙ book-next 0 (λ j v. f j (omega arith))
 
-    second : 1 < n → book2 sp gone ≡ bookThen 2
-    second u = cut-book sp 1 n (book1 sp gone) u ∙ ap (asideBook sp) (first (omega arith)) ∙ book-next 1 (λ j v. f j (omega arith))
+    second : 1 < n → book2 sp (removal s n b) ≡ bookThen 2
+    second u = cut-book sp 1 n (book1 sp (removal s n b)) u ∙ ap (asideBook sp) (first (omega arith)) ∙ book-next 1 (λ j v. f j (omega arith))
 
-    third : 2 < n → bookAfter sp gone ≡ bookThen 3
-    third u = cut-book sp 2 n (book2 sp gone) u ∙ ap (asideBook sp) (second (omega arith)) ∙ book-next 2 (λ j v. f j (omega arith))
+    third : 2 < n → bookAfter sp (removal s n b) ≡ bookThen 3
+    third u = cut-book sp 2 n (book2 sp (removal s n b)) u ∙ ap (asideBook sp) (second (omega arith)) ∙ book-next 2 (λ j v. f j (omega arith))
 
     abbrev C0 : List Write
-    C0 = cutWrites sp 0 n (s .way .b) (indexOf (s .way .level + 1) va) (s .way .a) (bookOf m sp)
+    C0 = cutWrites sp 0 n (s .way .b) (indexOf (s .way .level + 1) va) (s .way .a) b
 
     abbrev C1 : List Write
-    C1 = cutWrites sp 1 n (s .way .c) (indexOf (s .way .level + 2) va) (s .way .b) (book1 sp gone)
+    C1 = cutWrites sp 1 n (s .way .c) (indexOf (s .way .level + 2) va) (s .way .b) (book1 sp (removal s n b))
 
     abbrev C2 : List Write
-    C2 = cutWrites sp 2 n (s .way .d) (indexOf (s .way .level + 3) va) (s .way .c) (book2 sp gone)
+    C2 = cutWrites sp 2 n (s .way .d) (indexOf (s .way .level + 3) va) (s .way .c) (book2 sp (removal s n b))
 
     is0 : 0 < n → C0 ≡ cutting sp (s .way .b) (indexOf (suc (s .way .level)) va) (s .way .a) (bookThen 0)
-    is0 u = cut-is sp 0 n _ _ _ _ _ _ u (ap (λ x. indexOf x va) (omega arith)) (sym book-first)
+    is0 u = cut-is sp 0 n _ _ _ _ _ _ u (ap (λ x. indexOf x va) (omega arith)) (zeroth u)
 
     is1 : 1 < n → C1 ≡ cutting sp (s .way .c) (indexOf (suc (suc (s .way .level))) va) (s .way .b) (bookThen 1)
     is1 u = cut-is sp 1 n _ _ _ _ _ _ u (ap (λ x. indexOf x va) (omega arith)) (first (omega arith))
@@ -218,16 +217,16 @@ module _ {h : ℕ → Bool} {sp : Space} {m : ℕ → ℕ} {role : ℕ → Role}
     list3 z = gather3 (clear va (s .way)) C0 C1 C2 _ _ _ (is0 (omega arith)) (is1 (omega arith)) (is2 (omega arith))
 
     -- WHAT UNMAP WRITES, table by table
-    pub writes-are : n ≤ 3 → writesOf sp va gone ≡ cuts sp m va (s .way) n
+    pub writes-are : n ≤ 3 → writesOf sp va (removal s n b) ≡ cuts sp m va (s .way) n
     unfolding writesOf
     writes-are u = four (λ x. clear va (s .way) ++ (C0 ++ (C1 ++ C2)) ≡ cuts sp m va (s .way) x) n u list0 list1 list2 list3
 
     -- the book that it goes on with is the book
-    pub book-is : n ≤ 3 → bookAfter sp gone ≡ bookOf (after m (cuts sp m va (s .way) n)) sp
+    pub book-is : n ≤ 3 → 0 < n → bookAfter sp (removal s n b) ≡ bookOf (after m (cuts sp m va (s .way) n)) sp
     unfolding bookThen
-    book-is u =
-        four (λ x. bookAfter sp gone ≡ bookThen x) n u
-        (λ z. cut-no-book sp 2 n _ (omega arith) ∙ cut-no-book sp 1 n _ (omega arith) ∙ cut-no-book sp 0 n _ (omega arith) ∙ sym book-first)
-        (λ z. cut-no-book sp 2 n _ (omega arith) ∙ cut-no-book sp 1 n _ (omega arith) ∙ first (omega arith))
+    book-is u v =
+        four (λ x. bookAfter sp (removal s n b) ≡ bookThen x) n u
+        (λ z. absurd (omega arith))
+        (λ z. cut-no-book sp 2 n _ (omega arith) ∙ cut-no-book sp 1 n _ (omega arith) ∙ first v)
         (λ z. cut-no-book sp 2 n _ (omega arith) ∙ second (omega arith))
         (λ z. third (omega arith))

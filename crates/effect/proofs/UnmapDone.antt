@@ -1,11 +1,12 @@
 -- UNMAP, DONE, from its decision; and that it is decided wherever a page was found.
 use Prim.Native.Nat.{ℕ, _+_, _<_, _≤_}
-use mathlib.Core.Bool.{Bool, true}
+use mathlib.Core.Bool.{Bool, true, cond}
 use mathlib.Core.Logic.{_⊎_, inl, inr}
 use mathlib.Core.Path.{_≡_, refl, sym, ap, _∙_, subst}
 use native.Mathlib.Decide.{ℕ-discrete}
 use native.Mathlib.Omega.{arith}
 use borrow.Author.Tests.{eq-eqb, ne-eqb, le-leb}
+use lib.Dec.{eqb}
 use Rattle.word.specs.Writes.{after}
 use Rattle.word.proofs.Writes.{Every}
 use Rattle.tables.specs.Roles.{Role}
@@ -26,7 +27,8 @@ use Rattle.plan.specs.declared.unmaps.Removal.{Removal}
 use Rattle.plan.specs.declared.unmaps.Removing.the-variants.{Go, Refused}
 use Rattle.effect.specs.OfPool.{OfPool}
 use Rattle.plan.specs.Find.{foundOf}
-use Rattle.plan.specs.Unmap.{emptiedOf, bookedOf, openOf, removeOf, soughtOf, bookAfter, decideOf, writesOf}
+use Rattle.plan.specs.Map.{noBook}
+use Rattle.plan.specs.Unmap.{emptiedOf, bookedOf, openOf, removeOf, soughtOf, cutBook, bookAfter, decideOf, writesOf}
 use Rattle.effect.specs.UnmapDone.{asideMore, SetAside, UnmapDone}
 use Rattle.effect.specs.Whole.{Whole}
 use Rattle.effect.proofs.Cuts.{cuts, cutRoles, risen, last-level, cut-changed, removal, writes-are, book-is}
@@ -35,6 +37,18 @@ use Rattle.plan.proofs.Found.{found-at}
 use Rattle.effect.proofs.Located.{Located, located}
 use Rattle.effect.proofs.Rising.{Rising}
 use Rattle.effect.proofs.Wholes.{book-opens, owned}
+
+-- the book that is read where n tables become empty
+pub bookRead : (ℕ → ℕ) → Space → ℕ → Book
+bookRead m sp n = cond (eqb n 0) noBook (bookOf m sp)
+
+book-read : (m : ℕ → ℕ) (sp : Space) (n : ℕ) → 0 < n → bookRead m sp n ≡ bookOf m sp
+unfolding bookRead
+book-read m sp n u = rw (ne-eqb n 0 (omega arith))
+
+none-read : (m : ℕ → ℕ) (sp : Space) (n : ℕ) → n ≡ 0 → bookRead m sp n ≡ noBook
+unfolding bookRead
+none-read m sp n e = rw (eq-eqb n 0 e)
 
 -- what was not found is not removed
 pub refused-so : (h : ℕ → Bool) (m : ℕ → ℕ) (sp : Space) (va : ℕ) (y : Reason) → foundOf h m sp va ≡ sought.Refused y → decideOf h m sp va ≡ Refused y
@@ -47,8 +61,8 @@ refusal-clash r y e = cc
 module _ {h : ℕ → Bool} {sp : Space} {m : ℕ → ℕ} {role : ℕ → Role} (w : Whole h sp m role) (va : ℕ) where
   module _ (s : Spot) (k : Located (settingOf h sp) m role va s) where
     -- the removal of n tables, all of them
-    removed : (n : ℕ) → Emptied h m va (s .way) n → UnmapDone h sp m role va (removal s n (bookOf m sp))
-    removed n e = record {
+    removed : (n : ℕ) (b : Book) → Emptied h m va (s .way) n → (0 < n → b ≡ bookOf m sp) → (n ≡ 0 → b ≡ noBook) → UnmapDone h sp m role va (removal s n b)
+    removed n b e f z = record {
       role' = role';
       size-is = k .size-is;
       aligned = rw (k .size-is) (k .aligned);
@@ -58,7 +72,8 @@ module _ {h : ℕ → Bool} {sp : Space} {m : ℕ → ℕ} {role : ℕ → Role}
       whole = subst (λ xs. Whole h sp (after m xs) role') same whole;
       proper = subst (Every (OfPool sp)) same (d .proper);
       is-low = omega (arith, level-at (s .way) n, last-level w va s k n (e .empty));
-      book = subst (λ xs. bookAfter sp (removal s n (bookOf m sp)) ≡ bookOf (after m xs) sp) same (book-is w va s k n (e .empty) (e .three));
+      book = λ u. subst (λ xs. bookAfter sp (removal s n b) ≡ bookOf (after m xs) sp) same (book-is w va s k n b (e .empty) f (e .three) u);
+      none = λ u. unfold cutBook in rw u (z u);
       counts = subst (λ xs. bookOf (after m xs) sp ≡ asideMore n (bookOf m sp)) same (d .book);
       fate = λ p. ticketed p (d .fate p);
       fewer = fewer;
@@ -71,18 +86,18 @@ module _ {h : ℕ → Bool} {sp : Space} {m : ℕ → ℕ} {role : ℕ → Role}
         role' : ℕ → Role
         role' = cutRoles role (s .way) n
 
-        same : cuts sp m va (s .way) n ≡ writesOf sp va (removal s n (bookOf m sp))
-        same = sym (writes-are w va s k n (e .empty) (e .three))
+        same : cuts sp m va (s .way) n ≡ writesOf sp va (removal s n b)
+        same = sym (writes-are w va s k n b (e .empty) f (e .three))
 
         whole : Whole h sp (after m (cuts sp m va (s .way) n)) role'
         whole = record { stands = w .stands; small = w .small; sound = changed-sound (cut-changed w va s k n e); booked = d .booked }
 
-        -- the book that is answered is the book
+        -- where a table was set aside, the book that is answered is the book
         ticketed : (p : ℕ) → (role' p ≡ role p) ⊎ SetAside sp role role' (after m (cuts sp m va (s .way) n)) (ticketOf (bookOf m sp)) (ticketOf (bookOf m sp) + n) p
-            → (role' p ≡ role p) ⊎ SetAside sp role role' (after m (writesOf sp va (removal s n (bookOf m sp)))) (ticketOf (bookOf m sp)) (ticketOf (bookAfter sp (removal s n (bookOf m sp)))) p
+            → (role' p ≡ role p) ⊎ SetAside sp role role' (after m (writesOf sp va (removal s n b))) (ticketOf (bookOf m sp)) (ticketOf (bookAfter sp (removal s n b))) p
         ticketed p (inl o) = inl o
         ticketed p (inr o) =
-            let more : bookAfter sp (removal s n (bookOf m sp)) ≡ asideMore n (bookOf m sp) = book-is w va s k n (e .empty) (e .three) ∙ d .book in
+            let more : bookAfter sp (removal s n b) ≡ asideMore n (bookOf m sp) = book-is w va s k n b (e .empty) f (e .three) (omega (arith, o .since, o .below)) ∙ d .book in
             inr (record {
               levels = o .levels;
               parent = o .parent;
@@ -111,15 +126,15 @@ module _ {h : ℕ → Bool} {sp : Space} {m : ℕ → ℕ} {role : ℕ → Role}
         simp (is-sound (sp .pages) (bookOf m sp) (w .booked .sound), le-leb _ _ room)
 
     -- and so they are removed
-    removes : (n : ℕ) → Emptied h m va (s .way) n → removeOf h m sp s n ≡ Go (removal s n (bookOf m sp))
-    unfolding removeOf openOf bookedOf
+    removes : (n : ℕ) → Emptied h m va (s .way) n → removeOf h m sp s n ≡ Go (removal s n (bookRead m sp n))
+    unfolding removeOf openOf bookedOf bookRead
     removes n e = go (ℕ-discrete n 0)
       where
-        go : Dec (n ≡ 0) → removeOf h m sp s n ≡ Go (removal s n (bookOf m sp))
+        go : Dec (n ≡ 0) → removeOf h m sp s n ≡ Go (removal s n (bookRead m sp n))
         go (yes z) = rw (eq-eqb n 0 z, z)
         go (no z) = rw (ne-eqb n 0 z, book-opens w, takes n e)
 
-    pub unmap-decided : foundOf h m sp va ≡ sought.Found s → decideOf h m sp va ≡ Go (removal s (emptiedOf h m va (s .way)) (bookOf m sp))
+    pub unmap-decided : foundOf h m sp va ≡ sought.Found s → decideOf h m sp va ≡ Go (removal s (emptiedOf h m va (s .way)) (bookRead m sp (emptiedOf h m va (s .way))))
     unfolding decideOf soughtOf
     unmap-decided f = rw f (removes (emptiedOf h m va (s .way)) (emptied h m va (s .way)))
 
@@ -130,7 +145,7 @@ module _ {h : ℕ → Bool} {sp : Space} {m : ℕ → ℕ} {role : ℕ → Role}
     unmapped-at f r e =
         let n = emptiedOf h m va (s .way) in
         subst (UnmapDone h sp m role va) (same-removal _ r (sym (unmap-decided f) ∙ e))
-        (removed n (emptied h m va (s .way)))
+        (removed n (bookRead m sp n) (emptied h m va (s .way)) (book-read m sp n) (none-read m sp n))
 
   -- UNMAP, DONE
   pub unmapped : (r : Removal) → decideOf h m sp va ≡ Go r → UnmapDone h sp m role va r

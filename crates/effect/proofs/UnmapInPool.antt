@@ -10,7 +10,7 @@ use Rattle.word.specs.Writes.{write}
 use Rattle.word.proofs.Writes.{Every, none, every-one, every-append}
 use Rattle.walk.specs.Walk.{indexOf}
 use Rattle.walk.proofs.Digits.{index-lt}
-use Rattle.pool.specs.Book.{bookOf, openedOf}
+use Rattle.pool.specs.Book.{openedOf}
 use Rattle.pool.specs.Changes.{asideWrites}
 use Rattle.pool.specs.Stands.{takesOf}
 use Rattle.pool.specs.declared.Space.{Space}
@@ -27,6 +27,7 @@ use Rattle.plan.specs.declared.finding.Sought.the-variants as sought
 use Rattle.plan.specs.declared.unmaps.Removal.{Removal}
 use Rattle.plan.specs.declared.unmaps.Removing.the-variants.{Go, Refused}
 use Rattle.plan.specs.Find.{foundOf}
+use Rattle.plan.specs.Map.{noBook}
 use Rattle.plan.specs.Unmap.{emptiedOf, bookedOf, openOf, removeOf, soughtOf, decideOf, book1, book2, cutWrites, writesOf}
 use Rattle.plan.proofs.Found.{FoundAt, found-at}
 use Rattle.plan.proofs.Standing.{stands}
@@ -63,9 +64,9 @@ module _ (h : ℕ → Bool) (m : ℕ → ℕ) (sp : Space) (va : ℕ) (r : Remov
     unfolding removeOf
     remove-went e = go (eqb n 0) e
       where
-        go : (t : Bool) → cond t (Go (record { spot = s; empties = 0; book = bookOf m sp })) (openOf sp s n (openedOf h m sp)) ≡ Go r → UnmapWent h m sp va r
+        go : (t : Bool) → cond t (Go (record { spot = s; empties = 0; book = noBook })) (openOf sp s n (openedOf h m sp)) ≡ Go r → UnmapWent h m sp va r
         go true k =
-            let same : record { spot = s; empties = 0; book = bookOf m sp } ≡ r = cc in
+            let same : record { spot = s; empties = 0; book = noBook } ≡ r = cc in
             subst (UnmapWent h m sp va) same (record { found = f; below = λ j v. absurd (omega arith) })
         go false k = open-went (openedOf h m sp) k
 

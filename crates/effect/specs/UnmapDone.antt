@@ -17,6 +17,7 @@ use Rattle.pool.specs.declared.Space.{Space}
 use Rattle.pool.specs.declared.Book.{Book}
 use Rattle.plan.specs.declared.unmaps.Removal.{Removal}
 use Rattle.effect.specs.OfPool.{OfPool}
+use Rattle.plan.specs.Map.{noBook}
 use Rattle.plan.specs.Unmap.{low, bookAfter, writesOf}
 use Rattle.effect.specs.Whole.{Whole}
 
@@ -37,8 +38,9 @@ pub record SetAside (sp : Space) (role role' : ℕ → Role) (m' : ℕ → ℕ) 
   pub below : number < upto
 
 -- before: the page that started at va, whose frame and size it answers. changed: every address of the page means nothing now, by one write; no
--- other address changes; empty tables are unlinked. book: the book that it carries is the book after it. fate: each page has its role still,
--- or was a table and is set aside, with a number below the ticket; fewer: so many of them. proper: it writes to the pool.
+-- other address changes; empty tables are unlinked. book, none: the book that it carries is the book; an empty one where no table was set
+-- aside. fate: each page has its role still, or was a table and is set aside, with a number below the ticket; fewer: so many of them.
+-- proper: it writes to the pool.
 pub record UnmapDone (h : ℕ → Bool) (sp : Space) (m : ℕ → ℕ) (role : ℕ → Role) (va : ℕ) (r : Removal) : Type 0 where
   pub role' : ℕ → Role
   pub size-is : r .spot .size ≡ sizeOf (r .spot .way .level)
@@ -49,7 +51,8 @@ pub record UnmapDone (h : ℕ → Bool) (sp : Space) (m : ℕ → ℕ) (role : �
   pub whole : Whole h sp (after m (writesOf sp va r)) role'
   pub proper : Every (OfPool sp) (writesOf sp va r)
   pub is-low : low r
-  pub book : bookAfter sp r ≡ bookOf (after m (writesOf sp va r)) sp
+  pub book : 0 < r .empties → bookAfter sp r ≡ bookOf (after m (writesOf sp va r)) sp
+  pub none : r .empties ≡ 0 → bookAfter sp r ≡ noBook
   pub counts : bookOf (after m (writesOf sp va r)) sp ≡ asideMore (r .empties) (bookOf m sp)
   pub fate : (p : ℕ) → (role' p ≡ role p) ⊎ SetAside sp role role' (after m (writesOf sp va r)) (ticketOf (bookOf m sp)) (ticketOf (bookAfter sp r)) p
   pub fewer : tablesOf sp role ≡ tablesOf sp role' + r .empties

@@ -17,7 +17,7 @@ use Rattle.entry.specs.declared.Entry.the-variants as entry
 use Rattle.entry.specs.declared.Made.{Made}
 use Rattle.entry.specs.declared.Made.the-variants as made
 use Rattle.walk.specs.Walk.{entryOf, indexOf}
-use Rattle.pool.specs.Book.{inPool, soundOf, bookOf, openedOf, wordOf, spotOf, usableOf, namedOf, listedOf}
+use Rattle.pool.specs.Book.{inPool, roomOf, soundOf, openedOf, wordOf, spotOf, usableOf, namedOf, listedOf}
 use Rattle.pool.specs.Stands.{standsOf, takesOf}
 use Rattle.pool.specs.declared.Space.{Space}
 use Rattle.pool.specs.declared.Book.{Book}
@@ -36,6 +36,7 @@ use Rattle.plan.specs.Map.{Low, Buildable}
 use Rattle.plan.specs.Unmap as unmap
 use Rattle.plan.specs.Find.{foundOf}
 use Rattle.plan.proofs.Found.{found-at}
+use Rattle.plan.proofs.Standing.{stands}
 use Rattle.plan.specs.declared.Reason.the-variants.{FrameInPool, NoRoom, Pool}
 use Rattle.plan.specs.declared.maps.Asked.{Asked}
 use Rattle.plan.specs.declared.maps.Mapping.{Mapping}
@@ -212,9 +213,9 @@ module _ (h : ℕ → Bool) (m : ℕ → ℕ) (sp : Space) (va : ℕ) (r : Remov
   unfolding unmap.removeOf
   remove-fits s n u i e = go (eqb n 0) e
     where
-      go : (t : Bool) → cond t (removing.Go (record { spot = s; empties = 0; book = bookOf m sp })) (unmap.openOf sp s n (openedOf h m sp)) ≡ removing.Go r → Fitting va r
+      go : (t : Bool) → cond t (removing.Go (record { spot = s; empties = 0; book = map.noBook })) (unmap.openOf sp s n (openedOf h m sp)) ≡ removing.Go r → Fitting va r
       go true k =
-          let same : record { spot = s; empties = 0; book = bookOf m sp } ≡ r = cc in
+          let same : record { spot = s; empties = 0; book = map.noBook } ≡ r = cc in
           subst (Fitting va) same (record { low = omega arith; index = i })
       go false k = opened-fits s n u i (openedOf h m sp) k
 
@@ -228,3 +229,12 @@ module _ (h : ℕ → Bool) (m : ℕ → ℕ) (sp : Space) (va : ℕ) (r : Remov
   pub unmap-fits : unmap.decideOf h m sp va ≡ removing.Go r → Fitting va r
   unfolding unmap.decideOf
   unmap-fits e = sought-fits (foundOf h m sp va) refl e
+
+  -- and that the pool lies in the window
+  pub unmap-room : unmap.decideOf h m sp va ≡ removing.Go r → roomOf h (sp .first) (sp .pages) ≡ fit.Fits
+  unfolding unmap.decideOf unmap.soughtOf
+  unmap-room e = go (foundOf h m sp va) refl e
+    where
+      go : (x : Sought) → foundOf h m sp va ≡ x → unmap.soughtOf h m sp va x ≡ removing.Go r → roomOf h (sp .first) (sp .pages) ≡ fit.Fits
+      go (sought.Found s) f k = stands h sp (found-at h m sp va s f .stands) .room
+      go (sought.Refused y) f k = let z : _≡_ {A = ℕ} 0 1 = cc in absurd (omega arith)

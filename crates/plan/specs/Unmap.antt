@@ -7,7 +7,7 @@ use Rattle.word.specs.Scan.{besidesOf}
 use Rattle.word.specs.Writes.{Write, write}
 use Rattle.walk.specs.Walk.{indexOf}
 use Rattle.pool.specs.Stands.{takesOf}
-use Rattle.pool.specs.Book.{bookOf, openedOf, ticketIn}
+use Rattle.pool.specs.Book.{bookOf, openedOf, ticketAfter}
 use Rattle.pool.specs.Changes.{asideWrites, asideBook}
 use Rattle.pool.specs.declared.Space.{Space}
 use Rattle.pool.specs.declared.Book.{Book}
@@ -26,6 +26,7 @@ use Rattle.plan.specs.declared.unmaps.Removing.the-variants.{Go, Refused
 use Rattle.plan.specs.declared.unmaps.Unmapping.{Unmapping}
 use Rattle.plan.specs.declared.unmaps.Unmapping.the-variants as unmapping
 use Rattle.plan.specs.Find.{foundOf}
+use Rattle.plan.specs.Map.{noBook}
 
 -- Which tables become empty ------------------------------------------------------------------------------------------------------
 
@@ -47,9 +48,9 @@ unfoldable pub openOf : Space → Spot → ℕ → Opened → Removing
 openOf sp s n (opened.Book b) = bookedOf sp s n b
 openOf sp s n (opened.Refused r) = Refused (Pool r)
 
--- a book is opened only where a table becomes empty; else its counts are carried as they stand
+-- a book is needed only where a table becomes empty
 unfoldable pub removeOf : (ℕ → Bool) → (ℕ → ℕ) → Space → Spot → ℕ → Removing
-removeOf h m sp s n = cond (eqb n 0) (Go (record { spot = s; empties = 0; book = bookOf m sp })) (openOf sp s n (openedOf h m sp))
+removeOf h m sp s n = cond (eqb n 0) (Go (record { spot = s; empties = 0; book = noBook })) (openOf sp s n (openedOf h m sp))
 
 unfoldable pub soughtOf : (ℕ → Bool) → (ℕ → ℕ) → Space → ℕ → Sought → Removing
 soughtOf h m sp va (sought.Found s) = removeOf h m sp s (emptiedOf h m va (s .way))
@@ -78,10 +79,6 @@ book1 sp r = cutBook sp 0 (r .empties) (r .book)
 abbrev pub book2 : Space → Removal → Book
 book2 sp r = cutBook sp 1 (r .empties) (book1 sp r)
 
--- the book after it
-abbrev pub bookAfter : Space → Removal → Book
-bookAfter sp r = cutBook sp 2 (r .empties) (book2 sp r)
-
 -- WHAT UNMAP WRITES: the page's entry, then for each table that became empty its parent's entry and the book
 unfoldable pub writesOf : Space → ℕ → Removal → List Write
 writesOf sp va r =
@@ -94,7 +91,7 @@ unfoldable pub didOf : Space → ℕ → Removing → List Write
 didOf sp va (Go r) = writesOf sp va r
 didOf sp va (Refused y) = []
 
--- what is done, and the ticket of the book after it
-unfoldable pub unmappingOf : Space → Removing → Unmapping
-unmappingOf sp (Go r) = unmapping.Done r (ticketIn (bookAfter sp r))
-unmappingOf sp (Refused y) = unmapping.Refused y
+-- what is done, and the ticket of the book after it: so many pages more are set aside
+unfoldable pub unmappingOf : (ℕ → ℕ) → Space → Removing → Unmapping
+unmappingOf m sp (Go r) = unmapping.Done r (ticketAfter (bookOf m sp) (r .empties))
+unmappingOf m sp (Refused y) = unmapping.Refused y

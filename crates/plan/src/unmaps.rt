@@ -5,8 +5,6 @@ ghost use Prim.Native.Nat.{_+_, _-_, _<_, _≤_};
 ghost use Rattle.word.specs.Memory.{memory, holds};
 ghost use Rattle.word.specs.Writes.{Wrote};
 ghost use Rattle.walk.specs.Walk.{indexOf};
-ghost use Rattle.pool.specs.Book.{roomOf};
-ghost use Rattle.pool.specs.declared.Fit.the-variants.{Fits};
 ghost use Rattle.plan.specs.Unmap as the;
 use crate::Reason;
 use crate::descent::Way;
@@ -17,7 +15,7 @@ use pool::Book;
 use pool::Opened;
 use pool::Space;
 
-// The page that goes, how many tables become empty with it, and the book: opened where it takes some.
+// The page that goes, how many tables become empty with it, and the book that takes them.
 pub struct Removal {
     pub spot: Spot,
     pub empties: u64,
@@ -74,15 +72,20 @@ fn booked(space: Space, s: Spot, n: u64, b: Book) -> Removing
     Removing::Refused(Reason::Pool(pool::Reason::BadBook))
 }
 
-// A book is opened only where a table becomes empty; else it is read for the ticket alone.
+// A book is needed only where a table becomes empty.
 fn remove(mem: &[u8], space: Space, s: Spot, n: u64) -> Removing
-    ensures { λ r. ⌜ (roomOf (holds (now (mem .entry)) (space .origin)) (space .first) (space .pages) ≡ Fits → r ≡ the.removeOf (holds (now (mem .entry)) (space .origin)) (memory (now (mem .entry)) (space .origin)) space s n) ⌝ }
+    ensures { λ r. ⌜ r ≡ the.removeOf (holds (now (mem .entry)) (space .origin)) (memory (now (mem .entry)) (space .origin)) space s n ⌝ }
 {
     if n == 0 {
         return Removing::Go(Removal {
             spot: s,
             empties: 0,
-            book: pool::book_now(mem, space),
+            book: Book {
+                head: 0,
+                free: 0,
+                aside: 0,
+                tickets: 0,
+            },
         });
     }
     // A copy, so that the space itself need not lie in memory where no book is needed.
@@ -132,10 +135,8 @@ fn cut(
     pool::set_aside(mem, left, space, b, child)
 }
 
-// Answers the book after it.
-fn carry_unmap(mem: &mut [u8], left: &mut u64, space: Space, va: u64, r: Removal) -> Book
+fn carry_unmap(mem: &mut [u8], left: &mut u64, space: Space, va: u64, r: Removal)
     requires { ⌜ (the.low r) × (r .spot .index ≡ indexOf (r .spot .way .level) va) ⌝ }
-    ensures { λ b. ⌜ b ≡ the.bookAfter space r ⌝ }
     ensures { λ _. ⌜ Wrote (space .origin) (the.writesOf space va r) (now (left .entry)) (now (left .exit)) (now (mem .entry)) (now (mem .exit)) ⌝ }
 {
     let s = r.spot;
@@ -145,26 +146,27 @@ fn carry_unmap(mem: &mut [u8], left: &mut u64, space: Space, va: u64, r: Removal
     let b0 = r.book;
     word::write(mem, left, space.origin, w.a, s.index, 0);
     if n == 0 {
-        return b0;
+        return;
     }
     // A copy, so that the space itself need not lie in memory where nothing becomes empty.
     let sp = space;
     let b1 = cut(mem, left, sp, va, 0, n, w.b, l + 1, w.a, b0);
     let b2 = cut(mem, left, sp, va, 1, n, w.c, l + 2, w.b, b1);
-    cut(mem, left, sp, va, 2, n, w.d, l + 3, w.c, b2)
+    cut(mem, left, sp, va, 2, n, w.d, l + 3, w.c, b2);
 }
 
-// Unmaps, and answers the ticket of the book after it; or refuses and writes nothing.
+// Unmaps, and answers the ticket of the book after it, by the counts before; or refuses and writes nothing.
 pub fn unmap(mem: &mut [u8], left: &mut u64, space: Space, va: u64) -> Unmapping
-    ensures answer { λ r. ⌜ r ≡ the.unmappingOf space (the.decideOf (holds (now (mem .entry)) (space .origin)) (memory (now (mem .entry)) (space .origin)) space va) ⌝ }
+    ensures answer { λ r. ⌜ r ≡ the.unmappingOf (memory (now (mem .entry)) (space .origin)) space (the.decideOf (holds (now (mem .entry)) (space .origin)) (memory (now (mem .entry)) (space .origin)) space va) ⌝ }
     ensures order { λ _. ⌜ Wrote (space .origin) (the.didOf space va (the.decideOf (holds (now (mem .entry)) (space .origin)) (memory (now (mem .entry)) (space .origin)) space va)) (now (left .entry)) (now (left .exit)) (now (mem .entry)) (now (mem .exit)) ⌝ }
 {
     let d = decide_unmap(mem, space, va);
     match d {
         Removing::Refused(r) => Unmapping::Refused(r),
         Removing::Go(p) => {
-            let b = carry_unmap(mem, left, space, va, p);
-            Unmapping::Done(p, pool::ticket(b))
+            let ticket = pool::ticket_after(pool::book_now(mem, space), p.empties);
+            carry_unmap(mem, left, space, va, p);
+            Unmapping::Done(p, ticket)
         }
     }
 }

@@ -1,5 +1,5 @@
 -- The ticket of a book that can be; and the book's words, where the pool lies in the window.
-use Prim.Native.Nat.{ℕ, _+_, _%_, _^_, _<_}
+use Prim.Native.Nat.{ℕ, _+_, _%_, _^_, _<_, _≤_}
 use mathlib.Core.List.{List}
 use mathlib.Core.Path.{_≡_, sym}
 use native.Mathlib.Omega.{arith}
@@ -9,13 +9,18 @@ use Rattle.word.specs.declared.Cell.the-variants as cell
 use Rattle.word.proofs.Runs.{Among, word-among, outside-among}
 use Rattle.pool.specs.declared.Book.{Book}
 use Rattle.pool.specs.declared.Fit.the-variants.{Fits}
-use Rattle.pool.specs.Book.{bookPages, roomOf, Sound, ticketOf, ticketIn}
+use Rattle.pool.specs.Book.{bookPages, roomOf, Sound, ticketOf, ticketIn, ticketAfter}
 use Rattle.pool.proofs.Opening.{Fitting, fitting, fit-runs}
 
 -- THE TICKET of a book that can be is a number of 64 bits as it is
 pub ticket-sound : (pages : ℕ) (b : Book) → Sound pages b → ticketIn b ≡ ticketOf b
 unfolding ticketIn
 ticket-sound pages b s = omega (arith, s .early, s .small, s .room)
+
+-- and n more are n more
+pub ticket-more : (pages : ℕ) (b : Book) (n : ℕ) → Sound pages b → n ≤ pages → ticketAfter b n ≡ ticketOf b + n
+unfolding ticketAfter
+ticket-more pages b n s u = rw (ticket-sound pages b s) (omega (arith, s .early, s .small, s .room))
 
 module _ (s : List ℕ) (origin first pages i : ℕ) (u : i < 512) where
   -- the pool lies there, and so does its first page

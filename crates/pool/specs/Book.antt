@@ -108,6 +108,10 @@ ticketOf b = b .tickets + b .aside
 unfoldable pub ticketIn : Book → ℕ
 ticketIn b = ticketOf b % 2 ^ 64
 
+-- and once n pages more are set aside
+unfoldable pub ticketAfter : Book → ℕ → ℕ
+ticketAfter b n = (ticketIn b + n) % 2 ^ 64
+
 -- how many pages a report of this ticket releases: those whose number is below it
 unfoldable pub dueOf : Book → ℕ → Due
 dueOf b t =

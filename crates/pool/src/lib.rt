@@ -260,6 +260,13 @@ pub fn ticket(book: Book) -> u64
     std::num::wrapping_add_u64(book.tickets, book.aside)
 }
 
+// The ticket once so many pages more are set aside.
+pub fn ticket_after(book: Book, more: u64) -> u64
+    ensures { λ r. ⌜ r ≡ the.ticketAfter book more ⌝ }
+{
+    std::num::wrapping_add_u64(ticket(book), more)
+}
+
 // How many of the oldest pages set aside a report of this ticket releases. A count in its place would be wrong where two reports overlap:
 // the pages of the one would be counted for the other.
 pub fn due_by(book: Book, ticket: u64) -> Due

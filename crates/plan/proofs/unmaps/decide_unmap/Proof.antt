@@ -1,4 +1,3 @@
-use Rattle.plan.proofs.Standing.{stands}
 use Rattle.plan.proofs.Found.{found-at}
 use Rattle.plan.specs.Unmap.{decideOf, soughtOf}
 use mathlib.Core.Path.{_≡_, sym, _∙_}
@@ -39,7 +38,7 @@ returns c = rw (sym (c .before .before .before .find .ensures) ∙ c .before .s 
 -- src/unmaps.rt:121:1
 returns-2 : tie.Need-returns-2
 unfolding decideOf soughtOf
-returns-2 c = let e = sym (c .before .before .before .before .before .before .find .ensures) ∙ c .before .before .before .before .s2 .given .1 in rw (e, c .remove .ensures (stands _ _ (found-at _ _ _ _ _ e .stands) .room), c .before .emptied .ensures (found-at _ _ _ _ _ e .index))
+returns-2 c = let e = sym (c .before .before .before .before .before .before .find .ensures) ∙ c .before .before .before .before .s2 .given .1 in rw (e, c .remove .ensures, c .before .emptied .ensures (found-at _ _ _ _ _ e .index))
 
 pub decide-unmap-spec : {M : Type 1} → statement M
 decide-unmap-spec =

@@ -1,55 +1,49 @@
 use Rattle.plan.specs.Unmap.{removeOf, openOf}
 use mathlib.Core.Path.{_≡_, sym, _∙_}
-use borrow.Author.Tests.{eq-eqb, ne-eqb}
+use borrow.Author.Tests.{eq-eqb, ne-eqb, le-leb, lt-leb, lt-ltb, le-ltb}
 use borrow.Author.Needs.{needs}
 use Rattle.plan.proofs.unmaps.remove.Statement.{statement}
 use Rattle.plan.proofs.unmaps.remove.Tie as tie
 use Rattle.plan.proofs.unmaps.remove.Reads as reads
 use Rattle.plan.proofs.unmaps.remove.Lts as lts
 use Rattle.plan.proofs.unmaps.booked.Reads as booked-reads
-use Rattle.pool.proofs.book_now.Reads as book-now-reads
 use Rattle.pool.proofs.open.Reads as open-reads
 
--- src/unmaps.rt:85:19
-book-now-requires : tie.Need-book-now-requires
-book-now-requires c κs = search needs
-
--- src/unmaps.rt:82:9
+-- src/unmaps.rt:102:9
 returns : tie.Need-returns
 unfolding removeOf
-returns c = λ u. simp (eq-eqb _ _ (c .before .if1 .taken), c .book-now .ensures u)
+returns c = simp (eq-eqb _ _ (c .if1 .taken))
 
--- src/unmaps.rt:90:9
+-- src/unmaps.rt:113:9
 open-requires : tie.Need-open-requires
 open-requires c κs = search needs
 
--- src/unmaps.rt:92:25
+-- src/unmaps.rt:115:25
 enum-known-o : tie.Need-enum-known-o
 enum-known-o c = search needs
 
--- src/unmaps.rt:93:22
+-- src/unmaps.rt:116:22
 enum-known-o-2 : tie.Need-enum-known-o-2
 enum-known-o-2 c = search needs
 
--- src/unmaps.rt:93:28
+-- src/unmaps.rt:116:28
 booked-requires : tie.Need-booked-requires
 booked-requires c κs = search needs
 
--- src/unmaps.rt:78:1
+-- src/unmaps.rt:98:1
 returns-2 : tie.Need-returns-2
 unfolding removeOf openOf
-returns-2 c = λ u. simp (ne-eqb _ _ (c .before .before .before .before .if1 .left), sym (c .before .before .before .«open» .ensures) ∙ c .before .o .given .1)
+returns-2 c = simp (ne-eqb _ _ (c .before .before .before .before .if1 .left), sym (c .before .before .before .«open» .ensures) ∙ c .before .o .given .1)
 
--- src/unmaps.rt:78:1
+-- src/unmaps.rt:98:1
 returns-3 : tie.Need-returns-3
 unfolding removeOf openOf
-returns-3 c = λ u. simp (ne-eqb _ _ (c .before .before .before .before .before .if1 .left), sym (c .before .before .before .before .«open» .ensures) ∙ c .before .before .o2 .given .1, c .booked .ensures)
+returns-3 c = simp (ne-eqb _ _ (c .before .before .before .before .before .if1 .left), sym (c .before .before .before .before .«open» .ensures) ∙ c .before .before .o2 .given .1, c .booked .ensures)
 
 pub remove-spec : {M : Type 1} → statement M
 remove-spec =
     tie.close
     (tie.spec
-    book-now-requires
     returns
     open-requires
     enum-known-o
