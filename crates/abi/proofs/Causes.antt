@@ -12,6 +12,7 @@ use Rattle.pool.specs.Booked.{settingOf}
 use Rattle.pool.specs.declared.Due.{Due}
 use Rattle.pool.specs.declared.Due.the-variants as due
 use Rattle.pool.specs.declared.Space.{Space}
+use Rattle.pool.specs.declared.Book.{Book}
 use Rattle.plan.specs.Map as map
 use Rattle.plan.specs.Map.{Placed, shapeOf}
 use Rattle.plan.specs.Protect as protect
@@ -47,15 +48,15 @@ unfolding mapped the.mapSaid
 map-number (map.Go p) y = (λ e. absurd (never-done y (sym e)), λ e. let z : _≡_ {A = ℕ} 0 1 = cc in absurd (omega arith))
 map-number (map.Refused x) y = (λ e. ap map.Refused (one-reason x y e), λ e. let same : x ≡ y = cc in ap reasonOf same)
 
-unmap-number : (sp : Space) (d : Removing) (y : Reason) → (unmapped (the.unmapSaid sp d) .reason ≡ reasonOf y) ↔ (d ≡ removing.Refused y)
+unmap-number : (b : Book) (d : Removing) (y : Reason) → (unmapped (the.unmapSaid b d) .reason ≡ reasonOf y) ↔ (d ≡ removing.Refused y)
 unfolding unmapped the.unmapSaid
-unmap-number sp (removing.Go p) y = (λ e. absurd (never-done y (sym e)), λ e. let z : _≡_ {A = ℕ} 0 1 = cc in absurd (omega arith))
-unmap-number sp (removing.Refused x) y = (λ e. ap removing.Refused (one-reason x y e), λ e. let same : x ≡ y = cc in ap reasonOf same)
+unmap-number b (removing.Go p) y = (λ e. absurd (never-done y (sym e)), λ e. let z : _≡_ {A = ℕ} 0 1 = cc in absurd (omega arith))
+unmap-number b (removing.Refused x) y = (λ e. ap removing.Refused (one-reason x y e), λ e. let same : x ≡ y = cc in ap reasonOf same)
 
-unmap-zero : (sp : Space) (d : Removing) → (unmapped (the.unmapSaid sp d) .reason ≡ 0) ↔ ((r : Removal) × (d ≡ removing.Go r))
+unmap-zero : (b : Book) (d : Removing) → (unmapped (the.unmapSaid b d) .reason ≡ 0) ↔ ((r : Removal) × (d ≡ removing.Go r))
 unfolding unmapped the.unmapSaid
-unmap-zero sp (removing.Go p) = (λ e. (p, refl), λ k. refl)
-unmap-zero sp (removing.Refused x) = (λ e. absurd (never-done x e), λ k. let z : _≡_ {A = ℕ} 0 1 = cc (k .1) in absurd (omega arith))
+unmap-zero b (removing.Go p) = (λ e. (p, refl), λ k. refl)
+unmap-zero b (removing.Refused x) = (λ e. absurd (never-done x e), λ k. let z : _≡_ {A = ℕ} 0 1 = cc (k .1) in absurd (omega arith))
 
 protect-number : (d : Changing) (y : Reason) → (protected (the.protectSaid d) .reason ≡ reasonOf y) ↔ (d ≡ changing.Refused y)
 unfolding protected the.protectSaid
@@ -134,8 +135,8 @@ module _ (s : List ℕ) (n : Numbers) (w : WholeAt s n) where
   unmap-causes base =
       let k = unmap-exactly (w .whole) base in
       rw (unmap-answers n (w .aligned) s base) (record {
-        done = along (unmap-zero (spaceOf n) _) (k .succeeds);
-        nothing-starts = along (unmap-number (spaceOf n) _ NothingStarts) (k .refused);
+        done = along (unmap-zero (bookOf (memory s (n .origin)) (spaceOf n)) _) (k .succeeds);
+        nothing-starts = along (unmap-number (bookOf (memory s (n .origin)) (spaceOf n)) _ NothingStarts) (k .refused);
       })
 
   -- PROTECT

@@ -9,7 +9,7 @@ use lib.ListN.{length, replicate}
 use Rattle.word.specs.Memory.{memory, holds}
 use Rattle.word.specs.Writes.{carried}
 use Rattle.entry.specs.declared.Rights.{Rights}
-use Rattle.pool.specs.Book.{openedOf, dueOf}
+use Rattle.pool.specs.Book.{bookOf, openedOf, dueOf}
 use Rattle.pool.specs.Create.{createdOf, createdIn, createWrites, createIn, newSpace, mayCreate}
 use Rattle.pool.specs.declared.Book.{Book}
 use Rattle.pool.specs.declared.Due.{Due}
@@ -61,8 +61,8 @@ module _ (s : List ℕ) where
   unmap-refused base (Refused y) k = same refl
   unmap-refused base (At sp) k = go (unmap.decideOf (holds s (sp .origin)) (memory s (sp .origin)) sp base) k
     where
-      go : (d : Removing) → unmapped (the.unmapSaid sp d) .reason ≢ 0
-          → Untouched s (carried s (sp .origin) (unmap.didOf sp base d)) (unmapFields (unmapped (the.unmapSaid sp d)))
+      go : (d : Removing) → unmapped (the.unmapSaid (bookOf (memory s (sp .origin)) sp) d) .reason ≢ 0
+          → Untouched s (carried s (sp .origin) (unmap.didOf sp base d)) (unmapFields (unmapped (the.unmapSaid (bookOf (memory s (sp .origin)) sp) d)))
       go (removing.Go r) k = absurd (k refl)
       go (removing.Refused y) k = same refl
 

@@ -8,13 +8,12 @@ use native.Mathlib.Omega.{arith}
 use Rattle.entry.specs.declared.Rights.{Rights}
 use Rattle.walk.specs.declared.Found.the-variants as found
 use Rattle.tables.specs.Roles.{Role}
-use Rattle.pool.specs.Book.{bookOf, ticketOf, ticketIn, dueOf}
+use Rattle.pool.specs.Book.{bookOf, ticketOf, ticketAfter, dueOf}
 use Rattle.pool.specs.Booked.{released}
 use Rattle.pool.specs.declared.Space.{Space}
 use Rattle.pool.specs.declared.Book.{Book}
 use Rattle.pool.specs.declared.Due.the-variants as due
 use Rattle.pool.proofs.Releasing.{due-exactly, release-book}
-use Rattle.pool.proofs.Tickets.{ticket-sound}
 use Rattle.plan.specs.Map as map
 use Rattle.plan.specs.Unmap as unmap
 use Rattle.plan.specs.Protect as protect
@@ -131,15 +130,12 @@ module _ {h : ℕ → Bool} {sp : Space} {m : ℕ → ℕ} {role : ℕ → Role}
     unfolding unmapWrites unmap.didOf
     whole-now = rw e (d .whole)
 
-    book-now : unmap.bookAfter sp r ≡ bookOf (afterUnmap h m sp va) sp
-    unfolding unmapWrites unmap.didOf
-    book-now = rw e (d .book)
-
     -- THE TICKET that is answered
-    unmap-ticket : ticketIn (unmap.bookAfter sp r) ≡ ticketOf (bookOf (afterUnmap h m sp va) sp)
-    unmap-ticket = ap ticketIn book-now ∙ ticket-sound (sp .pages) (bookOf (afterUnmap h m sp va) sp) (whole-now .booked .sound)
+    unmap-ticket : ticketAfter (bookOf m sp) (r .empties) ≡ ticketOf (bookOf (afterUnmap h m sp va) sp)
+    unfolding unmapWrites unmap.didOf
+    unmap-ticket = rw e (d .ticket)
 
-    unmap-gone : UnmapGone h sp m role va (goneOf sp r)
+    unmap-gone : UnmapGone h sp m role va (goneOf (bookOf m sp) r)
     unfolding goneOf unmapWrites unmap.didOf
     unmap-gone = record {
       had = d .had;
@@ -161,16 +157,16 @@ module _ {h : ℕ → Bool} {sp : Space} {m : ℕ → ℕ} {role : ℕ → Role}
       let x = unmap-exactly w va in
       record {
         refused = λ y. (
-          λ e. let f = unmap-refused-by sp y (unmap.decideOf h m sp va) e in
+          λ e. let f = unmap-refused-by (bookOf m sp) y (unmap.decideOf h m sp va) e in
               let same = x .only y f in
               (same, x .refused .0 (f ∙ ap removing.Refused same)),
           λ n. rw (x .refused .1 (n .1), n .0),
         );
         done = (
-          λ g. let f = unmap-done-by sp (g .0) (unmap.decideOf h m sp va) (g .1) in x .succeeds .0 (f .0, f .1),
-          λ a. let f = x .succeeds .1 a in (goneOf sp (f .0), rw (f .1)),
+          λ g. let f = unmap-done-by (bookOf m sp) (g .0) (unmap.decideOf h m sp va) (g .1) in x .succeeds .0 (f .0, f .1),
+          λ a. let f = x .succeeds .1 a in (goneOf (bookOf m sp) (f .0), rw (f .1)),
         );
-        gone = λ g e. let f = unmap-done-by sp g (unmap.decideOf h m sp va) e in subst (UnmapGone h sp m role va) (f .2) (unmap-gone (f .0) (f .1));
+        gone = λ g e. let f = unmap-done-by (bookOf m sp) g (unmap.decideOf h m sp va) e in subst (UnmapGone h sp m role va) (f .2) (unmap-gone (f .0) (f .1));
       }
 
   module _ (rights : Rights) (c : Change) (e : protect.decideOf h m sp va rights ≡ changing.Go c) where

@@ -4,7 +4,7 @@ use mathlib.Core.Bool.{Bool}
 use mathlib.Core.List.{List, []}
 use Rattle.word.specs.Writes.{Write}
 use Rattle.entry.specs.declared.Rights.{Rights}
-use Rattle.pool.specs.Book.{openedOf, dueOf, ticketIn}
+use Rattle.pool.specs.Book.{bookOf, openedOf, dueOf, ticketAfter}
 use Rattle.pool.specs.Changes.{releaseWrites}
 use Rattle.pool.specs.declared.Space.{Space}
 use Rattle.pool.specs.declared.Book.{Book}
@@ -48,21 +48,21 @@ mapWrites h m sp q = map.didOf sp (map.decideOf h m sp q)
 
 -- Unmap ------------------------------------------------------------------------------------------------------------------------
 
--- the page that is gone, and the ticket of the book after it
-unfoldable pub goneOf : Space → Removal → Gone
-goneOf sp r = record {
+-- the page that is gone, and the ticket after it, where b is the book before: so many pages more are set aside
+unfoldable pub goneOf : Book → Removal → Gone
+goneOf b r = record {
   frame = r .spot .frame;
   size = r .spot .size;
   aside = r .empties;
-  ticket = ticketIn (unmap.bookAfter sp r);
+  ticket = ticketAfter b (r .empties);
 }
 
-unfoldable pub unmapSaid : Space → Removing → Unmapped
-unmapSaid sp (removing.Go r) = unmapped.Done (goneOf sp r)
-unmapSaid sp (removing.Refused y) = unmapped.Refused y
+unfoldable pub unmapSaid : Book → Removing → Unmapped
+unmapSaid b (removing.Go r) = unmapped.Done (goneOf b r)
+unmapSaid b (removing.Refused y) = unmapped.Refused y
 
 unfoldable pub unmapAnswer : (ℕ → Bool) → (ℕ → ℕ) → Space → ℕ → Unmapped
-unmapAnswer h m sp va = unmapSaid sp (unmap.decideOf h m sp va)
+unmapAnswer h m sp va = unmapSaid (bookOf m sp) (unmap.decideOf h m sp va)
 
 unfoldable pub unmapWrites : (ℕ → Bool) → (ℕ → ℕ) → Space → ℕ → List Write
 unmapWrites h m sp va = unmap.didOf sp va (unmap.decideOf h m sp va)
