@@ -90,7 +90,7 @@ module _ {h : ℕ → Bool} {sp : Space} {m : ℕ → ℕ} {role : ℕ → Role}
   handed-upto : (c : Call) (t : ℕ) (es : List (Event ℕ)) → Handed h m sp c t → writes es ≡ eventsOf (callWrites h m sp c) → Marks sp m es
       → t ≤ ticketOf (bookOf (after m es) sp)
   handed-upto c t es k e marks =
-      let b = same-keeps (serves-now h sp m role c w .whole .booked) (call-book sp m (callWrites h m sp c) es e marks) in
+      let b = same-keeps {m' = after m es} (serves-now h sp m role c w .whole .booked) (call-book sp m (callWrites h m sp c) es e marks) in
       omega (arith, handed-now c t k, b .tickets, b .more)
 
 -- TICKETS NEVER DECREASE, whatever calls come, and whatever they report; and the space stays whole
