@@ -44,7 +44,7 @@ static struct outcome access_by_process(enum access kind, uint64_t va, unsigned 
 }
 
 void agree_on(const char *when, uint64_t va, unsigned ring, enum access kind) {
-    struct tp_found found = look_up(&process_space, va);
+    struct tp_found found = tp_look_up(&process_space, va);
     struct foreseen foreseen = foresee(found, is_reserved(found, va), ring, kind);
     uint64_t at = found.frame + (va - found.base), before = fresh(at), written = fresh(at);
     int seen = found.kind == TP_PAGE && is_buffer(at);

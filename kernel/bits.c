@@ -14,7 +14,7 @@ static int is_address(unsigned bit) { return bit >= 12 && bit < 52; }
 
 /* A frame that was moved may be no memory of ours: then it is read, and no more. */
 static void agree_turned(uint64_t va, uint64_t frame) {
-    struct tp_found found = look_up(&process_space, va);
+    struct tp_found found = tp_look_up(&process_space, va);
     if (found.kind == TP_OUTSIDE) return; /* a page of a buffer as a table: look-up says no more */
     if (found.kind == TP_PAGE) pages++;
     else if (leaf_word(&process_space, va) & PRESENT) reserved++;

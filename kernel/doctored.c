@@ -9,9 +9,9 @@
 #define SAME mem, len, origin, pool, pages, root
 
 #if defined WRONG_FRAME || defined MORE_RIGHTS || defined NO_CODE || defined REFUSED_YET_WRITTEN
-struct tp_mapped __real_tp_map(SPACE, uint64_t base, uint64_t frame, uint64_t size, uint64_t rights);
-struct tp_mapped __wrap_tp_map(SPACE, uint64_t base, uint64_t frame, uint64_t size, uint64_t rights);
-struct tp_mapped __wrap_tp_map(SPACE, uint64_t base, uint64_t frame, uint64_t size, uint64_t rights) {
+struct tp_mapped __real_tp_raw_map(SPACE, uint64_t base, uint64_t frame, uint64_t size, uint64_t rights);
+struct tp_mapped __wrap_tp_raw_map(SPACE, uint64_t base, uint64_t frame, uint64_t size, uint64_t rights);
+struct tp_mapped __wrap_tp_raw_map(SPACE, uint64_t base, uint64_t frame, uint64_t size, uint64_t rights) {
 #if defined WRONG_FRAME /* the neighbour's, and look-up below says that all is well */
     if (size == MIB2) frame ^= MIB2;
 #elif defined MORE_RIGHTS
@@ -19,7 +19,7 @@ struct tp_mapped __wrap_tp_map(SPACE, uint64_t base, uint64_t frame, uint64_t si
 #elif defined NO_CODE /* of the kernel's code too: the first instruction in these tables is the last */
     rights |= TP_NO_EXECUTE;
 #endif
-    struct tp_mapped m = __real_tp_map(SAME, base, frame, size, rights);
+    struct tp_mapped m = __real_tp_raw_map(SAME, base, frame, size, rights);
 #if defined REFUSED_YET_WRITTEN
     if (m.reason != TP_DONE) mem[len - 1] ^= 1;
 #endif
@@ -28,19 +28,19 @@ struct tp_mapped __wrap_tp_map(SPACE, uint64_t base, uint64_t frame, uint64_t si
 #endif
 
 #if defined KEPT_PAGE /* answers, and does nothing */
-struct tp_unmapped __wrap_tp_unmap(SPACE, uint64_t base);
-struct tp_unmapped __wrap_tp_unmap(SPACE, uint64_t base) {
+struct tp_unmapped __wrap_tp_raw_unmap(SPACE, uint64_t base);
+struct tp_unmapped __wrap_tp_raw_unmap(SPACE, uint64_t base) {
     (void)pool, (void)pages;
-    struct tp_found f = tp_look_up(mem, len, origin, root, base);
+    struct tp_found f = tp_raw_look_up(mem, len, origin, root, base);
     return (struct tp_unmapped){ f.kind == TP_PAGE ? TP_DONE : TP_NOTHING_STARTS, f.frame, f.size, 0, 0 };
 }
 #endif
 
 #if defined DROPPED_MARK
-struct tp_protected __real_tp_protect(SPACE, uint64_t base, uint64_t rights);
-struct tp_protected __wrap_tp_protect(SPACE, uint64_t base, uint64_t rights);
-struct tp_protected __wrap_tp_protect(SPACE, uint64_t base, uint64_t rights) {
-    struct tp_protected p = __real_tp_protect(SAME, base, rights);
+struct tp_protected __real_tp_raw_protect(SPACE, uint64_t base, uint64_t rights);
+struct tp_protected __wrap_tp_raw_protect(SPACE, uint64_t base, uint64_t rights);
+struct tp_protected __wrap_tp_raw_protect(SPACE, uint64_t base, uint64_t rights) {
+    struct tp_protected p = __real_tp_raw_protect(SAME, base, rights);
     struct way way = way_of(&process_space, base);
     *way.word[way.words - 1] &= ~(uint64_t)DIRTY;
     return p;
@@ -48,8 +48,8 @@ struct tp_protected __wrap_tp_protect(SPACE, uint64_t base, uint64_t rights) {
 #endif
 
 #if defined LOST_TABLES /* no table that was set aside is ever free again */
-struct tp_report __wrap_tp_told(SPACE, uint64_t ticket);
-struct tp_report __wrap_tp_told(SPACE, uint64_t ticket) {
+struct tp_report __wrap_tp_raw_told(SPACE, uint64_t ticket);
+struct tp_report __wrap_tp_raw_told(SPACE, uint64_t ticket) {
     (void)mem, (void)len, (void)origin, (void)pool, (void)pages, (void)root;
     static uint64_t last;
     struct tp_report r = { TP_DONE, ticket - last };
@@ -59,10 +59,10 @@ struct tp_report __wrap_tp_told(SPACE, uint64_t ticket) {
 #endif
 
 #if defined WRONG_FRAME || defined LAST_WORD_ONLY || defined RESERVED_IGNORED
-struct tp_found __real_tp_look_up(const uint8_t *mem, size_t len, uint64_t origin, uint64_t root, uint64_t va);
-struct tp_found __wrap_tp_look_up(const uint8_t *mem, size_t len, uint64_t origin, uint64_t root, uint64_t va);
-struct tp_found __wrap_tp_look_up(const uint8_t *mem, size_t len, uint64_t origin, uint64_t root, uint64_t va) {
-    struct tp_found f = __real_tp_look_up(mem, len, origin, root, va);
+struct tp_found __real_tp_raw_look_up(const uint8_t *mem, size_t len, uint64_t origin, uint64_t root, uint64_t va);
+struct tp_found __wrap_tp_raw_look_up(const uint8_t *mem, size_t len, uint64_t origin, uint64_t root, uint64_t va);
+struct tp_found __wrap_tp_raw_look_up(const uint8_t *mem, size_t len, uint64_t origin, uint64_t root, uint64_t va) {
+    struct tp_found f = __real_tp_raw_look_up(mem, len, origin, root, va);
     if (root != process_space.root) return f;
 #if defined WRONG_FRAME
     if (f.size == MIB2) f.frame ^= MIB2;
@@ -98,9 +98,9 @@ void __wrap_shoot_down(uint64_t va) {
 #if defined HANG
     while (1) pause();
 #elif defined UNMAP_UNTOLD
-    if (look_up(&process_space, va).kind == TP_NOTHING) return;
+    if (tp_look_up(&process_space, va).kind == TP_NOTHING) return;
 #else
-    if (look_up(&process_space, va).kind == TP_PAGE) return;
+    if (tp_look_up(&process_space, va).kind == TP_PAGE) return;
 #endif
     __real_shoot_down(va);
 }

@@ -30,7 +30,7 @@ static uint64_t frame_of(uint64_t n) { return frame_for(0, 0) + n * PAGE; }
 
 static void refused(uint64_t reason, uint64_t base, uint64_t frame, uint64_t size) {
     remember();
-    uint64_t said = map(&process_space, base, frame, size, rights).reason;
+    uint64_t said = tp_map(&process_space, base, frame, size, rights).reason;
     check(said == reason && unchanged(), "a map at %x that must be refused for reason %u: reason %u, bytes %s", base, reason, said,
           unchanged() ? "unchanged" : "changed");
 }
@@ -49,7 +49,7 @@ static uint64_t fill_pool(void) {
     uint64_t n = 0;
     for (;; n++) {
         remember();
-        uint64_t reason = map(&process_space, base_of(n), frame_of(n), PAGE, rights).reason;
+        uint64_t reason = tp_map(&process_space, base_of(n), frame_of(n), PAGE, rights).reason;
         if (reason == TP_DONE) continue;
         check(reason == TP_NO_ROOM && unchanged(), "the pool ran dry: reason %u, bytes %s", reason, unchanged() ? "unchanged" : "changed");
         return n;
@@ -58,12 +58,12 @@ static uint64_t fill_pool(void) {
 
 /* Two unmaps, reported together by the later ticket; the older one then releases nothing more. */
 static void test_two_reports(void) {
-    struct tp_unmapped first = unmap(&process_space, base_of(0)), second = unmap(&process_space, base_of(1));
-    check(map(&process_space, base_of(0), frame_of(0), PAGE, rights).reason == TP_NO_ROOM, "tables set aside are free before the report");
+    struct tp_unmapped first = tp_unmap(&process_space, base_of(0)), second = tp_unmap(&process_space, base_of(1));
+    check(tp_map(&process_space, base_of(0), frame_of(0), PAGE, rights).reason == TP_NO_ROOM, "tables set aside are free before the report");
     shoot_down(base_of(0));
     shoot_down(base_of(1));
-    check(told(&process_space, second.ticket).released == first.aside + second.aside, "the later ticket releases both");
-    check(told(&process_space, first.ticket).released == 0, "the older ticket releases nothing more");
+    check(tp_told(&process_space, second.ticket).released == first.aside + second.aside, "the later ticket releases both");
+    check(tp_told(&process_space, first.ticket).released == 0, "the older ticket releases nothing more");
     must_map(base_of(0), frame_of(0), PAGE, rights);
     must_map(base_of(1), frame_of(1), PAGE, rights);
 }

@@ -33,8 +33,8 @@ static uint64_t alone(uint64_t base) {
     return n;
 }
 
-void must_be(const struct space *s, const struct place *place) {
-    struct tp_found f = look_up(s, plain(place->va));
+void must_be(const struct tp_space *s, const struct place *place) {
+    struct tp_found f = tp_look_up(s, plain(place->va));
     uint64_t at = f.kind == TP_PAGE ? f.frame + (plain(place->va) - f.base) : ABSENT;
     check(at == place->at && f.rights == place->rights, "%s at %x: look-up says %x with rights %u, not %x with %u", place->name, place->va,
           at, f.rights, place->at, place->rights);
@@ -42,20 +42,20 @@ void must_be(const struct space *s, const struct place *place) {
 
 void must_map(uint64_t base, uint64_t frame, uint64_t size, uint64_t rights) {
     uint64_t tables = missing(base, size);
-    struct tp_mapped m = map(&process_space, base, frame, size, rights);
+    struct tp_mapped m = tp_map(&process_space, base, frame, size, rights);
     check(m.reason == TP_DONE && m.tables == tables, "map %s at %x: reason %u, %u tables made, not %u", size_name(size), base, m.reason,
           m.tables, tables);
     made += m.tables;
-    struct tp_found f = look_up(&process_space, base + size - 1);
+    struct tp_found f = tp_look_up(&process_space, base + size - 1);
     check(f.kind == TP_PAGE && f.base == base && f.size == size && f.frame == frame && f.rights == rights,
           "mapped %s at %x to %x with rights %u: look-up says kind %u, frame %x, rights %u", size_name(size), base, frame, rights, f.kind,
           f.frame, f.rights);
 }
 
 void must_protect(uint64_t base, uint64_t rights) {
-    struct tp_found before = look_up(&process_space, base);
-    struct tp_protected p = protect(&process_space, base, rights);
-    struct tp_found after = look_up(&process_space, base);
+    struct tp_found before = tp_look_up(&process_space, base);
+    struct tp_protected p = tp_protect(&process_space, base, rights);
+    struct tp_found after = tp_look_up(&process_space, base);
     check(p.reason == TP_DONE && p.frame == before.frame && p.size == before.size && after.frame == p.frame && after.rights == rights,
           "protect at %x: reason %u, frame %x, and look-up says frame %x, rights %u, not %u", base, p.reason, p.frame, after.frame,
           after.rights, rights);
@@ -63,18 +63,18 @@ void must_protect(uint64_t base, uint64_t rights) {
 
 uint64_t must_unmap(uint64_t base, uint64_t frame, uint64_t size) {
     uint64_t tables = alone(base);
-    struct tp_unmapped u = unmap(&process_space, base);
+    struct tp_unmapped u = tp_unmap(&process_space, base);
     check(u.reason == TP_DONE && u.frame == frame && u.size == size && u.aside == tables,
           "unmap %s at %x: reason %u, frame %x, not %x, %u tables set aside, not %u", size_name(size), base, u.reason, u.frame, frame,
           u.aside, tables);
-    check(look_up(&process_space, base).kind == TP_NOTHING, "unmapped %s at %x: look-up still says something", size_name(size), base);
+    check(tp_look_up(&process_space, base).kind == TP_NOTHING, "unmapped %s at %x: look-up still says something", size_name(size), base);
     aside += u.aside;
     shoot_down(base);
     return u.ticket;
 }
 
 void must_report(uint64_t ticket) {
-    struct tp_report r = told(&process_space, ticket);
+    struct tp_report r = tp_told(&process_space, ticket);
     check(r.reason == TP_DONE && r.released == aside, "told: reason %u, %u tables released, not %u", r.reason, r.released, aside);
     released += r.released;
     aside = 0;

@@ -16,7 +16,7 @@ struct place {
     const char *name;
     uint64_t va, at, rights;
 };
-void must_be(const struct space *s, const struct place *place);
+void must_be(const struct tp_space *s, const struct place *place);
 
 /* Each is checked to be done, to answer rightly, and to be what look-up then says. */
 void must_map(uint64_t base, uint64_t frame, uint64_t size, uint64_t rights);

@@ -8,8 +8,8 @@
 
 enum { CODE = 0, CONSTANTS = TP_NO_EXECUTE, VARIABLES = TP_WRITABLE | TP_NO_EXECUTE, MOST_TRIED = 48 };
 
-struct space process_space;
-static struct space own; /* its pool can be read in the boot tables only */
+struct tp_space process_space;
+static struct tp_space own; /* its pool can be read in the boot tables only */
 
 /* An access, and what look-up said of its address while the tables could still be read. */
 struct tried {
@@ -21,20 +21,20 @@ static struct tried tries[MOST_TRIED];
 static unsigned tried;
 
 /* Maps pages of 4 KiB from this virtual address on. */
-static void map_pages(const struct space *s, uint64_t from, uint64_t to, uint64_t frame, uint64_t rights) {
+static void map_pages(const struct tp_space *s, uint64_t from, uint64_t to, uint64_t frame, uint64_t rights) {
     for (uint64_t va = from; va < to; va += PAGE) {
-        uint64_t reason = map(s, plain(va), frame + (va - from), PAGE, rights).reason;
+        uint64_t reason = tp_map(s, plain(va), frame + (va - from), PAGE, rights).reason;
         if (reason != TP_DONE) give_up("mapping %x is refused for reason %u", va, reason);
     }
 }
 
 /* a stretch of the image, where it was linked */
-static void map_image(const struct space *s, const char *from, const char *to, uint64_t rights) {
+static void map_image(const struct tp_space *s, const char *from, const char *to, uint64_t rights) {
     map_pages(s, (uint64_t)from, (uint64_t)to, (uint64_t)from - KERNEL, rights);
 }
 
 /* what both processors need in ring 0 */
-static void map_kernel(const struct space *s) {
+static void map_kernel(const struct tp_space *s) {
     map_image(s, text, rodata, CODE);
     map_image(s, rodata, data, CONSTANTS);
     map_image(s, data, data_ends, VARIABLES);
@@ -49,7 +49,7 @@ static void make_own_space(void) {
     map_pages(&own, view_of_process((uint64_t)process_text), view_of_process((uint64_t)process_ends),
               frame_of_process((uint64_t)process_text), VARIABLES);
     for (unsigned n = 0; n < GIBS; n++) {
-        uint64_t reason = map(&own, plain(DIRECT + gib(n)), gib(n), GIB1, VARIABLES).reason;
+        uint64_t reason = tp_map(&own, plain(DIRECT + gib(n)), gib(n), GIB1, VARIABLES).reason;
         if (reason != TP_DONE) give_up("mapping the GiB at %x is refused for reason %u", gib(n), reason);
     }
 }
@@ -59,7 +59,7 @@ static void foretell(struct place place) {
     must_be(&own, &place);
     for (enum access kind = READ; kind < ACCESSES; kind++) {
         if (tried == MOST_TRIED) give_up("too many accesses to try");
-        tries[tried++] = (struct tried){ place, kind, look_up(&own, plain(place.va)) };
+        tries[tried++] = (struct tried){ place, kind, tp_look_up(&own, plain(place.va)) };
     }
 }
 
@@ -126,7 +126,7 @@ void test_own_marks(void) {
 }
 
 void make_process_space(void) {
-    struct space *s = &process_space;
+    struct tp_space *s = &process_space;
     *s = create((uint8_t *)process_pool, (uint64_t)process_pool - KERNEL, (uint64_t)(process_pool_ends - process_pool) / PAGE);
     map_kernel(s);
     map_image(s, second_stack, second_stack_top, VARIABLES);

@@ -6,7 +6,7 @@
 
 /* The process's tables, which the kernel edits. They map the kernel too, for traps, but not their own pool: the library maps no page
  * of the pool that it edits, and so the kernel edits them while it lives in other tables. */
-extern struct space process_space;
+extern struct tp_space process_space;
 
 /* In the boot tables: makes the kernel's own tables, asks look-up what they allow, loads CR3, and tries all that. */
 void live_in_own_tables(void);

@@ -3,13 +3,14 @@
 #include "account.h"
 #include "machine.h"
 
-struct space create(uint8_t *mem, uint64_t origin, uint64_t pages) {
-    struct tp_created c = tp_create(mem, pages * PAGE, origin, origin, pages);
-    if (c.reason != TP_DONE) give_up("create is refused for reason %u", c.reason);
-    return (struct space){ mem, origin, pages, c.root };
+struct tp_space create(uint8_t *mem, uint64_t origin, uint64_t pages) {
+    struct tp_space s = { mem, pages * PAGE, origin, origin, pages, 0 };
+    uint64_t reason = tp_create(&s);
+    if (reason != TP_DONE) give_up("create is refused: %s", tp_reason_text(reason));
+    return s;
 }
 
-struct way way_of(const struct space *s, uint64_t va) {
+struct way way_of(const struct tp_space *s, uint64_t va) {
     struct way way = { 0, { 0, 0, 0, 0 } };
     uint64_t table = s->root;
     for (unsigned shift = 39; shift >= 12; shift -= 9) {
@@ -22,7 +23,7 @@ struct way way_of(const struct space *s, uint64_t va) {
     return way;
 }
 
-uint64_t leaf_word(const struct space *s, uint64_t va) {
+uint64_t leaf_word(const struct tp_space *s, uint64_t va) {
     struct way way = way_of(s, va);
     return *way.word[way.words - 1];
 }

@@ -23,11 +23,11 @@ static void test_moved(unsigned n, uint64_t offset) {
     must_map(base, frame_for(n, 0), size, TP_WRITABLE | TP_USER);
     agree("mapped", base + offset);
     agree_on("mapped", base + offset, 3, READ);
-    struct tp_unmapped u = unmap(&process_space, base);
+    struct tp_unmapped u = tp_unmap(&process_space, base);
     ask_before_told(READ, base + offset);
     shoot_down(base);
     agree("unmapped and told", base + offset);
-    check(told(&process_space, u.ticket).released == u.aside, "told: not what was set aside is released");
+    check(tp_told(&process_space, u.ticket).released == u.aside, "told: not what was set aside is released");
     must_map(base, frame_for(n, 1), size, TP_WRITABLE | TP_USER);
     agree("mapped to another frame", base + offset);
     must_unmap_and_report(base, frame_for(n, 1), size);

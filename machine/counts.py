@@ -43,7 +43,7 @@ class Baseline(Counted):
         self.name = name
 
     def call(self, function, *numbers):
-        operation = function[3:]
+        operation = function.removeprefix('tp_raw_')
         mangled = re.compile(f'{len(self.name)}{self.name}{len(operation)}{operation}(17h[0-9a-f]+E)?$')
         entry = next(at for name, at in self.symbols.items() if mangled.search(name))
         top = STACK + STACK_SIZE - 0x200
@@ -67,7 +67,7 @@ class Scene:
         self.codes = codes
         for code in codes:
             code.lend(bytes(PAGES * 4096))
-            code.call('tp_create', *SPACE[:3])
+            code.call('tp_raw_create', *SPACE[:3])
         for base, size in mapped:
             self.map(base, size)
 
@@ -85,19 +85,19 @@ class Scene:
         return (*counts, self.codes[0].clearing)
 
     def look_up(self, va, kind=1):
-        return self.each(kind, 'tp_look_up', ORIGIN, SPACE[3], va)
+        return self.each(kind, 'tp_raw_look_up', ORIGIN, SPACE[3], va)
 
     def map(self, base, size, reason=0):
-        return self.each(reason, 'tp_map', *SPACE, base, FRAME, size, 3)
+        return self.each(reason, 'tp_raw_map', *SPACE, base, FRAME, size, 3)
 
     def unmap(self, base, reason=0):
-        return self.each(reason, 'tp_unmap', *SPACE, base)
+        return self.each(reason, 'tp_raw_unmap', *SPACE, base)
 
     def protect(self, base):
-        return self.each(0, 'tp_protect', *SPACE, base, 5)
+        return self.each(0, 'tp_raw_protect', *SPACE, base, 5)
 
     def told(self, ticket):
-        return self.each(0, 'tp_told', *SPACE, ticket)
+        return self.each(0, 'tp_raw_told', *SPACE, ticket)
 
 
 def in_full_tables(codes):

@@ -1,8 +1,9 @@
 /* The library, doctored: the real operation works on a copy, and what it changed is stored into the window in a way that it may not be.
  * SPLIT: each word by two stores. BACKWARDS: the last word first. HALVES: each word is loaded by two loads. TWICE: and loaded again. VECTOR,
- * RED_ZONE: what a kernel's code must not use. The test must find each. */
+ * RED_ZONE: what a kernel's code must not use. LOOKS_TWICE: look-up reads the way twice. The test must find each. */
 #include "tablepath.h"
 
+#ifndef LOOKS_TWICE
 static uint8_t copy[64 * 4096], was[64 * 4096];
 
 #ifdef VECTOR
@@ -58,12 +59,19 @@ static void give(uint8_t *mem, size_t len) {
     }
 }
 
-struct tp_mapped odd_tp_map(uint8_t *mem, size_t len, uint64_t origin, uint64_t pool, uint64_t pages, uint64_t root, uint64_t base,
+struct tp_mapped odd_tp_raw_map(uint8_t *mem, size_t len, uint64_t origin, uint64_t pool, uint64_t pages, uint64_t root, uint64_t base,
                             uint64_t frame, uint64_t size, uint64_t rights);
-struct tp_mapped odd_tp_map(uint8_t *mem, size_t len, uint64_t origin, uint64_t pool, uint64_t pages, uint64_t root, uint64_t base,
+struct tp_mapped odd_tp_raw_map(uint8_t *mem, size_t len, uint64_t origin, uint64_t pool, uint64_t pages, uint64_t root, uint64_t base,
                             uint64_t frame, uint64_t size, uint64_t rights) {
     take(mem, len);
-    struct tp_mapped answer = tp_map(copy, len, origin, pool, pages, root, base, frame, size, rights);
+    struct tp_mapped answer = tp_raw_map(copy, len, origin, pool, pages, root, base, frame, size, rights);
     give(mem, len);
     return answer;
 }
+#else
+struct tp_found odd_tp_raw_look_up(const uint8_t *mem, size_t len, uint64_t origin, uint64_t root, uint64_t va);
+struct tp_found odd_tp_raw_look_up(const uint8_t *mem, size_t len, uint64_t origin, uint64_t root, uint64_t va) {
+    struct tp_found first = tp_raw_look_up(mem, len, origin, root, va);
+    return first.kind == TP_PAGE ? tp_raw_look_up(mem, len, origin, root, va) : first;
+}
+#endif

@@ -9,7 +9,8 @@ STACK, STACK_SIZE = 0x7000_0000, 0x10000
 WINDOW = 0x5000_0000
 END = 0x6000_0000  # where a function returns to; nothing is there
 # how many words each function answers: more than two are put where the first argument says
-WORDS = {'tp_create': 2, 'tp_map': 2, 'tp_unmap': 5, 'tp_protect': 3, 'tp_told': 2, 'tp_look_up': 5}
+WORDS = {'tp_raw_create': 2, 'tp_raw_map': 2, 'tp_raw_unmap': 5, 'tp_raw_protect': 4, 'tp_raw_told': 2, 'tp_raw_state': 6, 'tp_raw_look_up': 5,
+         'tp_raw_entry': 4}
 
 
 class Wrong(Exception):

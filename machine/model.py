@@ -69,6 +69,13 @@ class Tables:
                         ahead.append(((word & FRAME) >> 12, level - 1))
         return found
 
+    def ticket(self):
+        return self.header(4) + self.header(5)
+
+    def state(self):
+        """Pages, free, set aside, tables but for the root, ticket."""
+        return self.pages, self.header(3), self.header(4), len(self.linked()) - 1, self.ticket()
+
     def slot(self, k):
         head = self.header(HEAD_AT)
         return HEADER + (head + k if k < self.pages - head else k - (self.pages - head))
@@ -79,7 +86,7 @@ class Tables:
     # What each stores, as (word's number in the window, word); None where it should refuse.
 
     def map(self, base, frame, size, rights):
-        if size not in SIZES or base % size or frame % size or base + size > 1 << 48 or frame + size > 1 << 52:
+        if rights > 7 or size not in SIZES or base % size or frame % size or base + size > 1 << 48 or frame + size > 1 << 52:
             return None
         pool = self.start << 12
         if pool < frame + size and frame < pool + (self.pages << 12):
@@ -127,7 +134,7 @@ class Tables:
 
     def protect(self, base, rights):
         found = self.starts(base)
-        if not found:
+        if rights > 7 or not found:
             return None
         level, way = found
         index = base >> 12 + 9 * level & 511

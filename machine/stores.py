@@ -3,7 +3,8 @@
 one aligned store of 8 bytes for each planned write, in the planned order; after every single store the tables mean to each sampled
 address what they meant before the operation or what they mean after it, and it turns at one store only; no store into a page that
 is set aside; none outside the pool. No load is beyond the window, and an entry of a linked table is loaded once in an operation, by one
-load; but a map that could not be done at once begins anew at the root, before any store. The last line counts the operations."""
+load; but a map that could not be done at once begins anew at the root, before any store. Look-up loads each entry of the way once, whole, from
+the root down, and nothing else; entry loads one; and neither they nor state store anything. The last line counts the operations."""
 import os
 import random
 import sys
@@ -18,7 +19,7 @@ SLACK = 2  # pages of the window that are not of the pool
 
 
 def plain(tables, operation, arguments):
-    return {'tp_map': tables.map, 'tp_unmap': tables.unmap, 'tp_protect': tables.protect, 'tp_told': tables.told}[operation](*arguments)
+    return {'tp_raw_map': tables.map, 'tp_raw_unmap': tables.unmap, 'tp_raw_protect': tables.protect, 'tp_raw_told': tables.told}[operation](*arguments)
 
 
 class Night:
@@ -30,7 +31,7 @@ class Night:
         window = bytearray((self.pages + SLACK) * 4096)
         window[self.pages * 4096:] = bytes([0xa5]) * (SLACK * 4096)
         code.lend(window)
-        answer = code.call('tp_create', ORIGIN, ORIGIN, self.pages)
+        answer = code.call('tp_raw_create', ORIGIN, ORIGIN, self.pages)
         self.tables = Tables(code.window(), ORIGIN, self.pages)
         if answer != (0, self.tables.root << 12):
             raise Wrong(f'create answered {answer}')
@@ -44,15 +45,15 @@ class Night:
 
     def choose(self):
         dice = self.dice
-        kind = dice.choice(('tp_map', 'tp_map', 'tp_map', 'tp_unmap', 'tp_unmap', 'tp_protect', 'tp_told'))
-        if kind == 'tp_map':
+        kind = dice.choice(('tp_raw_map', 'tp_raw_map', 'tp_raw_map', 'tp_raw_unmap', 'tp_raw_unmap', 'tp_raw_protect', 'tp_raw_told'))
+        if kind == 'tp_raw_map':
             size = dice.choice(SIZES)
             frame = dice.choice((0x8000_0000, 0xc000_0000, (1 << 52) - (1 << 30), ORIGIN))
-            return kind, (self.base(size), frame, size, dice.randrange(8))
-        if kind == 'tp_told':
+            return kind, (self.base(size), frame, size, dice.randrange(9))
+        if kind == 'tp_raw_told':
             return kind, (dice.randrange(self.tickets + len(self.aside) + 2),)
         base = dice.choice(self.mapped) if self.mapped and dice.random() < 0.9 else self.base(4096)
-        return (kind, (base,)) if kind == 'tp_unmap' else (kind, (base, dice.randrange(8)))
+        return (kind, (base,)) if kind == 'tp_raw_unmap' else (kind, (base, dice.randrange(9)))
 
     def mark(self):
         """The machine sets accessed and dirty by itself, now and then."""
@@ -65,9 +66,9 @@ class Night:
 
     def sampled(self, operation, arguments):
         samples = {self.base(4096) + self.dice.randrange(4096) for _ in range(3)}
-        if operation != 'tp_told':
+        if operation != 'tp_raw_told':
             base = arguments[0]
-            size = arguments[2] if operation == 'tp_map' else 4096
+            size = arguments[2] if operation == 'tp_raw_map' else 4096
             samples |= {base, base - 1, base + size - 1, base + size}
         return sorted(va for va in samples if 0 <= va < 1 << 48)
 
@@ -82,19 +83,42 @@ class Night:
             then.words[at] = word
         samples = self.sampled(operation, arguments)
         old, new = [tables.walk(va) for va in samples], [then.walk(va) for va in samples]
-        reason = self.code.call(operation, *self.pool, *arguments)[0]
-        if (reason == 0) != (planned is not None):
-            raise Wrong(f'{what} answered {reason}')
+        answer = self.code.call(operation, *self.pool, *arguments)
+        if (answer[0] == 0) != (planned is not None):
+            raise Wrong(f'{what} answered {answer}')
         self.held(what, before, planned or [], samples, old, new)
         if bytes(self.code.window()) != bytes(tables.words.cast('B')):
             raise Wrong(f'{what} left bytes that no recorded store put there')
         self.keep(operation, arguments, planned, before)
+        if planned is not None and operation in ('tp_raw_unmap', 'tp_raw_protect') and answer[-1] != tables.ticket():
+            raise Wrong(f'{what} answered the ticket {answer[-1]}, not {tables.ticket()}')
+        for va in samples:
+            self.look_up(va)
+        if self.code.call('tp_raw_state', *self.pool) != (0, *tables.state()) or self.code.stores:
+            raise Wrong('state does not say what is there, or stores something')
+
+    def look_up(self, va):
+        """One load for each entry of the way, in its order, as a processor makes them; and the same of the last entry alone."""
+        tables, code, what = self.tables, self.code, f'look-up of {va:#x}'
+        way, word = tables.path(va, 0)
+        entries = [(8 * tables.at(page, va >> 12 + 9 * (3 - n) & 511), 8) for n, page in enumerate(way)]
+        found = tables.walk(va)
+        should = (0, 0, 0, 0, 0) if found is None else (1, *found[:3], found[3][0] | found[3][1] << 1 | found[3][2] << 2)
+        for name, numbers, loads in (('tp_raw_look_up', (self.pool[3], va), entries),
+                                     ('tp_raw_entry', (way[-1] << 12, 4 - len(way), va >> 12 + 9 * (4 - len(way)) & 511), entries[-1:])):
+            answer = code.call(name, ORIGIN, *numbers)
+            if name == 'tp_raw_look_up' and answer != should or name == 'tp_raw_entry' and answer[0] != word & 1:
+                raise Wrong(f'{what}: {name} answered {answer}')
+            if [(at, size) for at, size, _ in code.loads] != loads:
+                raise Wrong(f'{what}: {name} loads {code.loads}, not {loads}')
+            if code.stores:
+                raise Wrong(f'{what}: {name} stores something')
 
     def held(self, what, before, planned, samples, old, new):
         """Every load and store of one operation."""
         tables, code = self.tables, self.code
         frozen = set(self.aside)
-        entries, anew = [], not what.startswith('tp_map')
+        entries, anew = [], not what.startswith('tp_raw_map')
         for at, size, stored in code.loads:
             if at < 0 or at + size > code.size:
                 raise Wrong(f'{what} loads {size} bytes at {at:#x}, beyond the window')
@@ -130,13 +154,13 @@ class Night:
     def keep(self, operation, arguments, planned, before):
         if planned is None:
             return
-        if operation == 'tp_map':
+        if operation == 'tp_raw_map':
             self.mapped.append(arguments[0])
-        if operation == 'tp_unmap':
+        if operation == 'tp_raw_unmap':
             self.mapped.remove(arguments[0])
             after = self.tables.linked()
             self.aside += sorted(before.keys() - after.keys(), key=before.get)
-        if operation == 'tp_told':
+        if operation == 'tp_raw_told':
             due = max(0, arguments[0] - self.tickets)
             self.aside, self.tickets = self.aside[due:], self.tickets + due
 

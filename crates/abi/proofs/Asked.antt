@@ -13,8 +13,8 @@ use Rattle.plan.specs.declared.maps.Shape.the-variants.{Level, Bad}
 use Rattle.tablepath.specs.Answers as the
 use Rattle.abi.specs.Answers.{mapped}
 use Rattle.abi.specs.Calls.{siteOf, shapedSite, askedSite, misplacedBy, misplacedOf, bytesAfter, InOrder, mapAnswer, mapWrites, mapBytes}
-use Rattle.abi.specs.declared.Sited.{Sited}
-use Rattle.abi.specs.declared.Sited.the-variants.{At, Refused}
+use Rattle.abi.specs.declared.sites.Sited.{Sited}
+use Rattle.abi.specs.declared.sites.Sited.the-variants.{At, Refused}
 
 module _ (q : Asked) (origin pool pages root : ℕ) where
   pub refused-asked : (y : ℕ) → siteOf origin pool pages root ≡ Refused y → askedSite origin pool pages root q ≡ Refused (misplacedOf q y)

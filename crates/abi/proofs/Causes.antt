@@ -1,8 +1,8 @@
 -- EACH REASON EXACTLY WHEN ITS CAUSE HOLDS, by its number, in a space that is whole; and numbers that name no space, for any bytes.
-use Prim.Native.Nat.{ℕ, _≤_}
+use Prim.Native.Nat.{ℕ, _<_, _≤_}
 use mathlib.Core.List.{List}
-use mathlib.Core.Logic.{_↔_}
-use mathlib.Core.Path.{_≡_, refl, sym, ap}
+use mathlib.Core.Logic.{_↔_, _⊎_, inl, inr, _≢_}
+use mathlib.Core.Path.{_≡_, refl, sym, ap, _∙_}
 use native.Mathlib.Omega.{arith}
 use lib.ListN.{length}
 use borrow.Author.Tests.{eq-eqb, ne-eqb}
@@ -12,8 +12,10 @@ use Rattle.pool.specs.Booked.{settingOf}
 use Rattle.pool.specs.declared.Due.{Due}
 use Rattle.pool.specs.declared.Due.the-variants as due
 use Rattle.pool.specs.declared.Space.{Space}
+use Rattle.pool.specs.declared.Book.{Book}
 use Rattle.plan.specs.Map as map
 use Rattle.plan.specs.Map.{Placed, shapeOf}
+use Rattle.plan.specs.Protect as protect
 use Rattle.plan.specs.declared.Reason.{Reason}
 use Rattle.plan.specs.declared.Reason.the-variants.{Size, BaseUnaligned, FrameUnaligned, BaseRange, FrameRange, Pool, FrameInPool, Overlap, NoRoom, NothingStarts, Stray, BadList}
 use Rattle.plan.specs.declared.protects.Change.{Change}
@@ -30,13 +32,14 @@ use Rattle.effect.proofs.Exactly.{unmap-exactly, protect-exactly, told-exactly}
 use Rattle.effect.proofs.Wholes.{book-opens}
 use Rattle.tablepath.specs.Answers as the
 use Rattle.abi.specs.Answers.{reasonOf, rightsIn, mapped, unmapped, protected, told}
-use Rattle.abi.specs.Calls.{siteOf, askedSite, shapedSite, ask, createAnswer, mapAnswer, unmapAnswer, protectAnswer, toldAnswer}
+use Rattle.abi.specs.Calls.{siteOf, askedSite, shapedSite, mapSite, protectSite, ask, createAnswer, mapAnswer, unmapAnswer, protectAnswer, toldAnswer}
 use Rattle.abi.specs.Relied as c
-use Rattle.abi.specs.Relied.{Numbers, spaceOf, asked, granted, WholeAt, Call, reason, tpCreate, tpMap, tpUnmap, tpProtect, tpTold}
-use Rattle.abi.specs.Reasons.{MapReasons, StartReasons, ToldReasons, Shaped, SiteReasons, CreateReasons}
-use Rattle.abi.specs.declared.Sited.the-variants.{Refused}
+use Rattle.abi.specs.Relied.{Numbers, spaceOf, asked, granted, WholeAt, Call, Meant, reason, tpCreate, tpMap, tpUnmap, tpProtect, tpTold}
+use Rattle.abi.specs.Reasons.{MapReasons, StartReasons, ProtectReasons, ToldReasons, Shaped, SiteReasons, CreateReasons}
+use Rattle.abi.specs.declared.sites.Sited.the-variants.{Refused}
 use Rattle.abi.proofs.Named.{map-answers, unmap-answers, protect-answers, told-answers}
-use Rattle.abi.proofs.Reasons.{one-reason, never-done}
+use Rattle.abi.proofs.Meant.{below-8, meant, rights-causes, map-given, protect-given}
+use Rattle.abi.proofs.Reasons.{one-reason, never-done, never-rights}
 
 -- Answers by decisions -----------------------------------------------------------------------------------------------------------------
 
@@ -45,15 +48,15 @@ unfolding mapped the.mapSaid
 map-number (map.Go p) y = (λ e. absurd (never-done y (sym e)), λ e. let z : _≡_ {A = ℕ} 0 1 = cc in absurd (omega arith))
 map-number (map.Refused x) y = (λ e. ap map.Refused (one-reason x y e), λ e. let same : x ≡ y = cc in ap reasonOf same)
 
-unmap-number : (sp : Space) (d : Removing) (y : Reason) → (unmapped (the.unmapSaid sp d) .reason ≡ reasonOf y) ↔ (d ≡ removing.Refused y)
+unmap-number : (b : Book) (d : Removing) (y : Reason) → (unmapped (the.unmapSaid b d) .reason ≡ reasonOf y) ↔ (d ≡ removing.Refused y)
 unfolding unmapped the.unmapSaid
-unmap-number sp (removing.Go p) y = (λ e. absurd (never-done y (sym e)), λ e. let z : _≡_ {A = ℕ} 0 1 = cc in absurd (omega arith))
-unmap-number sp (removing.Refused x) y = (λ e. ap removing.Refused (one-reason x y e), λ e. let same : x ≡ y = cc in ap reasonOf same)
+unmap-number b (removing.Go p) y = (λ e. absurd (never-done y (sym e)), λ e. let z : _≡_ {A = ℕ} 0 1 = cc in absurd (omega arith))
+unmap-number b (removing.Refused x) y = (λ e. ap removing.Refused (one-reason x y e), λ e. let same : x ≡ y = cc in ap reasonOf same)
 
-unmap-zero : (sp : Space) (d : Removing) → (unmapped (the.unmapSaid sp d) .reason ≡ 0) ↔ ((r : Removal) × (d ≡ removing.Go r))
+unmap-zero : (b : Book) (d : Removing) → (unmapped (the.unmapSaid b d) .reason ≡ 0) ↔ ((r : Removal) × (d ≡ removing.Go r))
 unfolding unmapped the.unmapSaid
-unmap-zero sp (removing.Go p) = (λ e. (p, refl), λ k. refl)
-unmap-zero sp (removing.Refused x) = (λ e. absurd (never-done x e), λ k. let z : _≡_ {A = ℕ} 0 1 = cc (k .1) in absurd (omega arith))
+unmap-zero b (removing.Go p) = (λ e. (p, refl), λ k. refl)
+unmap-zero b (removing.Refused x) = (λ e. absurd (never-done x e), λ k. let z : _≡_ {A = ℕ} 0 1 = cc (k .1) in absurd (omega arith))
 
 protect-number : (d : Changing) (y : Reason) → (protected (the.protectSaid d) .reason ≡ reasonOf y) ↔ (d ≡ changing.Refused y)
 unfolding protected the.protectSaid
@@ -89,33 +92,42 @@ given-small BadList g = absurd g
 module _ (s : List ℕ) (n : Numbers) (w : WholeAt s n) where
   -- MAP
   module _ (base frame size rights : ℕ) where
-    map-by : (y : Reason) → (tpMap s n base frame size rights .reason ≡ reasonOf y)
+    map-by : rights < 8 → (y : Reason) → (tpMap s n base frame size rights .reason ≡ reasonOf y)
         ↔ Cause (holds s (n .origin)) (spaceOf n) (memory s (n .origin)) (asked base frame size rights) y
     unfolding the.mapAnswer
-    map-by y = rw (map-answers n (w .aligned) s base frame size rights) (along (map-number _ y) (map-refused (w .whole) (asked base frame size rights) y))
+    map-by l y = rw (map-answers n (w .aligned) s base frame size rights l) (along (map-number _ y) (map-refused (w .whole) (asked base frame size rights) y))
 
-    few : tpMap s n base frame size rights .reason ≤ 8
+    map-for : (y : Reason) → (tpMap s n base frame size rights .reason ≡ reasonOf y)
+        ↔ ((rights < 8) × Cause (holds s (n .origin)) (spaceOf n) (memory s (n .origin)) (asked base frame size rights) y)
+    map-for y = (λ e. let l = map-given s n base frame size rights (reasonOf y) e (never-rights y) in (l, map-by l y .0 e), λ k. map-by (k .0) y .1 (k .1))
+
+    few : rights < 8 → tpMap s n base frame size rights .reason ≤ 8
     unfolding the.mapAnswer mapped the.mapSaid
-    few = rw (map-answers n (w .aligned) s base frame size rights) (go (map.decideOf (holds s (n .origin)) (memory s (n .origin)) (spaceOf n) (asked base frame size rights)) refl)
+    few l = rw (map-answers n (w .aligned) s base frame size rights l) (go (map.decideOf (holds s (n .origin)) (memory s (n .origin)) (spaceOf n) (asked base frame size rights)) refl)
       where
         go : (d : Placed) → map.decideOf (holds s (n .origin)) (memory s (n .origin)) (spaceOf n) (asked base frame size rights) ≡ d → mapped (the.mapSaid d) .reason ≤ 8
         go (map.Go p) e = omega arith
         go (map.Refused y) e = given-small y (map-reasons (w .whole) (asked base frame size rights) y e)
 
-    pub map-causes : MapReasons (tpMap s n base frame size rights .reason)
+    pub map-causes : MapReasons (tpMap s n base frame size rights .reason) rights
         (Cause (holds s (n .origin)) (spaceOf n) (memory s (n .origin)) (asked base frame size rights))
-    unfolding reasonOf
+    unfolding reasonOf reason
     map-causes = record {
-      size = map-by Size;
-      base-unaligned = map-by BaseUnaligned;
-      frame-unaligned = map-by FrameUnaligned;
-      base-range = map-by BaseRange;
-      frame-range = map-by FrameRange;
-      frame-in-pool = map-by FrameInPool;
-      overlap = map-by Overlap;
-      no-room = map-by NoRoom;
+      rights-mean = (λ e. go e (below-8 rights), λ l. rights-causes s n (c.map base frame size rights) (omega (arith, l)));
+      size = map-for Size;
+      base-unaligned = map-for BaseUnaligned;
+      frame-unaligned = map-for FrameUnaligned;
+      base-range = map-for BaseRange;
+      frame-range = map-for FrameRange;
+      frame-in-pool = map-for FrameInPool;
+      overlap = map-for Overlap;
+      no-room = map-for NoRoom;
       no-other = few;
     }
+      where
+        go : tpMap s n base frame size rights .reason ≡ 25 → (rights < 8) ⊎ (8 ≤ rights) → 8 ≤ rights
+        go e (inl l) = absurd (omega (arith, e, few l))
+        go e (inr l) = l
 
   -- UNMAP
   pub unmap-causes : (base : ℕ) → StartReasons (tpUnmap s n base .reason) (StartsAt (settingOf (holds s (n .origin)) (spaceOf n)) (memory s (n .origin)) base)
@@ -123,20 +135,40 @@ module _ (s : List ℕ) (n : Numbers) (w : WholeAt s n) where
   unmap-causes base =
       let k = unmap-exactly (w .whole) base in
       rw (unmap-answers n (w .aligned) s base) (record {
-        done = along (unmap-zero (spaceOf n) _) (k .succeeds);
-        nothing-starts = along (unmap-number (spaceOf n) _ NothingStarts) (k .refused);
+        done = along (unmap-zero (bookOf (memory s (n .origin)) (spaceOf n)) _) (k .succeeds);
+        nothing-starts = along (unmap-number (bookOf (memory s (n .origin)) (spaceOf n)) _ NothingStarts) (k .refused);
       })
 
   -- PROTECT
-  pub protect-causes : (base rights : ℕ)
-      → StartReasons (tpProtect s n base rights .reason) (StartsAt (settingOf (holds s (n .origin)) (spaceOf n)) (memory s (n .origin)) base)
-  unfolding the.protectAnswer reasonOf
-  protect-causes base rights =
-      let k = protect-exactly (w .whole) base (granted rights) in
-      rw (protect-answers n (w .aligned) s base rights) (record {
-        done = along (protect-zero _) (k .succeeds);
-        nothing-starts = along (protect-number _ NothingStarts) (k .refused);
-      })
+  module _ (base rights : ℕ) where
+    starts-by : rights < 8 → StartReasons (tpProtect s n base rights .reason) (StartsAt (settingOf (holds s (n .origin)) (spaceOf n)) (memory s (n .origin)) base)
+    unfolding the.protectAnswer reasonOf
+    starts-by l =
+        let k = protect-exactly (w .whole) base (granted rights) in
+        rw (protect-answers n (w .aligned) s base rights l) (record {
+          done = along (protect-zero _) (k .succeeds);
+          nothing-starts = along (protect-number _ NothingStarts) (k .refused);
+        })
+
+    not-rights : rights < 8 → tpProtect s n base rights .reason ≢ 25
+    unfolding the.protectAnswer protected the.protectSaid
+    not-rights l = rw (protect-answers n (w .aligned) s base rights l) (go (protect.decideOf (holds s (n .origin)) (memory s (n .origin)) (spaceOf n) base (granted rights)))
+      where
+        go : (d : Changing) → protected (the.protectSaid d) .reason ≢ 25
+        go (changing.Go p) e = omega (arith, e)
+        go (changing.Refused y) e = never-rights y e
+
+    pub protect-causes : ProtectReasons (tpProtect s n base rights .reason) rights (StartsAt (settingOf (holds s (n .origin)) (spaceOf n)) (memory s (n .origin)) base)
+    unfolding reason
+    protect-causes = record {
+      rights-mean = (λ e. go e (below-8 rights), λ l. rights-causes s n (c.protect base rights) (omega (arith, l)));
+      done = (λ e. let l = protect-given s n base rights 0 e (omega arith) in (l, starts-by l .done .0 e), λ k. starts-by (k .0) .done .1 (k .1));
+      nothing-starts = (λ e. let l = protect-given s n base rights 9 e (omega arith) in (l, starts-by l .nothing-starts .0 e), λ k. starts-by (k .0) .nothing-starts .1 (k .1));
+    }
+      where
+        go : tpProtect s n base rights .reason ≡ 25 → (rights < 8) ⊎ (8 ≤ rights) → 8 ≤ rights
+        go e (inl l) = absurd (not-rights l e)
+        go e (inr l) = l
 
   -- TOLD
   pub told-causes : (ticket : ℕ) → ToldReasons (tpTold s n ticket .reason) (bookOf (memory s (n .origin)) (spaceOf n)) ticket
@@ -171,28 +203,28 @@ module _ (s : List ℕ) (n : Numbers) (w : WholeAt s n) where
 
 module _ (s : List ℕ) (n : Numbers) where
   -- what every call says of it
-  refused-says : (x : Call) → Shaped x → (k : ℕ) → siteOf (n .origin) (n .pool) (n .pages) (n .root) ≡ Refused k → reason s n x ≡ k
+  refused-says : (x : Call) → Meant x → Shaped x → (k : ℕ) → siteOf (n .origin) (n .pool) (n .pages) (n .root) ≡ Refused k → reason s n x ≡ k
   unfolding reason askedSite shapedSite mapAnswer unmapAnswer protectAnswer toldAnswer
-  refused-says (c.map base frame size rights) l k e =
-      let site : askedSite (n .origin) (n .pool) (n .pages) (n .root) (ask base frame size rights) ≡ Refused k = rw (l .1) e in
+  refused-says (c.map base frame size rights) m l k e =
+      let site : mapSite (n .origin) (n .pool) (n .pages) (n .root) base frame size rights ≡ Refused k = meant rights _ m ∙ rw (l .1) e in
       ap (λ x. mapAnswer s (ask base frame size rights) x .reason) site
-  refused-says (c.unmap base) l k e = ap (λ x. unmapAnswer s base x .reason) e
-  refused-says (c.protect base rights) l k e = ap (λ x. protectAnswer s base (rightsIn rights) x .reason) e
-  refused-says (c.told ticket) l k e = ap (λ x. toldAnswer s ticket x .reason) e
+  refused-says (c.unmap base) m l k e = ap (λ x. unmapAnswer s base x .reason) e
+  refused-says (c.protect base rights) m l k e = ap (λ x. protectAnswer s base (rightsIn rights) x .reason) (meant rights _ m ∙ e)
+  refused-says (c.told ticket) m l k e = ap (λ x. toldAnswer s ticket x .reason) e
 
   -- what map is asked comes before
-  pub shape-causes : (base frame size rights : ℕ) (y : Reason) → shapeOf size base frame ≡ Bad y → tpMap s n base frame size rights .reason ≡ reasonOf y
+  pub shape-causes : (base frame size rights : ℕ) → rights < 8 → (y : Reason) → shapeOf size base frame ≡ Bad y → tpMap s n base frame size rights .reason ≡ reasonOf y
   unfolding askedSite shapedSite mapAnswer
-  shape-causes base frame size rights y e =
-      let site : askedSite (n .origin) (n .pool) (n .pages) (n .root) (ask base frame size rights) ≡ Refused (reasonOf y) = rw e in
+  shape-causes base frame size rights m y e =
+      let site : mapSite (n .origin) (n .pool) (n .pages) (n .root) base frame size rights ≡ Refused (reasonOf y) = meant rights _ m ∙ rw e in
       ap (λ x. mapAnswer s (ask base frame size rights) x .reason) site
 
   -- then the space
-  pub site-causes : (x : Call) → Shaped x → SiteReasons (reason s n x) n
+  pub site-causes : (x : Call) → Meant x → Shaped x → SiteReasons (reason s n x) n
   unfolding siteOf
-  site-causes x l = record {
-    pool-unaligned = λ p. refused-says x l 14 (rw (ne-eqb _ _ p));
-    root-unaligned = λ p r. refused-says x l 15 (rw (eq-eqb _ _ p, ne-eqb _ _ r));
+  site-causes x m l = record {
+    pool-unaligned = λ p. refused-says x m l 14 (rw (ne-eqb _ _ p));
+    root-unaligned = λ p r. refused-says x m l 15 (rw (eq-eqb _ _ p, ne-eqb _ _ r));
   }
 
 pub create-causes : (s : List ℕ) (origin pool pages : ℕ) → CreateReasons (tpCreate s origin pool pages .reason) (length s) origin pool

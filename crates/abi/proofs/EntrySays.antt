@@ -1,4 +1,4 @@
--- What tp_entry answers, by the cases of the word: it rests on the definition of what a word says.
+-- What tp_raw_entry answers, by the cases of the word: it rests on the definition of what a word says.
 use Prim.Native.Nat.{ℕ, _+_, _*_, _/_, _%_, _^_, _<_, _≤_}
 use mathlib.Core.Bool.{Bool, true, false, cond, _&&_}
 use mathlib.Core.List.{List}
@@ -72,7 +72,7 @@ module _ (s : List ℕ) (origin table level index : ℕ) where
   unfolding bit
   present w e = eq-eqb (w / 2 ^ 0 % 2) 1 (omega arith)
 
-  -- WHAT tp_entry ANSWERS
+  -- WHAT tp_raw_entry ANSWERS
   pub entry-says : EntrySays s origin table level index
   unfolding saidOf silentOf bareOf
   entry-says = record {

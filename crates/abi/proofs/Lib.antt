@@ -2,6 +2,7 @@ pub mod Rooted
 pub mod Walked
 pub mod Asked
 pub mod Shortcut
+pub mod Meant
 pub mod Named
 pub mod Reasons
 pub mod Says
@@ -9,5 +10,6 @@ pub mod RoundTrips
 pub mod Created
 pub mod Refusals
 pub mod Causes
+pub mod Counted
 pub mod Witness
 pub mod EntrySays

@@ -1,5 +1,5 @@
--- A CALL OF ALIGNED NUMBERS IS THE OPERATION, in the space of these numbers, for any bytes: so tablepath's laws hold of what C gets.
-use Prim.Native.Nat.{ℕ, _/_, _%_}
+-- A CALL OF ALIGNED NUMBERS, with rights that mean something, IS THE OPERATION, in the space of these numbers, for any bytes: so tablepath's laws hold of what C gets.
+use Prim.Native.Nat.{ℕ, _/_, _%_, _<_}
 use mathlib.Core.Bool.{Bool, true, false}
 use mathlib.Core.List.{List}
 use mathlib.Core.Path.{_≡_, refl, _∙_}
@@ -10,14 +10,16 @@ use Rattle.word.specs.Memory.{memory, holds}
 use Rattle.word.specs.Writes.{carried}
 use Rattle.entry.specs.Entry.{bit}
 use Rattle.entry.specs.Words.{flag}
+use Rattle.pool.specs.State.{stateOf}
 use Rattle.tablepath.specs.Calls.{callWrites}
 use Rattle.tablepath.specs.Answers as the
-use Rattle.abi.specs.Answers.{rightsIn, rightsWord, mapped, unmapped, protected, told}
-use Rattle.abi.specs.Calls.{siteOf, ask, bytesAfter, unmapAnswer, protectAnswer, toldAnswer}
+use Rattle.abi.specs.Answers.{rightsIn, rightsWord, mapped, unmapped, protected, told, counted}
+use Rattle.abi.specs.Calls.{siteOf, askedSite, ask, bytesAfter, unmapAnswer, protectAnswer, toldAnswer, stateAnswer}
 use Rattle.abi.specs.Relied as c
-use Rattle.abi.specs.Relied.{Numbers, Aligned, spaceOf, Call, callOf, granted, asked, leaves, tpMap, tpUnmap, tpProtect, tpTold}
-use Rattle.abi.specs.declared.Sited.the-variants.{At}
+use Rattle.abi.specs.Relied.{Numbers, Aligned, spaceOf, Call, Meant, callOf, granted, asked, leaves, tpMap, tpUnmap, tpProtect, tpTold, tpState}
+use Rattle.abi.specs.declared.sites.Sited.the-variants.{At}
 use Rattle.abi.proofs.Asked.{answer-asked, bytes-asked}
+use Rattle.abi.proofs.Meant.{meant}
 
 -- Rights -----------------------------------------------------------------------------------------------------------------------------
 
@@ -51,29 +53,35 @@ module _ (n : Numbers) (a : Aligned n) where
 
   module _ (s : List ℕ) where
     -- the bytes
-    pub call-leaves : (x : Call) → leaves s n x ≡ carried s (n .origin) (callWrites (holds s (n .origin)) (memory s (n .origin)) (spaceOf n) (callOf x))
+    pub call-leaves : (x : Call) → Meant x → leaves s n x ≡ carried s (n .origin) (callWrites (holds s (n .origin)) (memory s (n .origin)) (spaceOf n) (callOf x))
     unfolding leaves callOf callWrites bytesAfter
-    call-leaves (c.map base frame size rights) =
-        bytes-asked (ask base frame size rights) (n .origin) (n .pool) (n .pages) (n .root) s (spaceOf n) named ∙ rw (rights-granted rights)
-    call-leaves (c.unmap base) = rw named
-    call-leaves (c.protect base rights) = rw (named, rights-granted rights)
-    call-leaves (c.told ticket) = rw named
+    call-leaves (c.map base frame size rights) l =
+        rw (meant rights (askedSite (n .origin) (n .pool) (n .pages) (n .root) (ask base frame size rights)) l)
+        (bytes-asked (ask base frame size rights) (n .origin) (n .pool) (n .pages) (n .root) s (spaceOf n) named ∙ rw (rights-granted rights))
+    call-leaves (c.unmap base) l = rw named
+    call-leaves (c.protect base rights) l = rw (meant rights (siteOf (n .origin) (n .pool) (n .pages) (n .root)) l, named, rights-granted rights)
+    call-leaves (c.told ticket) l = rw named
 
     -- and the answers
-    pub map-answers : (base frame size rights : ℕ) → tpMap s n base frame size rights
+    pub map-answers : (base frame size rights : ℕ) → rights < 8 → tpMap s n base frame size rights
         ≡ mapped (the.mapAnswer (holds s (n .origin)) (memory s (n .origin)) (spaceOf n) (asked base frame size rights))
-    map-answers base frame size rights =
-        answer-asked (ask base frame size rights) (n .origin) (n .pool) (n .pages) (n .root) s (spaceOf n) named ∙ rw (rights-granted rights)
+    map-answers base frame size rights l =
+        rw (meant rights (askedSite (n .origin) (n .pool) (n .pages) (n .root) (ask base frame size rights)) l)
+        (answer-asked (ask base frame size rights) (n .origin) (n .pool) (n .pages) (n .root) s (spaceOf n) named ∙ rw (rights-granted rights))
 
     pub unmap-answers : (base : ℕ) → tpUnmap s n base ≡ unmapped (the.unmapAnswer (holds s (n .origin)) (memory s (n .origin)) (spaceOf n) base)
     unfolding unmapAnswer
     unmap-answers base = rw named
 
-    pub protect-answers : (base rights : ℕ) → tpProtect s n base rights
+    pub protect-answers : (base rights : ℕ) → rights < 8 → tpProtect s n base rights
         ≡ protected (the.protectAnswer (holds s (n .origin)) (memory s (n .origin)) (spaceOf n) base (granted rights))
     unfolding protectAnswer
-    protect-answers base rights = rw (named, rights-granted rights)
+    protect-answers base rights l = rw (meant rights (siteOf (n .origin) (n .pool) (n .pages) (n .root)) l, named, rights-granted rights)
 
     pub told-answers : (ticket : ℕ) → tpTold s n ticket ≡ told (the.toldAnswer (holds s (n .origin)) (memory s (n .origin)) (spaceOf n) ticket)
     unfolding toldAnswer
     told-answers ticket = rw named
+
+    pub state-answers : tpState s n ≡ counted (stateOf (holds s (n .origin)) (memory s (n .origin)) (spaceOf n))
+    unfolding stateAnswer
+    state-answers = rw named

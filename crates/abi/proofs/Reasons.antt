@@ -1,5 +1,6 @@
 -- EVERY REASON HAS ITS OWN NUMBER, the one that the header has for it; 0 is none of them.
 use Prim.Native.Nat.{ℕ}
+use mathlib.Core.Logic.{_≢_}
 use mathlib.Core.Path.{_≡_, refl, sym, ap, _∙_}
 use native.Mathlib.Omega.{arith}
 use lib.ListN.{getD}
@@ -8,7 +9,7 @@ use Rattle.pool.specs.declared.Reason.the-variants as pool
 use Rattle.plan.specs.declared.Reason.{Reason}
 use Rattle.plan.specs.declared.Reason.the-variants.{Size, BaseUnaligned, FrameUnaligned, BaseRange, FrameRange, Pool, FrameInPool, Overlap, NoRoom, NothingStarts, Stray, BadList}
 use Rattle.abi.specs.Answers.{reasonOf, poolReason}
-use Rattle.abi.specs.Reasons.{Why, done, refused, pool-unaligned, root-unaligned, unknown, spent, numberOf, header}
+use Rattle.abi.specs.Reasons.{Why, done, refused, pool-unaligned, root-unaligned, unknown, spent, rights, numberOf, header}
 
 -- THE HEADER'S PLACE of a reason is its number.
 pub in-header : (y : Why) → getD header (numberOf y) done ≡ y
@@ -38,6 +39,7 @@ in-header pool-unaligned = refl
 in-header root-unaligned = refl
 in-header unknown = refl
 in-header spent = refl
+in-header rights = refl
 
 -- ONE TO ONE
 pub one-number : (x y : Why) → numberOf x ≡ numberOf y → x ≡ y
@@ -57,6 +59,14 @@ pub never-done : (y : Reason) → reasonOf y ≡ 0 → ⊥
 unfolding numberOf
 never-done y e =
     let same = one-number (refused y) done e in
+    let z : _≡_ {A = ℕ} 0 1 = cc in
+    omega arith
+
+-- nor are they said of rights
+pub never-rights : (y : Reason) → reasonOf y ≢ 25
+unfolding numberOf
+never-rights y e =
+    let same = one-number (refused y) rights e in
     let z : _≡_ {A = ℕ} 0 1 = cc in
     omega arith
 

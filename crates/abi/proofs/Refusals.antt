@@ -9,7 +9,7 @@ use lib.ListN.{length, replicate}
 use Rattle.word.specs.Memory.{memory, holds}
 use Rattle.word.specs.Writes.{carried}
 use Rattle.entry.specs.declared.Rights.{Rights}
-use Rattle.pool.specs.Book.{openedOf, dueOf}
+use Rattle.pool.specs.Book.{bookOf, openedOf, dueOf}
 use Rattle.pool.specs.Create.{createdOf, createdIn, createWrites, createIn, newSpace, mayCreate}
 use Rattle.pool.specs.declared.Book.{Book}
 use Rattle.pool.specs.declared.Due.{Due}
@@ -30,14 +30,14 @@ use Rattle.plan.specs.declared.protects.Changing.the-variants as changing
 use Rattle.tablepath.specs.Answers as the
 use Rattle.abi.specs.Answers.{rightsIn, created, mapped, unmapped, protected, told}
 use Rattle.abi.specs.Calls as call
-use Rattle.abi.specs.Calls.{siteOf, askedSite, ask, bytesAfter, createAnswer, mapAnswer, mapBytes, unmapAnswer, unmapBytes, protectAnswer, protectBytes, toldAnswer, toldBytes}
+use Rattle.abi.specs.Calls.{siteOf, mapSite, protectSite, ask, bytesAfter, createAnswer, mapAnswer, mapBytes, unmapAnswer, unmapBytes, protectAnswer, protectBytes, toldAnswer, toldBytes}
 use Rattle.abi.specs.Relied as c
 use Rattle.abi.specs.Relied.{Numbers, Call, tpCreate, createLeaves, leaves, reason, others, Untouched}
 use Rattle.abi.specs.declared.answers.Created.{Created}
 use Rattle.abi.specs.declared.answers.Unmapped.{Unmapped}
 use Rattle.abi.specs.declared.answers.Protected.{Protected}
-use Rattle.abi.specs.declared.Sited.{Sited}
-use Rattle.abi.specs.declared.Sited.the-variants.{At, Refused}
+use Rattle.abi.specs.declared.sites.Sited.{Sited}
+use Rattle.abi.specs.declared.sites.Sited.the-variants.{At, Refused}
 
 module _ (s : List ℕ) where
   same : {k : List ℕ} → k ≡ replicate (length k) 0 → Untouched s s k
@@ -61,13 +61,13 @@ module _ (s : List ℕ) where
   unmap-refused base (Refused y) k = same refl
   unmap-refused base (At sp) k = go (unmap.decideOf (holds s (sp .origin)) (memory s (sp .origin)) sp base) k
     where
-      go : (d : Removing) → unmapped (the.unmapSaid sp d) .reason ≢ 0
-          → Untouched s (carried s (sp .origin) (unmap.didOf sp base d)) (unmapFields (unmapped (the.unmapSaid sp d)))
+      go : (d : Removing) → unmapped (the.unmapSaid (bookOf (memory s (sp .origin)) sp) d) .reason ≢ 0
+          → Untouched s (carried s (sp .origin) (unmap.didOf sp base d)) (unmapFields (unmapped (the.unmapSaid (bookOf (memory s (sp .origin)) sp) d)))
       go (removing.Go r) k = absurd (k refl)
       go (removing.Refused y) k = same refl
 
   protectFields : Protected → List ℕ
-  protectFields x = x .frame ∷ x .size ∷ []
+  protectFields x = x .frame ∷ x .size ∷ x .ticket ∷ []
 
   protect-refused : (base : ℕ) (r : Rights) (x : Sited) → protectAnswer s base r x .reason ≢ 0
       → Untouched s (protectBytes s base r x) (protectFields (protectAnswer s base r x))
@@ -98,9 +98,9 @@ module _ (s : List ℕ) where
   -- EVERY CALL in a space, or in what is none
   pub call-refused : (n : Numbers) (x : Call) → reason s n x ≢ 0 → Untouched s (leaves s n x) (others s n x)
   unfolding reason leaves others unmapFields protectFields
-  call-refused n (c.map base frame size rights) k = map-refused (ask base frame size rights) (askedSite (n .origin) (n .pool) (n .pages) (n .root) (ask base frame size rights)) k
+  call-refused n (c.map base frame size rights) k = map-refused (ask base frame size rights) (mapSite (n .origin) (n .pool) (n .pages) (n .root) base frame size rights) k
   call-refused n (c.unmap base) k = unmap-refused base (siteOf (n .origin) (n .pool) (n .pages) (n .root)) k
-  call-refused n (c.protect base rights) k = protect-refused base (rightsIn rights) (siteOf (n .origin) (n .pool) (n .pages) (n .root)) k
+  call-refused n (c.protect base rights) k = protect-refused base (rightsIn rights) (protectSite (n .origin) (n .pool) (n .pages) (n .root) rights) k
   call-refused n (c.told ticket) k = told-refused ticket (siteOf (n .origin) (n .pool) (n .pages) (n .root)) k
 
   -- CREATE

@@ -1,6 +1,7 @@
--- EXACTLY AS ASKED, by the numbers that C gives and gets: every call keeps the space whole, and what tp_look_up answers after each.
-use Prim.Native.Nat.{ℕ, _*_, _/_, _%_, _^_, _≤_}
+-- EXACTLY AS ASKED, by the numbers that C gives and gets: every call keeps the space whole, and what tp_raw_look_up answers after each.
+use Prim.Native.Nat.{ℕ, _*_, _/_, _%_, _^_, _<_, _≤_}
 use mathlib.Core.List.{List}
+use mathlib.Core.Logic.{_⊎_, inl, inr}
 use mathlib.Core.Path.{_≡_, refl, sym, ap, _∙_, subst}
 use native.Mathlib.Omega.{arith}
 use Rattle.entry.specs.declared.Rights.{Rights}
@@ -17,22 +18,23 @@ use Rattle.tablepath.proofs.Wholes.{call-kept}
 use Rattle.tablepath.proofs.Tickets.{told-after-unmap}
 use Rattle.abi.specs.Answers.{rightsWord, unmapped, told, lookedUp}
 use Rattle.abi.specs.Relied as c
-use Rattle.abi.specs.Relied.{Numbers, Aligned, spaceOf, WholeAt, Call, callOf, granted, asked, leaves, tpMap, tpUnmap, tpProtect, tpTold, tpLookUp, page, nothing, Now, Swapped, Undone, Reported}
+use Rattle.abi.specs.Relied.{Numbers, Aligned, spaceOf, WholeAt, Call, Meant, callOf, granted, asked, leaves, tpMap, tpUnmap, tpProtect, tpTold, tpLookUp, page, nothing, Now, Swapped, Undone, Reported}
 use Rattle.abi.proofs.Named.{rights-granted, rights-back, call-leaves, unmap-answers, told-answers}
+use Rattle.abi.proofs.Meant.{meant-or-same, map-meant, protect-meant}
 use Rattle.abi.proofs.Says.{map-says, unmap-says, protect-says}
 use Rattle.abi.proofs.Walked.{rights-told}
 
 -- Rights in answers ----------------------------------------------------------------------------------------------------------------
 
-page-granted : (base size frame rights : ℕ) → lookedUp (found.Page base size frame (granted rights)) ≡ page base size frame rights
+page-granted : (base size frame rights : ℕ) → rights < 8 → lookedUp (found.Page base size frame (granted rights)) ≡ page base size frame rights
 unfolding lookedUp
-page-granted base size frame rights = rw (← rights-granted rights, rights-back rights)
+page-granted base size frame rights l =
+    let same : rights % 8 ≡ rights = omega (arith, l) in
+    rw (← rights-granted rights, rights-back rights, same)
 
 page-had : (base size frame : ℕ) (r : Rights) → lookedUp (found.Page base size frame r) ≡ page base size frame (rightsWord r)
 unfolding lookedUp
-page-had base size frame r =
-    let same : rightsWord r ≡ rightsWord r % 8 = ap rightsWord (sym (rights-told r)) ∙ rights-back (rightsWord r) in
-    ap (λ x. record { kind = 1; base = base; size = size; frame = frame; rights = x }) same
+page-had base size frame r = refl
 
 pub nothing-is : lookedUp found.Nothing ≡ nothing
 unfolding lookedUp
@@ -42,14 +44,18 @@ nothing-is = refl
 
 -- and so the laws below hold after any calls
 pub every-call-keeps : (s : List ℕ) (n : Numbers) → WholeAt s n → (x : Call) → WholeAt (leaves s n x) n
-every-call-keeps s n w x =
-    let k = call-kept s (spaceOf n) (w .role) (w .whole) (callOf x) in
-    record { aligned = w .aligned; role = k .0; whole = rw (call-leaves n (w .aligned) s x) (k .1) }
+every-call-keeps s n w x = go (meant-or-same s n x)
+  where
+    go : Meant x ⊎ (leaves s n x ≡ s) → WholeAt (leaves s n x) n
+    go (inl l) =
+        let k = call-kept s (spaceOf n) (w .role) (w .whole) (callOf x) in
+        record { aligned = w .aligned; role = k .0; whole = rw (call-leaves n (w .aligned) s x l) (k .1) }
+    go (inr e) = rw e w
 
 -- Look-up after each -------------------------------------------------------------------------------------------------------------------
 
 module _ (n : Numbers) (a : Aligned n) where
-  -- the root is given to tp_look_up as it is to the others
+  -- the root is given to tp_raw_look_up as it is to the others
   pub looks : (s : List ℕ) (va : ℕ) → tpLookUp s n va ≡ lookedUp (lookUp s (spaceOf n) va)
   looks s va = let same : 4096 * (n .root / 4096) ≡ n .root = omega (arith, a .root) in rw same
 
@@ -66,9 +72,10 @@ module _ (s : List ℕ) (n : Numbers) (w : WholeAt s n) where
       → Now s (leaves s n (c.map base frame size rights)) n base size (page base size frame rights)
   unfolding callOf callWrites
   map-then-look-up base frame size rights e =
-      let done = map-says s n (w .aligned) base frame size rights .done e in
-      rw (call-leaves n (w .aligned) s (c.map base frame size rights)) (record {
-        inside = λ va i. looks n (w .aligned) _ va ∙ ap lookedUp (look-up-after-map s (spaceOf n) (w .role) (w .whole) (asked base frame size rights) _ done va i) ∙ page-granted base size frame rights;
+      let l = map-meant s n base frame size rights e in
+      let done = map-says s n (w .aligned) base frame size rights l .done e in
+      rw (call-leaves n (w .aligned) s (c.map base frame size rights) l) (record {
+        inside = λ va i. looks n (w .aligned) _ va ∙ ap lookedUp (look-up-after-map s (spaceOf n) (w .role) (w .whole) (asked base frame size rights) _ done va i) ∙ page-granted base size frame rights l;
         beside = λ va o. looks n (w .aligned) _ va ∙ ap lookedUp (look-up-beside-map s (spaceOf n) (w .role) (w .whole) (asked base frame size rights) _ done va o) ∙ sym (looks n (w .aligned) s va);
       })
 
@@ -78,7 +85,7 @@ module _ (s : List ℕ) (n : Numbers) (w : WholeAt s n) where
   unfolding callOf callWrites
   unmap-then-look-up base e =
       let done = unmap-says s n (w .aligned) base .done e in
-      rw (call-leaves n (w .aligned) s (c.unmap base), ← nothing-is)
+      rw (call-leaves n (w .aligned) s (c.unmap base) tt, ← nothing-is)
       (swapped n (w .aligned) (look-up-after-unmap s (spaceOf n) (w .role) (w .whole) base _ done))
 
   -- AFTER PROTECT: the same page with the new rights
@@ -87,16 +94,17 @@ module _ (s : List ℕ) (n : Numbers) (w : WholeAt s n) where
       (page base (tpProtect s n base rights .size) (tpProtect s n base rights .frame) rights)
   unfolding callOf callWrites
   protect-then-look-up base rights e =
-      let done = protect-says s n (w .aligned) base rights .done e in
-      rw (call-leaves n (w .aligned) s (c.protect base rights))
-      (subst (Swapped s _ n base _ _) (page-granted base _ _ rights)
+      let l = protect-meant s n base rights e in
+      let done = protect-says s n (w .aligned) base rights l .done e in
+      rw (call-leaves n (w .aligned) s (c.protect base rights) l)
+      (subst (Swapped s _ n base _ _) (page-granted base _ _ rights l)
       (swapped n (w .aligned) (look-up-after-protect s (spaceOf n) (w .role) (w .whole) base (granted rights) _ done)))
 
   -- AFTER TOLD: what it was, whatever is answered
   pub told-then-look-up : (ticket va : ℕ) → tpLookUp (leaves s n (c.told ticket)) n va ≡ tpLookUp s n va
   unfolding callOf callWrites
   told-then-look-up ticket va =
-      rw (call-leaves n (w .aligned) s (c.told ticket))
+      rw (call-leaves n (w .aligned) s (c.told ticket) tt)
       (looks n (w .aligned) _ va ∙ ap lookedUp (look-up-after-told s (spaceOf n) (w .role) (w .whole) ticket va) ∙ sym (looks n (w .aligned) s va))
 
 -- UNMAP AFTER MAP answers the frame and the size that were mapped, and nothing is there again
@@ -107,8 +115,9 @@ module _ (s : List ℕ) (n : Numbers) (w : WholeAt s n) (base frame size rights 
   answers : (g : Gone) × (tpUnmap after n base ≡ unmapped (unmap.Done g)) × (g .frame ≡ frame) × (g .size ≡ size)
   unfolding after callOf callWrites
   answers =
-      let u = unmap-after-map s (spaceOf n) (w .role) (w .whole) (asked base frame size rights) _ (map-says s n (w .aligned) base frame size rights .done mapped) in
-      (u .0, unmap-answers n (w .aligned) after base ∙ ap unmapped (rw (call-leaves n (w .aligned) s (c.map base frame size rights)) (u .1)), u .2, u .3)
+      let l = map-meant s n base frame size rights mapped in
+      let u = unmap-after-map s (spaceOf n) (w .role) (w .whole) (asked base frame size rights) _ (map-says s n (w .aligned) base frame size rights l .done mapped) in
+      (u .0, unmap-answers n (w .aligned) after base ∙ ap unmapped (rw (call-leaves n (w .aligned) s (c.map base frame size rights) l) (u .1)), u .2, u .3)
 
   pub map-then-unmap : Undone s n base frame size rights
   unfolding after unmapped
@@ -136,7 +145,7 @@ module _ (s : List ℕ) (n : Numbers) (w : WholeAt s n) (base : ℕ) (done : tpU
   unfolding callOf callWrites
   released =
       let k = told-after-unmap s (spaceOf n) (w .role) (w .whole) base _ (unmap-says s n (w .aligned) base .done done) early in
-      (k .0, told-answers n (w .aligned) _ (tpUnmap s n base .ticket) ∙ ap told (rw (call-leaves n (w .aligned) s (c.unmap base)) (k .1)), k .2)
+      (k .0, told-answers n (w .aligned) _ (tpUnmap s n base .ticket) ∙ ap told (rw (call-leaves n (w .aligned) s (c.unmap base) tt) (k .1)), k .2)
 
   pub unmap-then-told : Reported s n base
   unfolding told

@@ -1,5 +1,5 @@
 -- THE ANSWER TELLS THE OPERATION'S: from the numbers that C gets, field by field, what the operation answered is known again, for any bytes.
-use Prim.Native.Nat.{ℕ}
+use Prim.Native.Nat.{ℕ, _<_}
 use mathlib.Core.List.{List}
 use mathlib.Core.Logic.{inl, inr}
 use mathlib.Core.Path.{_≡_, refl, sym, ap, _∙_}
@@ -11,6 +11,9 @@ use Rattle.walk.specs.declared.Found.the-variants as found
 use Rattle.pool.specs.declared.Reason as inPool
 use Rattle.pool.specs.declared.Created as ofPool
 use Rattle.pool.specs.declared.Created.the-variants as create
+use Rattle.pool.specs.State.{stateOf}
+use Rattle.pool.specs.declared.moment.Stated.{Stated}
+use Rattle.pool.specs.declared.moment.Stated.the-variants as state
 use Rattle.plan.specs.declared.Reason.the-variants as plan
 use Rattle.tablepath.specs.Answers as the
 use Rattle.tablepath.specs.declared.Mapped as ofMap
@@ -21,11 +24,11 @@ use Rattle.tablepath.specs.declared.Protected as ofProtect
 use Rattle.tablepath.specs.declared.Protected.the-variants as protect
 use Rattle.tablepath.specs.declared.Report.{Report}
 use Rattle.tablepath.specs.declared.Report.the-variants as report
-use Rattle.abi.specs.Answers.{reasonOf, poolReason, rightsWord, created, mapped, unmapped, protected, told, lookedUp}
-use Rattle.abi.specs.Relied.{Numbers, Aligned, spaceOf, granted, asked, tpMap, tpUnmap, tpProtect, tpTold, tpLookUp}
+use Rattle.abi.specs.Answers.{reasonOf, poolReason, rightsWord, created, mapped, unmapped, protected, told, uncounted, counted, lookedUp}
+use Rattle.abi.specs.Relied.{Numbers, Aligned, spaceOf, granted, asked, tpMap, tpUnmap, tpProtect, tpTold, tpState, tpLookUp}
 use Rattle.abi.specs.Reasons as why
-use Rattle.abi.specs.Reasons.{CreateSays, MapSays, UnmapSays, ProtectSays, ToldSays, LookUpSays, numberOf}
-use Rattle.abi.proofs.Named.{rights-granted, map-answers, unmap-answers, protect-answers, told-answers}
+use Rattle.abi.specs.Reasons.{CreateSays, MapSays, UnmapSays, ProtectSays, ToldSays, StateSays, LookUpSays, numberOf}
+use Rattle.abi.proofs.Named.{rights-granted, map-answers, unmap-answers, protect-answers, told-answers, state-answers}
 use Rattle.abi.proofs.Reasons.{one-number, one-reason, one-pool-reason, never-done, pool-never-done}
 use Rattle.abi.proofs.Walked.{rights-told}
 
@@ -94,6 +97,15 @@ told-struct (report.Refused z) = record {
   known = inr (inr (inr (z, refl)));
 }
 
+counted-says : (a : Stated) → StateSays (counted a) a
+unfolding counted uncounted
+counted-says (state.Counts k) = record { done = λ e. refl; refused = λ y e. absurd (pool-never-done y (sym e)); known = inl refl }
+counted-says (state.Refused z) = record {
+  done = λ e. absurd (pool-never-done z e);
+  refused = λ y e. ap state.Refused (one-pool-reason z y e);
+  known = inr (z, refl);
+}
+
 looked-up-says : (a : Found) → LookUpSays (lookedUp a) a
 unfolding lookedUp
 looked-up-says (found.Page b s f r) = record {
@@ -126,16 +138,19 @@ module _ (s : List ℕ) where
   look-up-says n va = looked-up-says _
 
   module _ (n : Numbers) (a : Aligned n) where
-    pub map-says : (base frame size rights : ℕ) → MapSays (tpMap s n base frame size rights)
+    pub map-says : (base frame size rights : ℕ) → rights < 8 → MapSays (tpMap s n base frame size rights)
         (the.mapAnswer (holds s (n .origin)) (memory s (n .origin)) (spaceOf n) (asked base frame size rights))
-    map-says base frame size rights = rw (map-answers n a s base frame size rights) (mapped-says _)
+    map-says base frame size rights l = rw (map-answers n a s base frame size rights l) (mapped-says _)
 
     pub unmap-says : (base : ℕ) → UnmapSays (tpUnmap s n base) (the.unmapAnswer (holds s (n .origin)) (memory s (n .origin)) (spaceOf n) base)
     unmap-says base = rw (unmap-answers n a s base) (unmapped-says _)
 
-    pub protect-says : (base rights : ℕ) → ProtectSays (tpProtect s n base rights)
+    pub protect-says : (base rights : ℕ) → rights < 8 → ProtectSays (tpProtect s n base rights)
         (the.protectAnswer (holds s (n .origin)) (memory s (n .origin)) (spaceOf n) base (granted rights))
-    protect-says base rights = rw (protect-answers n a s base rights) (protected-says _)
+    protect-says base rights l = rw (protect-answers n a s base rights l) (protected-says _)
 
     pub told-says : (ticket : ℕ) → ToldSays (tpTold s n ticket) (the.toldAnswer (holds s (n .origin)) (memory s (n .origin)) (spaceOf n) ticket)
     told-says ticket = rw (told-answers n a s ticket) (told-struct _)
+
+    pub state-says : StateSays (tpState s n) (stateOf (holds s (n .origin)) (memory s (n .origin)) (spaceOf n))
+    state-says = rw (state-answers n a s) (counted-says _)

@@ -16,8 +16,8 @@ use Rattle.tablepath.proofs.Handed.{here-answer, here-writes}
 use Rattle.abi.specs.Answers.{reasonOf, mapped}
 use Rattle.abi.specs.Calls.{siteOf, askedSite, bytesAfter, InOrder, mapAnswer, mapWrites, AtOnce}
 use Rattle.abi.specs.declared.answers.Mapped.{Mapped}
-use Rattle.abi.specs.declared.Sited.{Sited}
-use Rattle.abi.specs.declared.Sited.the-variants.{At, Refused}
+use Rattle.abi.specs.declared.sites.Sited.{Sited}
+use Rattle.abi.specs.declared.sites.Sited.the-variants.{At, Refused}
 use Rattle.abi.proofs.Asked.{answer-asked, order-asked}
 
 module _ (q : Asked) (origin pool pages root left rest : ℕ) (s after : List ℕ) where

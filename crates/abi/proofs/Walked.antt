@@ -1,4 +1,4 @@
--- A STEP OF A WALK IS WHAT tp_entry SAYS of its entry, for any bytes: so whoever goes by it from the root down finds what look-up finds.
+-- A STEP OF A WALK IS WHAT tp_raw_entry SAYS of its entry, for any bytes: so whoever goes by it from the root down finds what look-up finds.
 use Prim.Native.Nat.{ℕ, _*_, _^_, _<_}
 use mathlib.Core.Bool.{Bool, true, false, cond}
 use mathlib.Core.List.{List}

@@ -2,6 +2,7 @@
 use Prim.Native.Nat.{ℕ}
 use mathlib.Core.List.{List}
 use mathlib.Core.Path.{_≡_, refl}
+use native.Mathlib.Omega.{arith}
 use lib.ListN.{length}
 use Rattle.word.specs.Memory.{holds}
 use Rattle.entry.specs.Entry.{bit}
@@ -30,4 +31,4 @@ module _ (s : List ℕ) (e : length s ≡ 20480) where
   -- writable, for users
   pub five-mapped : tpMap (createLeaves s 0 0 5) five 0 1048576 4096 3 .reason ≡ 0
   unfolding granted bit mapped the.mapAnswer the.mapSaid
-  five-mapped = rw (map-answers five (five-whole .aligned) (createLeaves s 0 0 5) 0 1048576 4096 3, create-leaves s 0 0 5 refl, rw one-page at (goes s e .1))
+  five-mapped = rw (map-answers five (five-whole .aligned) (createLeaves s 0 0 5) 0 1048576 4096 3 (omega arith), create-leaves s 0 0 5 refl, rw one-page at (goes s e .1))

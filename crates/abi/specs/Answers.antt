@@ -10,6 +10,8 @@ use Rattle.pool.specs.declared.Reason as inPool
 use Rattle.pool.specs.declared.Reason.the-variants as pool
 use Rattle.pool.specs.declared.Created as ofPool
 use Rattle.pool.specs.declared.Created.the-variants as create
+use Rattle.pool.specs.declared.moment.Stated.{Stated}
+use Rattle.pool.specs.declared.moment.Stated.the-variants as state
 use Rattle.plan.specs.declared.Reason.{Reason}
 use Rattle.plan.specs.declared.Reason.the-variants as plan
 use Rattle.tablepath.specs.declared.Mapped as ofMap
@@ -25,6 +27,7 @@ use Rattle.abi.specs.declared.answers.Mapped.{Mapped}
 use Rattle.abi.specs.declared.answers.Unmapped.{Unmapped}
 use Rattle.abi.specs.declared.answers.Protected.{Protected}
 use Rattle.abi.specs.declared.answers.Told.{Told}
+use Rattle.abi.specs.declared.answers.Counts.{Counts}
 use Rattle.abi.specs.declared.answers.LookedUp.{LookedUp}
 
 -- Rights: bit 0 writable, bit 1 user, bit 2 not executable -----------------------------------------------------------------------
@@ -32,11 +35,11 @@ use Rattle.abi.specs.declared.answers.LookedUp.{LookedUp}
 unfoldable pub rightsWord : Rights → ℕ
 rightsWord r = flag (r .writable) + 2 * flag (r .user) + 4 * flag (r .noexec)
 
--- bits above the third count for nothing
+-- by the three lowest bits
 unfoldable pub rightsIn : ℕ → Rights
 rightsIn w = record { writable = eqb (w % 2) 1; user = eqb (w / 2 % 2) 1; noexec = eqb (w / 4 % 2) 1 }
 
--- Reasons: 0 is done; 14 and 15 are in Calls, 23 and 24 in `told` below ---------------------------------------------------------
+-- Reasons: 0 is done; 14, 15 and 25 are in Calls, 23 and 24 in `told` below ------------------------------------------------------
 
 unfoldable pub poolReason : inPool.Reason → ℕ
 poolReason pool.OriginUnaligned = 12
@@ -83,14 +86,21 @@ unmapped (unmap.Done g) = record { reason = 0; frame = g .frame; size = g .size;
 unmapped (unmap.Refused y) = record { reason = reasonOf y; frame = 0; size = 0; aside = 0; ticket = 0 }
 
 unfoldable pub protected : ofProtect.Protected → Protected
-protected (protect.Done s) = record { reason = 0; frame = s .frame; size = s .size }
-protected (protect.Refused y) = record { reason = reasonOf y; frame = 0; size = 0 }
+protected (protect.Done s) = record { reason = 0; frame = s .frame; size = s .size; ticket = s .ticket }
+protected (protect.Refused y) = record { reason = reasonOf y; frame = 0; size = 0; ticket = 0 }
 
 unfoldable pub told : Report → Told
 told (report.Released k) = record { reason = 0; released = k }
 told report.Unknown = record { reason = 23; released = 0 }
 told report.Spent = record { reason = 24; released = 0 }
 told (report.Refused y) = record { reason = poolReason y; released = 0 }
+
+unfoldable pub uncounted : ℕ → Counts
+uncounted y = record { reason = y; pages = 0; free = 0; aside = 0; tables = 0; ticket = 0 }
+
+unfoldable pub counted : Stated → Counts
+counted (state.Counts c) = record { reason = 0; pages = c .pages; free = c .free; aside = c .aside; tables = c .tables; ticket = c .ticket }
+counted (state.Refused y) = uncounted (poolReason y)
 
 unfoldable pub lookedUp : Found → LookedUp
 lookedUp (Page b s f r) = record { kind = 1; base = b; size = s; frame = f; rights = rightsWord r }

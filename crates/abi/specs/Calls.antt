@@ -1,10 +1,10 @@
--- What each call answers and bytesAfter, as functions of the bytes at entry and the numbers that were given. A space is refused by the number
+-- What each call answers and leaves, as functions of the bytes at entry and the numbers that were given. A space is refused by the number
 -- of its reason; what is then left are the bytes at entry.
 use Prim.Native.Nat.{ℕ, _/_, _%_}
 use mathlib.Core.Bool.{cond}
 use mathlib.Core.List.{List, []}
 use mathlib.Core.Path.{_≡_}
-use lib.Dec.{eqb}
+use lib.Dec.{eqb, ltb}
 use lib.ListN.{length}
 use Rattle.word.specs.Memory.{memory, holds}
 use Rattle.word.specs.Writes.{Write, Wrote, carried}
@@ -12,6 +12,7 @@ use Rattle.entry.specs.declared.Rights.{Rights}
 use Rattle.walk.specs.Walk.{walk}
 use Rattle.pool.specs.Create.{createdOf}
 use Rattle.pool.specs.Create as made
+use Rattle.pool.specs.State.{stateOf}
 use Rattle.pool.specs.declared.Space.{Space}
 use Rattle.plan.specs.Map.{shapeOf, decideOf}
 use Rattle.plan.specs.AtOnce as plan
@@ -21,15 +22,16 @@ use Rattle.plan.specs.declared.maps.Asked.{Asked}
 use Rattle.plan.specs.declared.maps.Shape.{Shape}
 use Rattle.plan.specs.declared.maps.Shape.the-variants.{Level, Bad}
 use Rattle.tablepath.specs.Answers as the
-use Rattle.abi.specs.Answers.{reasonOf, rightsIn, created, mapped, unmapped, protected, told, lookedUp}
+use Rattle.abi.specs.Answers.{reasonOf, rightsIn, created, mapped, unmapped, protected, told, uncounted, counted, lookedUp}
 use Rattle.abi.specs.declared.answers.Created.{Created}
 use Rattle.abi.specs.declared.answers.Mapped.{Mapped}
 use Rattle.abi.specs.declared.answers.Unmapped.{Unmapped}
 use Rattle.abi.specs.declared.answers.Protected.{Protected}
 use Rattle.abi.specs.declared.answers.Told.{Told}
+use Rattle.abi.specs.declared.answers.Counts.{Counts}
 use Rattle.abi.specs.declared.answers.LookedUp.{LookedUp}
-use Rattle.abi.specs.declared.Sited.{Sited}
-use Rattle.abi.specs.declared.Sited.the-variants.{At, Refused}
+use Rattle.abi.specs.declared.sites.Sited.{Sited}
+use Rattle.abi.specs.declared.sites.Sited.the-variants.{At, Refused}
 
 -- Spaces, in bytes --------------------------------------------------------------------------------------------------------------
 
@@ -59,6 +61,16 @@ misplacedOf q y = misplacedBy y (shapeOf (q .size) (q .base) (q .frame))
 
 abbrev pub ask : ℕ → ℕ → ℕ → ℕ → Asked
 ask base frame size rights = record { base = base; frame = frame; size = size; rights = rightsIn rights }
+
+-- before all else, map and protect look at the rights: bits above the third mean nothing
+unfoldable pub rightsSite : ℕ → Sited → Sited
+rightsSite rights s = cond (ltb rights 8) s (Refused 25)
+
+abbrev pub mapSite : ℕ → ℕ → ℕ → ℕ → ℕ → ℕ → ℕ → ℕ → Sited
+mapSite origin pool pages root base frame size rights = rightsSite rights (askedSite origin pool pages root (ask base frame size rights))
+
+abbrev pub protectSite : ℕ → ℕ → ℕ → ℕ → ℕ → Sited
+protectSite origin pool pages root rights = rightsSite rights (siteOf origin pool pages root)
 
 -- Bytes and writes -----------------------------------------------------------------------------------------------------------------
 
@@ -128,7 +140,7 @@ unmapBytes s base x = bytesAfter s x (unmapWrites s base)
 
 unfoldable pub protectAnswer : List ℕ → ℕ → Rights → Sited → Protected
 protectAnswer s base r (At sp) = protected (the.protectAnswer (holds s (sp .origin)) (memory s (sp .origin)) sp base r)
-protectAnswer s base r (Refused y) = record { reason = y; frame = 0; size = 0 }
+protectAnswer s base r (Refused y) = record { reason = y; frame = 0; size = 0; ticket = 0 }
 
 abbrev pub protectWrites : List ℕ → ℕ → Rights → Space → List Write
 protectWrites s base r sp = the.protectWrites (holds s (sp .origin)) (memory s (sp .origin)) sp base r
@@ -147,6 +159,12 @@ toldWrites s ticket sp = the.toldWrites (holds s (sp .origin)) (memory s (sp .or
 
 abbrev pub toldBytes : List ℕ → ℕ → Sited → List ℕ
 toldBytes s ticket x = bytesAfter s x (toldWrites s ticket)
+
+-- State -------------------------------------------------------------------------------------------------------------------------
+
+unfoldable pub stateAnswer : List ℕ → Sited → Counts
+stateAnswer s (At sp) = counted (stateOf (holds s (sp .origin)) (memory s (sp .origin)) sp)
+stateAnswer s (Refused y) = uncounted y
 
 -- Look-up -----------------------------------------------------------------------------------------------------------------------
 

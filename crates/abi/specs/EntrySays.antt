@@ -1,4 +1,4 @@
--- WHAT tp_entry ANSWERS, case by case, of the word that is there; for any bytes and any numbers.
+-- WHAT tp_raw_entry ANSWERS, case by case, of the word that is there; for any bytes and any numbers.
 use Prim.Native.Nat.{ℕ, _+_, _*_, _/_, _%_, _<_}
 use mathlib.Core.Bool.{true}
 use mathlib.Core.List.{List}

@@ -6,10 +6,14 @@ use mathlib.Core.Logic.{_↔_, _⊎_, _≢_}
 use mathlib.Core.Path.{_≡_}
 use Rattle.walk.specs.declared.Found.{Found}
 use Rattle.walk.specs.declared.Found.the-variants as found
+use Rattle.tables.specs.Roles.{Role}
 use Rattle.pool.specs.Book.{ticketOf}
 use Rattle.pool.specs.declared.Book.{Book}
 use Rattle.pool.specs.declared.Reason as inPool
 use Rattle.pool.specs.declared.Reason.the-variants as pool
+use Rattle.pool.specs.Booked.{tablesOf}
+use Rattle.pool.specs.declared.moment.Stated.{Stated}
+use Rattle.pool.specs.declared.moment.Stated.the-variants as state
 use Rattle.pool.specs.declared.Created as ofPool
 use Rattle.pool.specs.declared.Created.the-variants as create
 use Rattle.plan.specs.declared.Reason.{Reason}
@@ -26,17 +30,18 @@ use Rattle.tablepath.specs.declared.Report.{Report}
 use Rattle.tablepath.specs.declared.Report.the-variants as report
 use Rattle.abi.specs.Answers.{reasonOf, poolReason}
 use Rattle.abi.specs.Relied as c
-use Rattle.abi.specs.Relied.{Numbers, Call, granted}
+use Rattle.abi.specs.Relied.{Numbers, Call, spaceOf, granted}
 use Rattle.abi.specs.declared.answers.Created.{Created}
 use Rattle.abi.specs.declared.answers.Mapped.{Mapped}
 use Rattle.abi.specs.declared.answers.Unmapped.{Unmapped}
 use Rattle.abi.specs.declared.answers.Protected.{Protected}
 use Rattle.abi.specs.declared.answers.Told.{Told}
+use Rattle.abi.specs.declared.answers.Counts.{Counts}
 use Rattle.abi.specs.declared.answers.LookedUp.{LookedUp}
 
 -- Numbers ----------------------------------------------------------------------------------------------------------------------------
 
--- what the field `reason` says: done, an operation's own reason (the pool's among them), or one of four more
+-- what the field `reason` says: done, an operation's own reason (the pool's among them), or one of five more
 pub data Why : Type 0 where
   done : Why
   refused : Reason → Why
@@ -44,6 +49,7 @@ pub data Why : Type 0 where
   root-unaligned : Why
   unknown : Why
   spent : Why
+  rights : Why
 
 unfoldable pub numberOf : Why → ℕ
 numberOf done = 0
@@ -52,6 +58,7 @@ numberOf pool-unaligned = 14
 numberOf root-unaligned = 15
 numberOf unknown = 23
 numberOf spent = 24
+numberOf rights = 25
 
 -- THE HEADER'S enum tp_reason, from 0 on
 unfoldable pub header : List Why
@@ -60,7 +67,7 @@ header =
     ∷ refused Overlap ∷ refused NoRoom ∷ refused NothingStarts ∷ refused Stray ∷ refused BadList ∷ refused (Pool pool.OriginUnaligned)
     ∷ refused (Pool pool.LengthUnaligned) ∷ pool-unaligned ∷ root-unaligned ∷ refused (Pool pool.PoolLarge) ∷ refused (Pool pool.PoolSmall)
     ∷ refused (Pool pool.PoolOutside) ∷ refused (Pool pool.BadRoot) ∷ refused (Pool pool.NoBook) ∷ refused (Pool pool.OtherBook)
-    ∷ refused (Pool pool.BadBook) ∷ unknown ∷ spent ∷ []
+    ∷ refused (Pool pool.BadBook) ∷ unknown ∷ spent ∷ rights ∷ []
 
 -- What an answer x says: that the operation's own answer was a. Known: it has no other number -----------------------------------------------
 
@@ -80,7 +87,7 @@ pub record UnmapSays (x : Unmapped) (a : ofUnmap.Unmapped) : Type 0 where
   pub known : (x .reason ≡ 0) ⊎ ((y : Reason) × (x .reason ≡ reasonOf y))
 
 pub record ProtectSays (x : Protected) (a : ofProtect.Protected) : Type 0 where
-  pub done : x .reason ≡ 0 → a ≡ protect.Done (record { frame = x .frame; size = x .size })
+  pub done : x .reason ≡ 0 → a ≡ protect.Done (record { frame = x .frame; size = x .size; ticket = x .ticket })
   pub refused : (y : Reason) → x .reason ≡ reasonOf y → a ≡ protect.Refused y
   pub known : (x .reason ≡ 0) ⊎ ((y : Reason) × (x .reason ≡ reasonOf y))
 
@@ -91,6 +98,11 @@ pub record ToldSays (x : Told) (a : Report) : Type 0 where
   pub refused : (y : inPool.Reason) → x .reason ≡ poolReason y → a ≡ report.Refused y
   pub known : (x .reason ≡ 0) ⊎ (x .reason ≡ 23) ⊎ (x .reason ≡ 24) ⊎ ((y : inPool.Reason) × (x .reason ≡ poolReason y))
 
+pub record StateSays (x : Counts) (a : Stated) : Type 0 where
+  pub done : x .reason ≡ 0 → a ≡ state.Counts (record { pages = x .pages; free = x .free; aside = x .aside; tables = x .tables; ticket = x .ticket })
+  pub refused : (y : inPool.Reason) → x .reason ≡ poolReason y → a ≡ state.Refused y
+  pub known : (x .reason ≡ 0) ⊎ ((y : inPool.Reason) × (x .reason ≡ poolReason y))
+
 pub record LookUpSays (x : LookedUp) (a : Found) : Type 0 where
   pub nothing : x .kind ≡ 0 → a ≡ found.Nothing
   pub page : x .kind ≡ 1 → a ≡ found.Page (x .base) (x .size) (x .frame) (granted (x .rights))
@@ -100,22 +112,29 @@ pub record LookUpSays (x : LookedUp) (a : Found) : Type 0 where
 
 -- When each number is given, in a space that is whole -----------------------------------------------------------------------------------
 
--- by map: each exactly for its cause, and no others
-pub record MapReasons (n : ℕ) (cause : Reason → Type 0) : Type 0 where
-  pub size : (n ≡ 1) ↔ cause Size
-  pub base-unaligned : (n ≡ 2) ↔ cause BaseUnaligned
-  pub frame-unaligned : (n ≡ 3) ↔ cause FrameUnaligned
-  pub base-range : (n ≡ 4) ↔ cause BaseRange
-  pub frame-range : (n ≡ 5) ↔ cause FrameRange
-  pub frame-in-pool : (n ≡ 6) ↔ cause FrameInPool
-  pub overlap : (n ≡ 7) ↔ cause Overlap
-  pub no-room : (n ≡ 8) ↔ cause NoRoom
-  pub no-other : n ≤ 8
+-- by map: rights that mean nothing before all else; then each exactly for its cause, and no others
+pub record MapReasons (n rights : ℕ) (cause : Reason → Type 0) : Type 0 where
+  pub rights-mean : (n ≡ 25) ↔ (8 ≤ rights)
+  pub size : (n ≡ 1) ↔ ((rights < 8) × cause Size)
+  pub base-unaligned : (n ≡ 2) ↔ ((rights < 8) × cause BaseUnaligned)
+  pub frame-unaligned : (n ≡ 3) ↔ ((rights < 8) × cause FrameUnaligned)
+  pub base-range : (n ≡ 4) ↔ ((rights < 8) × cause BaseRange)
+  pub frame-range : (n ≡ 5) ↔ ((rights < 8) × cause FrameRange)
+  pub frame-in-pool : (n ≡ 6) ↔ ((rights < 8) × cause FrameInPool)
+  pub overlap : (n ≡ 7) ↔ ((rights < 8) × cause Overlap)
+  pub no-room : (n ≡ 8) ↔ ((rights < 8) × cause NoRoom)
+  pub no-other : rights < 8 → n ≤ 8
 
--- by unmap and protect: whether a page starts at the base
+-- by unmap: whether a page starts at the base
 pub record StartReasons (n : ℕ) (starts : Type 0) : Type 0 where
   pub done : (n ≡ 0) ↔ starts
   pub nothing-starts : (n ≡ 9) ↔ (¬ starts)
+
+-- by protect: the rights, then the same
+pub record ProtectReasons (n rights : ℕ) (starts : Type 0) : Type 0 where
+  pub rights-mean : (n ≡ 25) ↔ (8 ≤ rights)
+  pub done : (n ≡ 0) ↔ ((rights < 8) × starts)
+  pub nothing-starts : (n ≡ 9) ↔ ((rights < 8) × (¬ starts))
 
 -- by told, with this book: whether the ticket was handed out, and whether it is one of the first 2^62
 pub record ToldReasons (n : ℕ) (b : Book) (ticket : ℕ) : Type 0 where
@@ -123,13 +142,22 @@ pub record ToldReasons (n : ℕ) (b : Book) (ticket : ℕ) : Type 0 where
   pub unknown : (n ≡ 23) ↔ (ticketOf b < ticket)
   pub spent : (n ≡ 24) ↔ ((ticket ≤ ticketOf b) × (2 ^ 62 < ticket))
 
+-- WHAT tp_raw_state ANSWERS, with this book and these roles: it is never refused, and each number is what it says
+pub record StateCounts (x : Counts) (n : Numbers) (b : Book) (role : ℕ → Role) : Type 0 where
+  pub done : x .reason ≡ 0
+  pub pages-are : x .pages ≡ n .pages
+  pub free-are : x .free ≡ b .free
+  pub aside-are : x .aside ≡ b .aside
+  pub tables-are : x .tables ≡ tablesOf (spaceOf n) role
+  pub ticket-is : x .ticket ≡ ticketOf b
+
 -- Numbers that name no space, whatever the bytes -----------------------------------------------------------------------------------------
 
--- map looks at its size, alignments and ranges first; of the others nothing else is looked at before the space
+-- after the rights, map looks at its size, alignments and ranges; of the others nothing else is looked at before the space
 abbrev pub Shaped : Call → Type 0
-Shaped (c.map base frame size rights) = (l : ℕ) × (shapeOf size base frame ≡ Level l)
+Shaped (c.map base frame size w) = (l : ℕ) × (shapeOf size base frame ≡ Level l)
 Shaped (c.unmap base) = Unit {0}
-Shaped (c.protect base rights) = Unit {0}
+Shaped (c.protect base w) = Unit {0}
 Shaped (c.told ticket) = Unit {0}
 
 pub record SiteReasons (k : ℕ) (n : Numbers) : Type 0 where

@@ -13,12 +13,13 @@ use Rattle.tablepath.specs.Calls as calls
 use Rattle.tablepath.proofs.RoundTrips.{In}
 use Rattle.tablepath.proofs.Wholes.{WholeBytes}
 use Rattle.abi.specs.Answers.{rightsIn}
-use Rattle.abi.specs.Calls.{siteOf, askedSite, ask, createAnswer, createBytes, mapAnswer, mapBytes, unmapAnswer, unmapBytes, protectAnswer, protectBytes, toldAnswer, toldBytes, lookUpAnswer}
+use Rattle.abi.specs.Calls.{siteOf, mapSite, protectSite, ask, createAnswer, createBytes, mapAnswer, mapBytes, unmapAnswer, unmapBytes, protectAnswer, protectBytes, toldAnswer, toldBytes, stateAnswer, lookUpAnswer}
 use Rattle.abi.specs.declared.answers.Created.{Created}
 use Rattle.abi.specs.declared.answers.Mapped.{Mapped}
 use Rattle.abi.specs.declared.answers.Unmapped.{Unmapped}
 use Rattle.abi.specs.declared.answers.Protected.{Protected}
 use Rattle.abi.specs.declared.answers.Told.{Told}
+use Rattle.abi.specs.declared.answers.Counts.{Counts}
 use Rattle.abi.specs.declared.answers.LookedUp.{LookedUp}
 
 -- The calls: what each answers, and the bytes that it leaves -----------------------------------------------------------------------
@@ -38,16 +39,19 @@ createLeaves s origin pool pages = createBytes s origin pool pages
 
 abbrev pub tpMap : List ℕ → Numbers → ℕ → ℕ → ℕ → ℕ → Mapped
 tpMap s n base frame size rights =
-    mapAnswer s (ask base frame size rights) (askedSite (n .origin) (n .pool) (n .pages) (n .root) (ask base frame size rights))
+    mapAnswer s (ask base frame size rights) (mapSite (n .origin) (n .pool) (n .pages) (n .root) base frame size rights)
 
 abbrev pub tpUnmap : List ℕ → Numbers → ℕ → Unmapped
 tpUnmap s n base = unmapAnswer s base (siteOf (n .origin) (n .pool) (n .pages) (n .root))
 
 abbrev pub tpProtect : List ℕ → Numbers → ℕ → ℕ → Protected
-tpProtect s n base rights = protectAnswer s base (rightsIn rights) (siteOf (n .origin) (n .pool) (n .pages) (n .root))
+tpProtect s n base rights = protectAnswer s base (rightsIn rights) (protectSite (n .origin) (n .pool) (n .pages) (n .root) rights)
 
 abbrev pub tpTold : List ℕ → Numbers → ℕ → Told
 tpTold s n ticket = toldAnswer s ticket (siteOf (n .origin) (n .pool) (n .pages) (n .root))
+
+abbrev pub tpState : List ℕ → Numbers → Counts
+tpState s n = stateAnswer s (siteOf (n .origin) (n .pool) (n .pages) (n .root))
 
 abbrev pub tpLookUp : List ℕ → Numbers → ℕ → LookedUp
 tpLookUp s n va = lookUpAnswer s (n .origin) (n .root) va
@@ -61,9 +65,9 @@ pub data Call : Type 0 where
 
 unfoldable pub leaves : List ℕ → Numbers → Call → List ℕ
 leaves s n (map base frame size rights) =
-    mapBytes s (ask base frame size rights) (askedSite (n .origin) (n .pool) (n .pages) (n .root) (ask base frame size rights))
+    mapBytes s (ask base frame size rights) (mapSite (n .origin) (n .pool) (n .pages) (n .root) base frame size rights)
 leaves s n (unmap base) = unmapBytes s base (siteOf (n .origin) (n .pool) (n .pages) (n .root))
-leaves s n (protect base rights) = protectBytes s base (rightsIn rights) (siteOf (n .origin) (n .pool) (n .pages) (n .root))
+leaves s n (protect base rights) = protectBytes s base (rightsIn rights) (protectSite (n .origin) (n .pool) (n .pages) (n .root) rights)
 leaves s n (told ticket) = toldBytes s ticket (siteOf (n .origin) (n .pool) (n .pages) (n .root))
 
 -- its answer: the reason, and the other fields
@@ -76,8 +80,15 @@ reason s n (told ticket) = tpTold s n ticket .reason
 unfoldable pub others : List ℕ → Numbers → Call → List ℕ
 others s n (map base frame size rights) = tpMap s n base frame size rights .tables ∷ []
 others s n (unmap base) = let x = tpUnmap s n base in x .frame ∷ x .size ∷ x .aside ∷ x .ticket ∷ []
-others s n (protect base rights) = let x = tpProtect s n base rights in x .frame ∷ x .size ∷ []
+others s n (protect base rights) = let x = tpProtect s n base rights in x .frame ∷ x .size ∷ x .ticket ∷ []
 others s n (told ticket) = tpTold s n ticket .released ∷ []
+
+-- the rights that are asked have no bit that means nothing
+abbrev pub Meant : Call → Type 0
+Meant (map base frame size rights) = rights < 8
+Meant (unmap base) = Unit {0}
+Meant (protect base rights) = rights < 8
+Meant (told ticket) = Unit {0}
 
 -- TP_WRITABLE is bit 0, TP_USER bit 1, TP_NO_EXECUTE bit 2
 unfoldable pub granted : ℕ → Rights
@@ -117,9 +128,9 @@ pub record Untouched (s s' : List ℕ) (fields : List ℕ) : Type 0 where
 
 -- What look-up answers -------------------------------------------------------------------------------------------------------------
 
--- a page with these rights, bits above the third aside
+-- a page with these rights
 abbrev pub page : ℕ → ℕ → ℕ → ℕ → LookedUp
-page base size frame rights = record { kind = 1; base = base; size = size; frame = frame; rights = rights % 8 }
+page base size frame rights = record { kind = 1; base = base; size = size; frame = frame; rights = rights }
 
 abbrev pub nothing : LookedUp
 nothing = record { kind = 0; base = 0; size = 0; frame = 0; rights = 0 }

@@ -1,4 +1,4 @@
--- What a walk makes of an entry's answer: whoever goes by tp_entry from the root down goes as a walk does (proofs/Walked.antt).
+-- What a walk makes of an entry's answer: whoever goes by tp_raw_entry from the root down goes as a walk does (proofs/Walked.antt).
 use Prim.Native.Nat.{ℕ}
 use mathlib.Core.Bool.{cond}
 use lib.Dec.{eqb}

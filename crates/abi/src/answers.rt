@@ -20,7 +20,7 @@ pub struct Mapped {
     pub tables: u64,
 }
 
-// The page that was unmapped, how many tables were set aside, and the ticket to report; 0 where none was set aside.
+// The page that was unmapped, how many tables were set aside, and the ticket of the moment after it, to be reported.
 #[repr(C)]
 pub struct Unmapped {
     pub reason: u64,
@@ -30,12 +30,13 @@ pub struct Unmapped {
     pub ticket: u64,
 }
 
-// The page whose rights changed.
+// The page whose rights changed, and the ticket, as of unmap.
 #[repr(C)]
 pub struct Protected {
     pub reason: u64,
     pub frame: u64,
     pub size: u64,
+    pub ticket: u64,
 }
 
 // What a report answers: how many pages are free again.
@@ -43,6 +44,17 @@ pub struct Protected {
 pub struct Told {
     pub reason: u64,
     pub released: u64,
+}
+
+// How many pages a pool has, how many of them are free, set aside, and tables beside the root; and the ticket of the moment.
+#[repr(C)]
+pub struct Counts {
+    pub reason: u64,
+    pub pages: u64,
+    pub free: u64,
+    pub aside: u64,
+    pub tables: u64,
+    pub ticket: u64,
 }
 
 // What an address means. Fields that say nothing are 0.
@@ -73,7 +85,7 @@ pub fn rights_word(r: Rights) -> u64
     bit(r.writable) + 2 * bit(r.user) + 4 * bit(r.noexec)
 }
 
-// Bits above the third count for nothing.
+// By the three lowest bits; whoever asks with others is refused before.
 pub fn rights(w: u64) -> Rights
     ensures { λ r. ⌜ r ≡ the.rightsIn w ⌝ }
 {
@@ -185,11 +197,13 @@ pub fn of_protect(a: tablepath::Protected) -> Protected
             reason: reason(y),
             frame: 0,
             size: 0,
+            ticket: 0,
         },
         tablepath::Protected::Done(s) => Protected {
             reason: 0,
             frame: s.frame,
             size: s.size,
+            ticket: s.ticket,
         },
     }
 }
@@ -213,6 +227,36 @@ pub fn of_told(a: tablepath::Report) -> Told
         tablepath::Report::Released(k) => Told {
             reason: 0,
             released: k,
+        },
+    }
+}
+
+// Of a state that is refused.
+pub fn uncounted(y: u64) -> Counts
+    ensures { λ r. ⌜ r ≡ the.uncounted y ⌝ }
+{
+    Counts {
+        reason: y,
+        pages: 0,
+        free: 0,
+        aside: 0,
+        tables: 0,
+        ticket: 0,
+    }
+}
+
+pub fn of_state(a: pool::Stated) -> Counts
+    ensures { λ r. ⌜ r ≡ the.counted a ⌝ }
+{
+    match a {
+        pool::Stated::Refused(y) => uncounted(pool_reason(y)),
+        pool::Stated::Counts(c) => Counts {
+            reason: 0,
+            pages: c.pages,
+            free: c.free,
+            aside: c.aside,
+            tables: c.tables,
+            ticket: c.ticket,
         },
     }
 }

@@ -78,9 +78,7 @@ fn gone(g: Gone) {
     say::frame(g.size, g.frame);
     say::text(b"; set aside ");
     say::count(g.aside, b"table");
-    if 0 < g.aside {
-        say::with_number(b", ticket ", g.ticket);
-    }
+    say::with_number(b", ticket ", g.ticket);
 }
 
 pub fn unmap(mem: &mut [u8], space: Space, base: u64) {
@@ -103,6 +101,7 @@ pub fn unmap(mem: &mut [u8], space: Space, base: u64) {
 fn still(s: Same) {
     say::text(b"    done: it is ");
     say::frame(s.size, s.frame);
+    say::with_number(b"; ticket ", s.ticket);
     say::line();
 }
 
@@ -125,7 +124,7 @@ pub fn protect(mem: &mut [u8], space: Space, base: u64, rights: Rights) {
 fn not_released(r: Report) {
     match r {
         Report::Released(_) => {}
-        Report::Unknown => say::text(b"    refused: that ticket was never handed out"),
+        Report::Unknown => say::text(b"    refused: a ticket above the present one"),
         Report::Spent => say::text(b"    refused: no ticket is left"),
         Report::Refused(p) => pool_refused(p),
     }

@@ -8,6 +8,9 @@ const SAMPLES: u64 = 0x7f00_0020_0000;
 const VISIBILITIES: u64 = 0x7f00_4000_0000;
 
 fn map_both(mem: &mut [u8]) {
+    say::text(
+        b" a pool: pages that may become tables; the first is the book, which says which are free\n",
+    );
     usual::create(mem);
     usual::map(mem, 0x20_0000, 0x8000_0000, SAMPLES);
     usual::map(mem, 0x4000_0000, 0x1_0000_0000, VISIBILITIES);
@@ -20,21 +23,26 @@ fn look_at_both(mem: &[u8]) {
 
 fn hand_on(mem: &mut [u8]) {
     say::text(
-        b" both are full: the next stage gets them read-only, as soon as the caches were told\n",
+        b" both are full: the next stage gets them read-only, once every processor was told: INVLPG on each\n",
     );
     usual::read_only(mem, SAMPLES);
     usual::read_only(mem, VISIBILITIES);
 }
 
 fn take_back(mem: &mut [u8]) {
-    say::text(b" the next stage is done with them\n");
+    say::text(
+        b" the next stage is done with them. A table that becomes empty is set aside: out of use, but a processor may\n",
+    );
+    say::text(
+        b" still be walking through it, so that it is neither written nor handed out; the ticket names this moment, for the report\n",
+    );
     usual::unmap(mem, SAMPLES);
     usual::unmap(mem, VISIBILITIES);
 }
 
 fn report(mem: &mut [u8]) {
     say::text(
-        b" the caches of every processor are flushed, and the library is told, once for each ticket\n",
+        b" told: every processor has dropped what it had cached, and that is reported, with the ticket; what was set aside is free\n",
     );
     usual::told(mem, 1);
     usual::told(mem, 2);

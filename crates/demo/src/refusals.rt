@@ -39,7 +39,7 @@ fn overlaps(mem: &mut [u8]) {
 fn no_room(mem: &mut [u8]) {
     say::text(b" three tables are missing, one page is free\n");
     usual::map(mem, 0x1000, 0x30_0000, 0x80_0000_0000);
-    say::text(b" a ticket that was never handed out\n");
+    say::text(b" a ticket above the present one\n");
     usual::told(mem, 7);
 }
 

@@ -26,7 +26,7 @@ use Rattle.plan.specs.declared.descent.Way.{Way}
 use Rattle.plan.specs.declared.finding.Spot.{Spot}
 use Rattle.plan.specs.declared.unmaps.Removal.{Removal}
 use Rattle.word.specs.Scan.{besidesOf}
-use Rattle.plan.specs.Unmap.{cutWrites, cutBook, book1, book2, bookAfter, writesOf}
+use Rattle.plan.specs.Unmap.{cutWrites, cutBook, book1, book2, writesOf}
 use Rattle.effect.specs.UnmapDone.{asideMore}
 use Rattle.effect.specs.Whole.{Whole}
 use Rattle.effect.proofs.Emptying.{tableAt, levelAt, Empty, Emptied, keeps-no, keeps-yes}
@@ -48,10 +48,6 @@ cut-none sp k n parent i child b u = rw (le-leb n k u)
 cut-book : (sp : Space) (k n : ℕ) (b : Book) → k < n → cutBook sp k n b ≡ asideBook sp b
 unfolding cutBook
 cut-book sp k n b u = rw (lt-leb n k u)
-
-cut-no-book : (sp : Space) (k n : ℕ) (b : Book) → n ≤ k → cutBook sp k n b ≡ b
-unfolding cutBook
-cut-no-book sp k n b u = rw (le-leb n k u)
 
 -- three lists, of which the last ones may be empty
 gather0 : (x a b c : List Write) → a ≡ [] → b ≡ [] → c ≡ [] → x ++ (a ++ (b ++ c)) ≡ x
@@ -179,9 +175,6 @@ module _ {h : ℕ → Bool} {sp : Space} {m : ℕ → ℕ} {role : ℕ → Role}
     second : 1 < n → book2 sp (removal s n b) ≡ bookThen 2
     second u = cut-book sp 1 n (book1 sp (removal s n b)) u ∙ ap (asideBook sp) (first (omega arith)) ∙ book-next 1 (λ j v. f j (omega arith))
 
-    third : 2 < n → bookAfter sp (removal s n b) ≡ bookThen 3
-    third u = cut-book sp 2 n (book2 sp (removal s n b)) u ∙ ap (asideBook sp) (second (omega arith)) ∙ book-next 2 (λ j v. f j (omega arith))
-
     abbrev C0 : List Write
     C0 = cutWrites sp 0 n (s .way .b) (indexOf (s .way .level + 1) va) (s .way .a) b
 
@@ -220,13 +213,3 @@ module _ {h : ℕ → Bool} {sp : Space} {m : ℕ → ℕ} {role : ℕ → Role}
     pub writes-are : n ≤ 3 → writesOf sp va (removal s n b) ≡ cuts sp m va (s .way) n
     unfolding writesOf
     writes-are u = four (λ x. clear va (s .way) ++ (C0 ++ (C1 ++ C2)) ≡ cuts sp m va (s .way) x) n u list0 list1 list2 list3
-
-    -- the book that it goes on with is the book
-    pub book-is : n ≤ 3 → 0 < n → bookAfter sp (removal s n b) ≡ bookOf (after m (cuts sp m va (s .way) n)) sp
-    unfolding bookThen
-    book-is u v =
-        four (λ x. bookAfter sp (removal s n b) ≡ bookThen x) n u
-        (λ z. absurd (omega arith))
-        (λ z. cut-no-book sp 2 n _ (omega arith) ∙ cut-no-book sp 1 n _ (omega arith) ∙ first v)
-        (λ z. cut-no-book sp 2 n _ (omega arith) ∙ second (omega arith))
-        (λ z. third (omega arith))

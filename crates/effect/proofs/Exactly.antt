@@ -7,7 +7,7 @@ use native.Mathlib.Omega.{arith}
 use borrow.Author.Tests.{le-leb, lt-leb}
 use Rattle.entry.specs.declared.Rights.{Rights}
 use Rattle.tables.specs.Roles.{Role}
-use Rattle.pool.specs.Book.{Sound, ticketOf, dueOf}
+use Rattle.pool.specs.Book.{Sound, bookOf, ticketOf, ticketIn, dueOf}
 use Rattle.pool.specs.declared.Book.{Book}
 use Rattle.pool.specs.declared.Due.the-variants as due
 use Rattle.pool.specs.declared.Space.{Space}
@@ -42,7 +42,7 @@ one-cause : (x y : Reason) → changing.Refused x ≡ changing.Refused y → y �
 one-cause x y e = cc
 
 changes : (h : ℕ → Bool) (m : ℕ → ℕ) (sp : Space) (va : ℕ) (rights : Rights) (s : Spot) → foundOf h m sp va ≡ sought.Found s
-    → protect.decideOf h m sp va rights ≡ changing.Go (protect.changeOf va s rights)
+    → protect.decideOf h m sp va rights ≡ changing.Go (protect.changeOf va s rights (ticketIn (bookOf m sp)))
 unfolding protect.decideOf protect.changingOf
 changes h m sp va rights s f = rw f
 

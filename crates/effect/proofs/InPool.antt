@@ -11,7 +11,7 @@ use Rattle.entry.specs.Words.{withRights}
 use Rattle.entry.specs.declared.Rights.{Rights}
 use Rattle.walk.specs.Walk.{indexOf}
 use Rattle.walk.proofs.Digits.{index-lt}
-use Rattle.pool.specs.Book.{openedOf}
+use Rattle.pool.specs.Book.{bookOf, ticketIn, openedOf}
 use Rattle.pool.specs.Changes.{releaseWrites}
 use Rattle.pool.specs.Stands.{standsOf}
 use Rattle.pool.specs.declared.Space.{Space}
@@ -50,7 +50,7 @@ pub record ProtectWent (h : ℕ → Bool) (sp : Space) (c : Change) : Type 0 whe
   pub proper : Every (OfPool sp) (protect.writesOf c)
 
 module _ (h : ℕ → Bool) (m : ℕ → ℕ) (sp : Space) (va : ℕ) (g : Rights) (c : Change) where
-  change-went : (s : Spot) → FoundAt h m sp va s → ProtectWent h sp (protect.changeOf va s g)
+  change-went : (s : Spot) → FoundAt h m sp va s → ProtectWent h sp (protect.changeOf va s g (ticketIn (bookOf m sp)))
   unfolding protect.changeOf protect.writesOf
   change-went s f = record {
     fits = stands h sp (f .stands) .fits;
@@ -63,9 +63,9 @@ module _ (h : ℕ → Bool) (m : ℕ → ℕ) (sp : Space) (va : ℕ) (g : Right
   unfolding protect.decideOf protect.changingOf
   protect-went e = go (foundOf h m sp va) refl e
     where
-      go : (x : Sought) → foundOf h m sp va ≡ x → protect.changingOf va g x ≡ changing.Go c → ProtectWent h sp c
+      go : (x : Sought) → foundOf h m sp va ≡ x → protect.changingOf m sp va g x ≡ changing.Go c → ProtectWent h sp c
       go (sought.Refused y) f k = let z : _≡_ {A = ℕ} 0 1 = cc in absurd (omega arith)
-      go (sought.Found s) f k = let same : protect.changeOf va s g ≡ c = cc in subst (ProtectWent h sp) same (change-went s (found-at h m sp va s f))
+      go (sought.Found s) f k = let same : protect.changeOf va s g (ticketIn (bookOf m sp)) ≡ c = cc in subst (ProtectWent h sp) same (change-went s (found-at h m sp va s f))
 
   -- PROTECT WRITES TO THE POOL
   pub protect-in-pool : protect.decideOf h m sp va g ≡ changing.Go c → Every (OfPool sp) (protect.writesOf c)

@@ -21,10 +21,12 @@ use Rattle.walk.proofs.Digits.{index-lt}
 use Rattle.tables.specs.Roles.{Role}
 use Rattle.tables.specs.Operation.{Changed, changed-sound}
 use Rattle.tables.specs.Down.{protect-done}
+use Rattle.pool.specs.Book.{bookOf, ticketIn}
 use Rattle.pool.specs.Booked.{settingOf}
 use Rattle.pool.specs.declared.Space.{Space}
 use Rattle.pool.proofs.Booked.{Beside, book-beside, numbered-beside, booked-beside}
 use Rattle.pool.proofs.Counts.{InPool}
+use Rattle.pool.proofs.Tickets.{ticket-sound}
 use Rattle.plan.specs.declared.finding.Spot.{Spot}
 use Rattle.plan.specs.declared.finding.Sought.{Sought}
 use Rattle.plan.specs.declared.finding.Sought.the-variants as sought
@@ -48,16 +50,17 @@ with-rights-lt w r = numbers w _ _ _ (flag-lt (r .writable)) (flag-lt (r .user))
 
 -- the change that a decision is
 decided : (h : ℕ → Bool) (m : ℕ → ℕ) (sp : Space) (va : ℕ) (r : Rights) (c : Change) → decideOf h m sp va r ≡ Go c
-    → (s : Spot) × (foundOf h m sp va ≡ sought.Found s) × (changeOf va s r ≡ c)
+    → (s : Spot) × (foundOf h m sp va ≡ sought.Found s) × (changeOf va s r (ticketIn (bookOf m sp)) ≡ c)
 unfolding decideOf changingOf
 decided h m sp va r c e = go (foundOf h m sp va) refl e
   where
-    go : (x : Sought) → foundOf h m sp va ≡ x → changingOf va r x ≡ Go c → (s : Spot) × (foundOf h m sp va ≡ sought.Found s) × (changeOf va s r ≡ c)
+    go : (x : Sought) → foundOf h m sp va ≡ x → changingOf m sp va r x ≡ Go c
+        → (s : Spot) × (foundOf h m sp va ≡ sought.Found s) × (changeOf va s r (ticketIn (bookOf m sp)) ≡ c)
     go (sought.Found s) f k = (s, f, cc)
     go (sought.Refused y) f k = let z : _≡_ {A = ℕ} 0 1 = cc in absurd (omega arith)
 
 module _ {h : ℕ → Bool} {sp : Space} {m : ℕ → ℕ} {role : ℕ → Role} (w : Whole h sp m role) (va : ℕ) (r : Rights) where
-  changes : (s : Spot) → Located (settingOf h sp) m role va s → ProtectDone h sp m role va r (changeOf va s r)
+  changes : (s : Spot) → Located (settingOf h sp) m role va s → ProtectDone h sp m role va r (changeOf va s r (ticketIn (bookOf m sp)))
   unfolding changeOf writesOf after
   changes s k = record {
     level = l;
@@ -71,6 +74,7 @@ module _ {h : ℕ → Bool} {sp : Space} {m : ℕ → ℕ} {role : ℕ → Role}
     marks = rw (← k .traced .word) (with-rights-marks (s .way .word) r);
     proper = every-one q i v (in-of-pool here) (index-lt l va) (with-rights-lt (s .way .word) r);
     book = book-beside sp m xs beside;
+    ticket = ticket-sound (sp .pages) (bookOf m sp) (w .booked .sound);
     numbers = numbered-beside sp m xs beside (w .booked);
   }
     where

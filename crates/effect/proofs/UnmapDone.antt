@@ -20,6 +20,7 @@ use Rattle.pool.specs.declared.Space.{Space}
 use Rattle.pool.specs.declared.Book.{Book}
 use Rattle.pool.proofs.Counts.{is-sound}
 use Rattle.pool.proofs.Pages.{adds-up}
+use Rattle.pool.proofs.Tickets.{ticket-more}
 use Rattle.plan.specs.declared.Reason.{Reason}
 use Rattle.plan.specs.declared.finding.Spot.{Spot}
 use Rattle.plan.specs.declared.finding.Sought.{Sought}
@@ -29,10 +30,10 @@ use Rattle.plan.specs.declared.unmaps.Removing.the-variants.{Go, Refused}
 use Rattle.effect.specs.OfPool.{OfPool}
 use Rattle.plan.specs.Find.{foundOf}
 use Rattle.plan.specs.Map.{noBook}
-use Rattle.plan.specs.Unmap.{emptiedOf, bookedOf, openOf, removeOf, soughtOf, cutBook, bookAfter, decideOf, writesOf}
+use Rattle.plan.specs.Unmap.{emptiedOf, bookedOf, openOf, removeOf, soughtOf, decideOf, writesOf}
 use Rattle.effect.specs.UnmapDone.{asideMore, SetAside, UnmapDone}
 use Rattle.effect.specs.Whole.{Whole}
-use Rattle.effect.proofs.Cuts.{cuts, cutRoles, risen, last-level, cut-changed, removal, writes-are, book-is}
+use Rattle.effect.proofs.Cuts.{cuts, cutRoles, risen, last-level, cut-changed, removal, writes-are}
 use Rattle.effect.proofs.Emptying.{tableAt, levelAt, level-at, Emptied, emptied}
 use Rattle.plan.proofs.Found.{found-at}
 use Rattle.effect.proofs.Located.{Located, located}
@@ -47,10 +48,6 @@ book-read : (m : ℕ → ℕ) (sp : Space) (n : ℕ) → 0 < n → bookRead m sp
 unfolding bookRead
 book-read m sp n u = rw (ne-eqb n 0 (omega arith))
 
-none-read : (m : ℕ → ℕ) (sp : Space) (n : ℕ) → n ≡ 0 → bookRead m sp n ≡ noBook
-unfolding bookRead
-none-read m sp n e = rw (eq-eqb n 0 e)
-
 -- what was not found is not removed
 pub refused-so : (h : ℕ → Bool) (m : ℕ → ℕ) (sp : Space) (va : ℕ) (y : Reason) → foundOf h m sp va ≡ sought.Refused y → decideOf h m sp va ≡ Refused y
 unfolding decideOf soughtOf
@@ -62,8 +59,8 @@ refusal-clash r y e = cc
 module _ {h : ℕ → Bool} {sp : Space} {m : ℕ → ℕ} {role : ℕ → Role} (w : Whole h sp m role) (va : ℕ) where
   module _ (s : Spot) (k : Located (settingOf h sp) m role va s) where
     -- the removal of n tables, all of them
-    removed : (n : ℕ) (b : Book) → Emptied h m va (s .way) n → (0 < n → b ≡ bookOf m sp) → (n ≡ 0 → b ≡ noBook) → UnmapDone h sp m role va (removal s n b)
-    removed n b e f z = record {
+    removed : (n : ℕ) (b : Book) → Emptied h m va (s .way) n → (0 < n → b ≡ bookOf m sp) → UnmapDone h sp m role va (removal s n b)
+    removed n b e f = record {
       role' = role';
       size-is = k .size-is;
       aligned = rw (k .size-is) (k .aligned);
@@ -73,9 +70,8 @@ module _ {h : ℕ → Bool} {sp : Space} {m : ℕ → ℕ} {role : ℕ → Role}
       whole = subst (λ xs. Whole h sp (after m xs) role') same whole;
       proper = subst (Every (OfPool sp)) same (d .proper);
       is-low = omega (arith, level-at (s .way) n, last-level w va s k n (e .empty));
-      book = λ u. subst (λ xs. bookAfter sp (removal s n b) ≡ bookOf (after m xs) sp) same (book-is w va s k n b (e .empty) f (e .three) u);
-      none = λ u. unfold cutBook in rw u (z u);
-      counts = subst (λ xs. bookOf (after m xs) sp ≡ asideMore n (bookOf m sp)) same (d .book);
+      counts = counts;
+      ticket = ticket-more (sp .pages) (bookOf m sp) n (w .booked .sound) (omega (arith, few)) ∙ sym (ap ticketOf counts ∙ omega arith);
       fate = λ p. ticketed p (d .fate p);
       fewer = fewer;
       numbers = subst (λ xs. (p j : ℕ) → Numbered m sp p j → Numbered (after m xs) sp p j) same (d .numbers);
@@ -93,12 +89,18 @@ module _ {h : ℕ → Bool} {sp : Space} {m : ℕ → ℕ} {role : ℕ → Role}
         whole : Whole h sp (after m (cuts sp m va (s .way) n)) role'
         whole = record { stands = w .stands; small = w .small; sound = changed-sound (cut-changed w va s k n e); booked = d .booked }
 
-        -- where a table was set aside, the book that is answered is the book
+        -- so many pages more are set aside, and the pool has them
+        counts : bookOf (after m (writesOf sp va (removal s n b))) sp ≡ asideMore n (bookOf m sp)
+        counts = subst (λ xs. bookOf (after m xs) sp ≡ asideMore n (bookOf m sp)) same (d .book)
+
+        few : bookOf m sp .free + bookOf m sp .aside + n + bookPages (sp .pages) + 1 ≤ sp .pages
+        few = omega (arith, d .booked .sound .room, ap (λ (x : Book). x .free) (d .book), ap (λ (x : Book). x .aside) (d .book))
+
+        -- the same of the list that is written
         ticketed : (p : ℕ) → (role' p ≡ role p) ⊎ SetAside sp role role' (after m (cuts sp m va (s .way) n)) (ticketOf (bookOf m sp)) (ticketOf (bookOf m sp) + n) p
-            → (role' p ≡ role p) ⊎ SetAside sp role role' (after m (writesOf sp va (removal s n b))) (ticketOf (bookOf m sp)) (ticketOf (bookAfter sp (removal s n b))) p
+            → (role' p ≡ role p) ⊎ SetAside sp role role' (after m (writesOf sp va (removal s n b))) (ticketOf (bookOf m sp)) (ticketOf (bookOf m sp) + n) p
         ticketed p (inl o) = inl o
         ticketed p (inr o) =
-            let more : bookAfter sp (removal s n b) ≡ asideMore n (bookOf m sp) = book-is w va s k n b (e .empty) f (e .three) (omega (arith, o .since, o .below)) ∙ d .book in
             inr (record {
               levels = o .levels;
               parent = o .parent;
@@ -108,7 +110,7 @@ module _ {h : ℕ → Bool} {sp : Space} {m : ℕ → ℕ} {role : ℕ → Role}
               number = o .number;
               numbered = subst (λ xs. Numbered (after m xs) sp p (o .number)) same (o .numbered);
               since = o .since;
-              below = omega (arith, o .below, ap (λ (x : Book). x .tickets) more, ap (λ (x : Book). x .aside) more);
+              below = o .below;
             })
 
         fewer : tablesOf sp role ≡ tablesOf sp role' + n
@@ -146,7 +148,7 @@ module _ {h : ℕ → Bool} {sp : Space} {m : ℕ → ℕ} {role : ℕ → Role}
     unmapped-at f r e =
         let n = emptiedOf h m va (s .way) in
         subst (UnmapDone h sp m role va) (same-removal _ r (sym (unmap-decided f) ∙ e))
-        (removed n (bookRead m sp n) (emptied h m va (s .way)) (book-read m sp n) (none-read m sp n))
+        (removed n (bookRead m sp n) (emptied h m va (s .way)) (book-read m sp n))
 
   -- UNMAP, DONE
   pub unmapped : (r : Removal) → decideOf h m sp va ≡ Go r → UnmapDone h sp m role va r

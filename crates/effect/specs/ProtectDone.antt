@@ -12,7 +12,7 @@ use Rattle.walk.specs.declared.Found.the-variants as found
 use Rattle.tables.specs.Roles.{Role}
 use Rattle.tables.specs.Meaning.{meaning}
 use Rattle.tables.specs.Operation.{Changed}
-use Rattle.pool.specs.Book.{bookOf}
+use Rattle.pool.specs.Book.{bookOf, ticketOf}
 use Rattle.pool.specs.Booked.{settingOf, Numbered}
 use Rattle.pool.specs.declared.Space.{Space}
 use Rattle.plan.specs.declared.protects.Change.{Change}
@@ -22,7 +22,7 @@ use Rattle.effect.specs.Whole.{Whole}
 
 -- before: the page that started at va, whose frame and size it answers. changed: every address of the page has it with the new rights, by
 -- one write; no other address changes; the roles stay. kept, marks: of the entry only the rights changed. proper: it writes to the pool.
--- book, numbers: the book is as it was.
+-- book, numbers: the book is as it was; ticket: what it answers is the ticket of that book.
 pub record ProtectDone (h : ℕ → Bool) (sp : Space) (m : ℕ → ℕ) (role : ℕ → Role) (va : ℕ) (rights : Rights) (c : Change) : Type 0 where
   pub level : ℕ
   pub size-is : c .size ≡ sizeOf level
@@ -35,4 +35,5 @@ pub record ProtectDone (h : ℕ → Bool) (sp : Space) (m : ℕ → ℕ) (role :
   pub marks : c .word / 32 % 4 ≡ m (at (c .table) (c .index)) / 32 % 4
   pub proper : Every (OfPool sp) (writesOf c)
   pub book : bookOf (after m (writesOf c)) sp ≡ bookOf m sp
+  pub ticket : c .ticket ≡ ticketOf (bookOf m sp)
   pub numbers : (p n : ℕ) → Numbered m sp p n → Numbered (after m (writesOf c)) sp p n

@@ -11,14 +11,13 @@ use Rattle.walk.specs.declared.Found.the-variants as found
 use Rattle.tables.specs.Roles.{Role, aside, table}
 use Rattle.tables.specs.Meaning.{meaning}
 use Rattle.tables.specs.Operation.{Changed}
-use Rattle.pool.specs.Book.{bookOf, ticketOf}
+use Rattle.pool.specs.Book.{bookOf, ticketOf, ticketAfter}
 use Rattle.pool.specs.Booked.{settingOf, Numbered, tablesOf}
 use Rattle.pool.specs.declared.Space.{Space}
 use Rattle.pool.specs.declared.Book.{Book}
 use Rattle.plan.specs.declared.unmaps.Removal.{Removal}
 use Rattle.effect.specs.OfPool.{OfPool}
-use Rattle.plan.specs.Map.{noBook}
-use Rattle.plan.specs.Unmap.{low, bookAfter, writesOf}
+use Rattle.plan.specs.Unmap.{low, writesOf}
 use Rattle.effect.specs.Whole.{Whole}
 
 -- a book with n pages more set aside
@@ -38,9 +37,9 @@ pub record SetAside (sp : Space) (role role' : ℕ → Role) (m' : ℕ → ℕ) 
   pub below : number < upto
 
 -- before: the page that started at va, whose frame and size it answers. changed: every address of the page means nothing now, by one write; no
--- other address changes; empty tables are unlinked. book, none: the book that it carries is the book; an empty one where no table was set
--- aside. fate: each page has its role still, or was a table and is set aside, with a number below the ticket; fewer: so many of them.
--- proper: it writes to the pool.
+-- other address changes; empty tables are unlinked. counts: so many pages more are set aside, and no count else changes; ticket: what it
+-- answers is the ticket of that book. fate: each page has its role still, or was a table and is set aside, with a number below the ticket;
+-- fewer: so many of them. proper: it writes to the pool.
 pub record UnmapDone (h : ℕ → Bool) (sp : Space) (m : ℕ → ℕ) (role : ℕ → Role) (va : ℕ) (r : Removal) : Type 0 where
   pub role' : ℕ → Role
   pub size-is : r .spot .size ≡ sizeOf (r .spot .way .level)
@@ -51,9 +50,8 @@ pub record UnmapDone (h : ℕ → Bool) (sp : Space) (m : ℕ → ℕ) (role : �
   pub whole : Whole h sp (after m (writesOf sp va r)) role'
   pub proper : Every (OfPool sp) (writesOf sp va r)
   pub is-low : low r
-  pub book : 0 < r .empties → bookAfter sp r ≡ bookOf (after m (writesOf sp va r)) sp
-  pub none : r .empties ≡ 0 → bookAfter sp r ≡ noBook
   pub counts : bookOf (after m (writesOf sp va r)) sp ≡ asideMore (r .empties) (bookOf m sp)
-  pub fate : (p : ℕ) → (role' p ≡ role p) ⊎ SetAside sp role role' (after m (writesOf sp va r)) (ticketOf (bookOf m sp)) (ticketOf (bookAfter sp r)) p
+  pub ticket : ticketAfter (bookOf m sp) (r .empties) ≡ ticketOf (bookOf (after m (writesOf sp va r)) sp)
+  pub fate : (p : ℕ) → (role' p ≡ role p) ⊎ SetAside sp role role' (after m (writesOf sp va r)) (ticketOf (bookOf m sp)) (ticketOf (bookOf m sp) + r .empties) p
   pub fewer : tablesOf sp role ≡ tablesOf sp role' + r .empties
   pub numbers : (p n : ℕ) → Numbered m sp p n → Numbered (after m (writesOf sp va r)) sp p n

@@ -14,7 +14,7 @@ use Rattle.plan.specs.declared.building.Reached.{Reached}
 use Rattle.pool.specs.declared.Space.{Space}
 use Rattle.pool.specs.declared.Book.{Book}
 use Rattle.plan.specs.declared.unmaps.Removal.{Removal}
-use Rattle.plan.specs.Unmap.{cutBook, cutWrites, book1, book2, bookAfter, writesOf}
+use Rattle.plan.specs.Unmap.{cutBook, cutWrites, book1, book2, writesOf}
 use Rattle.plan.specs.Map.{nextOf, growOf, reached0, reached1, reached2, reached3, buildOf}
 
 -- Map -------------------------------------------------------------------------------------------------------------------------
@@ -52,26 +52,25 @@ build-wrote m origin n0 n1 n2 n3 n4 x0 x1 x2 x3 x4 s1 s2 s3 i u e1 e2 e3 f1 f2 f
 -- Unmap -----------------------------------------------------------------------------------------------------------------------
 
 -- the page's entry and the tables that became empty, as the functions of unmap write them
-pub cuts-wrote : (sp : Space) (va : ℕ) (r : Removal) (n0 n1 n2 n3 n4 : ℕ) (x0 x1 x2 x3 x4 : List ℕ) (b1 b2 b3 : Book) (i : ℕ) → i ≡ indexOf (r .spot .way .level) va
+pub cuts-wrote : (sp : Space) (va : ℕ) (r : Removal) (n0 n1 n2 n3 n4 : ℕ) (x0 x1 x2 x3 x4 : List ℕ) (b1 b2 : Book) (i : ℕ) → i ≡ indexOf (r .spot .way .level) va
     → Wrote (sp .origin) (write (r .spot .way .a) i 0 ∷ []) n0 n1 x0 x1
-    → b1 ≡ cutBook sp 0 (r .empties) (r .book) → b2 ≡ cutBook sp 1 (r .empties) b1 → b3 ≡ cutBook sp 2 (r .empties) b2
+    → b1 ≡ cutBook sp 0 (r .empties) (r .book) → b2 ≡ cutBook sp 1 (r .empties) b1
     → Wrote (sp .origin) (cutWrites sp 0 (r .empties) (r .spot .way .b) (indexOf (r .spot .way .level + 1) va) (r .spot .way .a) (r .book)) n1 n2 x1 x2
     → Wrote (sp .origin) (cutWrites sp 1 (r .empties) (r .spot .way .c) (indexOf (r .spot .way .level + 2) va) (r .spot .way .b) b1) n2 n3 x2 x3
     → Wrote (sp .origin) (cutWrites sp 2 (r .empties) (r .spot .way .d) (indexOf (r .spot .way .level + 3) va) (r .spot .way .c) b2) n3 n4 x3 x4
-    → (b3 ≡ bookAfter sp r) × Wrote (sp .origin) (writesOf sp va r) n0 n4 x0 x4
+    → Wrote (sp .origin) (writesOf sp va r) n0 n4 x0 x4
 unfolding writesOf
-cuts-wrote sp va r n0 n1 n2 n3 n4 x0 x1 x2 x3 x4 b1 b2 b3 i g f1 e1 e2 e3 f2 f3 f4 =
+cuts-wrote sp va r n0 n1 n2 n3 n4 x0 x1 x2 x3 x4 b1 b2 i g f1 e1 e2 f2 f3 f4 =
     let c2 : b2 ≡ book2 sp r = e2 ∙ ap (cutBook sp 1 (r .empties)) e1 in
     let h1 = subst (λ (k : ℕ). Wrote (sp .origin) (write (r .spot .way .a) k 0 ∷ []) n0 n1 x0 x1) g f1 in
     let h3 =
     subst (λ (b : Book). Wrote (sp .origin) (cutWrites sp 1 (r .empties) (r .spot .way .c) (indexOf (r .spot .way .level + 2) va) (r .spot .way .b) b) n2 n3 x2 x3) e1 f3 in
     let h4 =
     subst (λ (b : Book). Wrote (sp .origin) (cutWrites sp 2 (r .empties) (r .spot .way .d) (indexOf (r .spot .way .level + 3) va) (r .spot .way .c) b) n3 n4 x3 x4) c2 f4 in
-    let all = wrote-then _ _ _ n0 n1 n4 x0 x1 x4 h1 (wrote-then _ _ _ n1 n2 n4 x1 x2 x4 f2 (wrote-then _ _ _ n2 n3 n4 x2 x3 x4 h3 h4)) in
-    (e3 ∙ ap (cutBook sp 2 (r .empties)) c2, all)
+    wrote-then _ _ _ n0 n1 n4 x0 x1 x4 h1 (wrote-then _ _ _ n1 n2 n4 x1 x2 x4 f2 (wrote-then _ _ _ n2 n3 n4 x2 x3 x4 h3 h4))
 
 -- the page's entry alone, where no table becomes empty
 pub cuts-none : (sp : Space) (va : ℕ) (r : Removal) (n0 n1 : ℕ) (x0 x1 : List ℕ) (i : ℕ) → r .empties ≡ 0 → i ≡ indexOf (r .spot .way .level) va
-    → Wrote (sp .origin) (write (r .spot .way .a) i 0 ∷ []) n0 n1 x0 x1 → (r .book ≡ bookAfter sp r) × Wrote (sp .origin) (writesOf sp va r) n0 n1 x0 x1
-unfolding writesOf cutWrites cutBook
-cuts-none sp va r n0 n1 x0 x1 i e g f = (simp e, simp e (subst (λ (k : ℕ). Wrote (sp .origin) (write (r .spot .way .a) k 0 ∷ []) n0 n1 x0 x1) g f))
+    → Wrote (sp .origin) (write (r .spot .way .a) i 0 ∷ []) n0 n1 x0 x1 → Wrote (sp .origin) (writesOf sp va r) n0 n1 x0 x1
+unfolding writesOf cutWrites
+cuts-none sp va r n0 n1 x0 x1 i e g f = simp e (subst (λ (k : ℕ). Wrote (sp .origin) (write (r .spot .way .a) k 0 ∷ []) n0 n1 x0 x1) g f)

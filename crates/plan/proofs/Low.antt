@@ -1,23 +1,21 @@
--- Of any bytes: a plan's levels are levels, and its ticket is a number of 64 bits.
+-- Of any bytes: a plan's levels are levels.
 use Prim.Native.Nat.{ℕ, _+_, _-_, _^_, _<_, _≤_}
 use mathlib.Core.Bool.{Bool, true, false, cond}
 use mathlib.Core.List.{List}
 use mathlib.Core.Path.{_≡_, refl, subst}
 use native.Mathlib.Omega.{arith}
-use borrow.Author.Tests.{leb-false, lt-ltb}
+use borrow.Author.Tests.{leb-false}
 use lib.Dec.{leb, ltb, eqb}
 use Rattle.word.specs.Memory.{holds}
 use Rattle.word.specs.Scan.{besidesOf}
 use Rattle.word.proofs.Memory.{held}
-use Rattle.word.proofs.Tests.{and-both}
 use Rattle.entry.specs.Words.{madePage}
 use Rattle.entry.specs.declared.Entry.the-variants as entry
 use Rattle.entry.specs.declared.Made.{Made}
 use Rattle.entry.specs.declared.Made.the-variants as made
 use Rattle.walk.specs.Walk.{indexOf}
-use Rattle.pool.specs.Book.{namesOf, soundOf, ticketOf, ticketIn, openedOf, listedOf}
+use Rattle.pool.specs.Book.{namesOf, openedOf, listedOf, roomOf}
 use Rattle.pool.specs.Stands.{takesOf}
-use Rattle.pool.specs.Changes.{asideBook}
 use Rattle.pool.specs.declared.Space.{Space}
 use Rattle.pool.specs.declared.Book.{Book}
 use Rattle.pool.specs.declared.Fit.{Fit}
@@ -26,7 +24,6 @@ use Rattle.pool.specs.declared.Opened.{Opened}
 use Rattle.pool.specs.declared.Opened.the-variants as opened
 use Rattle.pool.specs.declared.Listed.{Listed}
 use Rattle.pool.specs.declared.Listed.the-variants as listed
-use Rattle.pool.proofs.Counts.{sound-is}
 use Rattle.pool.proofs.Listing.{listed-usable}
 use Rattle.pool.proofs.Opening as opening
 use Rattle.pool.proofs.Opening.{open-shows}
@@ -36,6 +33,7 @@ use Rattle.plan.specs.Map.{Low, Buildable}
 use Rattle.plan.specs.Unmap as unmap
 use Rattle.plan.specs.Find.{foundOf}
 use Rattle.plan.proofs.Found.{found-at}
+use Rattle.plan.proofs.Standing.{stands}
 use Rattle.plan.specs.declared.Reason.the-variants.{FrameInPool, NoRoom, Pool}
 use Rattle.plan.specs.declared.maps.Asked.{Asked}
 use Rattle.plan.specs.declared.maps.Mapping.{Mapping}
@@ -167,75 +165,57 @@ emptied-low h m va w u =
     go false false false false false true ea eb ec = omega (arith, leb-false 1 (w .level) ec)
     go false false false false false false ea eb ec = omega (arith, leb-false 1 (w .level) ec)
 
--- what a decision to go shows: the levels, the index, and that the ticket fits
-pub record Fitting (sp : Space) (va : ℕ) (r : Removal) : Type 0 where
+-- what a decision to go shows: the levels, and the index
+pub record Fitting (va : ℕ) (r : Removal) : Type 0 where
   pub low : unmap.low r
   pub index : r .spot .index ≡ indexOf (r .spot .way .level) va
-  pub ticket : ticketOf (unmap.bookAfter sp r) < 2 ^ 64
-
--- setting aside at most adds one
-aside-ticket : (sp : Space) (b : Book) → ticketOf (asideBook sp b) ≤ ticketOf b + 1
-unfolding asideBook
-aside-ticket sp b = go (soundOf (sp .pages) b)
-  where
-    go : (t : Bool) → ticketOf (cond t (record { head = b .head; free = b .free; aside = b .aside + 1; tickets = b .tickets }) b) ≤ ticketOf b + 1
-    go true = omega arith
-    go false = omega arith
-
-cut-ticket : (sp : Space) (k n : ℕ) (b : Book) → ticketOf (unmap.cutBook sp k n b) ≤ ticketOf b + 1
-unfolding unmap.cutBook
-cut-ticket sp k n b = go (leb n k)
-  where
-    go : (t : Bool) → ticketOf (cond t b (asideBook sp b)) ≤ ticketOf b + 1
-    go true = omega arith
-    go false = aside-ticket sp b
-
-after-ticket : (sp : Space) (r : Removal) → ticketOf (unmap.bookAfter sp r) ≤ ticketOf (r .book) + 3
-after-ticket sp r =
-    omega (arith, cut-ticket sp 2 (r .empties) (unmap.book2 sp r), cut-ticket sp 1 (r .empties) (unmap.book1 sp r), cut-ticket sp 0 (r .empties) (r .book))
 
 module _ (h : ℕ → Bool) (m : ℕ → ℕ) (sp : Space) (va : ℕ) (r : Removal) where
-  clash : _≡_ {A = ℕ} 0 1 → Fitting sp va r
+  clash : _≡_ {A = ℕ} 0 1 → Fitting va r
   clash z = absurd (omega arith)
 
-  booked-fits : (s : Spot) (n : ℕ) → s .way .level + n < 4 → s .index ≡ indexOf (s .way .level) va → (b : Book) → unmap.bookedOf sp s n b ≡ removing.Go r → Fitting sp va r
+  booked-fits : (s : Spot) (n : ℕ) → s .way .level + n < 4 → s .index ≡ indexOf (s .way .level) va → (b : Book) → unmap.bookedOf sp s n b ≡ removing.Go r → Fitting va r
   unfolding unmap.bookedOf
-  booked-fits s n u i b e = go (takesOf sp b n) refl e
+  booked-fits s n u i b e = go (takesOf sp b n) e
     where
-      go : (t : Bool) → takesOf sp b n ≡ t → cond t (removing.Go (record { spot = s; empties = n; book = b })) (removing.Refused (Pool BadBook)) ≡ removing.Go r
-          → Fitting sp va r
-      go false et k = clash cc
-      go true et k =
+      go : (t : Bool) → cond t (removing.Go (record { spot = s; empties = n; book = b })) (removing.Refused (Pool BadBook)) ≡ removing.Go r
+          → Fitting va r
+      go false k = clash cc
+      go true k =
           let same : record { spot = s; empties = n; book = b } ≡ r = cc in
-          let o = sound-is (sp .pages) b (unfold takesOf in and-both _ _ et .0) in
-          subst (Fitting sp va) same (record { low = u; index = i; ticket = omega (arith, after-ticket sp (record { spot = s; empties = n; book = b }), o .early, o .small, o .room) })
+          subst (Fitting va) same (record { low = u; index = i })
 
-  opened-fits : (s : Spot) (n : ℕ) → s .way .level + n < 4 → s .index ≡ indexOf (s .way .level) va → (x : Opened) → unmap.openOf sp s n x ≡ removing.Go r → Fitting sp va r
+  opened-fits : (s : Spot) (n : ℕ) → s .way .level + n < 4 → s .index ≡ indexOf (s .way .level) va → (x : Opened) → unmap.openOf sp s n x ≡ removing.Go r → Fitting va r
   unfolding unmap.openOf
   opened-fits s n u i (opened.Book b) e = booked-fits s n u i b e
   opened-fits s n u i (opened.Refused y) e = clash cc
 
-  remove-fits : (s : Spot) (n : ℕ) → s .way .level + n < 4 → s .index ≡ indexOf (s .way .level) va → unmap.removeOf h m sp s n ≡ removing.Go r → Fitting sp va r
+  remove-fits : (s : Spot) (n : ℕ) → s .way .level + n < 4 → s .index ≡ indexOf (s .way .level) va → unmap.removeOf h m sp s n ≡ removing.Go r → Fitting va r
   unfolding unmap.removeOf
   remove-fits s n u i e = go (eqb n 0) e
     where
-      go : (t : Bool) → cond t (removing.Go (record { spot = s; empties = 0; book = map.noBook })) (unmap.openOf sp s n (openedOf h m sp)) ≡ removing.Go r → Fitting sp va r
+      go : (t : Bool) → cond t (removing.Go (record { spot = s; empties = 0; book = map.noBook })) (unmap.openOf sp s n (openedOf h m sp)) ≡ removing.Go r → Fitting va r
       go true k =
           let same : record { spot = s; empties = 0; book = map.noBook } ≡ r = cc in
-          subst (Fitting sp va) same (record { low = omega arith; index = i; ticket = omega (arith, after-ticket sp (record { spot = s; empties = 0; book = map.noBook })) })
+          subst (Fitting va) same (record { low = omega arith; index = i })
       go false k = opened-fits s n u i (openedOf h m sp) k
 
-  sought-fits : (x : Sought) → foundOf h m sp va ≡ x → unmap.soughtOf h m sp va x ≡ removing.Go r → Fitting sp va r
+  sought-fits : (x : Sought) → foundOf h m sp va ≡ x → unmap.soughtOf h m sp va x ≡ removing.Go r → Fitting va r
   unfolding unmap.soughtOf
   sought-fits (sought.Refused y) ex e = clash cc
   sought-fits (sought.Found s) ex e =
       let k = found-at h m sp va s ex in
       remove-fits s (unmap.emptiedOf h m va (s .way)) (emptied-low h m va (s .way) (k .low)) (k .index) e
 
-  pub unmap-fits : unmap.decideOf h m sp va ≡ removing.Go r → Fitting sp va r
+  pub unmap-fits : unmap.decideOf h m sp va ≡ removing.Go r → Fitting va r
   unfolding unmap.decideOf
   unmap-fits e = sought-fits (foundOf h m sp va) refl e
 
-pub ticket-is : (sp : Space) (va : ℕ) (r : Removal) → Fitting sp va r → ticketIn (unmap.bookAfter sp r) ≡ ticketOf (unmap.bookAfter sp r)
-unfolding ticketIn
-ticket-is sp va r f = simp (lt-ltb (ticketOf (unmap.bookAfter sp r)) (2 ^ 64) (f .ticket))
+  -- and that the pool lies in the window
+  pub unmap-room : unmap.decideOf h m sp va ≡ removing.Go r → roomOf h (sp .first) (sp .pages) ≡ fit.Fits
+  unfolding unmap.decideOf unmap.soughtOf
+  unmap-room e = go (foundOf h m sp va) refl e
+    where
+      go : (x : Sought) → foundOf h m sp va ≡ x → unmap.soughtOf h m sp va x ≡ removing.Go r → roomOf h (sp .first) (sp .pages) ≡ fit.Fits
+      go (sought.Found s) f k = stands h sp (found-at h m sp va s f .stands) .room
+      go (sought.Refused y) f k = let z : _≡_ {A = ℕ} 0 1 = cc in absurd (omega arith)

@@ -12,6 +12,7 @@ use Rattle.pool.specs.declared.Reason.the-variants.{BadRoot}
 use Rattle.pool.proofs.Opening.{Fitting, fitting}
 
 pub record Stands (h : ℕ → Bool) (sp : Space) : Type 0 where
+  pub room : roomOf h (sp .first) (sp .pages) ≡ Fits
   pub fits : Fitting h (sp .first) (sp .pages)
   pub root : inPool sp (sp .root) ≡ true
 
@@ -20,6 +21,6 @@ unfolding standsOf rootedIn
 stands h sp e = go (roomOf h (sp .first) (sp .pages)) (inPool sp (sp .root)) refl refl e
   where
     go : (x : Fit) (b : Bool) → roomOf h (sp .first) (sp .pages) ≡ x → inPool sp (sp .root) ≡ b → rootedIn sp x ≡ Fits → Stands h sp
-    go Fits true ex eb k = record { fits = fitting h (sp .first) (sp .pages) ex; root = eb }
+    go Fits true ex eb k = record { room = ex; fits = fitting h (sp .first) (sp .pages) ex; root = eb }
     go Fits false ex eb k = let z : _≡_ {A = ℕ} 0 1 = cc eb in absurd (omega arith)
     go (Refused r) b ex eb k = let z : _≡_ {A = ℕ} 0 1 = cc in absurd (omega arith)

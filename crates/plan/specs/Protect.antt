@@ -6,6 +6,7 @@ use Rattle.word.specs.Writes.{Write, write}
 use Rattle.entry.specs.Words.{withRights}
 use Rattle.entry.specs.declared.Rights.{Rights}
 use Rattle.walk.specs.Walk.{indexOf}
+use Rattle.pool.specs.Book.{bookOf, ticketIn}
 use Rattle.pool.specs.declared.Space.{Space}
 use Rattle.plan.specs.declared.finding.Spot.{Spot}
 use Rattle.plan.specs.declared.finding.Sought.{Sought}
@@ -15,22 +16,24 @@ use Rattle.plan.specs.declared.protects.Changing.{Changing}
 use Rattle.plan.specs.declared.protects.Changing.the-variants.{Go, Refused}
 use Rattle.plan.specs.Find.{foundOf}
 
-unfoldable pub changeOf : ℕ → Spot → Rights → Change
-changeOf va s r = record {
+unfoldable pub changeOf : ℕ → Spot → Rights → ℕ → Change
+changeOf va s r t = record {
   table = s .way .a;
   index = indexOf (s .way .level) va;
   word = withRights (s .way .word) r;
   frame = s .frame;
   size = s .size;
+  ticket = t;
 }
 
-unfoldable pub changingOf : ℕ → Rights → Sought → Changing
-changingOf va r (sought.Found s) = Go (changeOf va s r)
-changingOf va r (sought.Refused y) = Refused y
+-- with the ticket of the book as it stands: protect writes nothing to it
+unfoldable pub changingOf : (ℕ → ℕ) → Space → ℕ → Rights → Sought → Changing
+changingOf m sp va r (sought.Found s) = Go (changeOf va s r (ticketIn (bookOf m sp)))
+changingOf m sp va r (sought.Refused y) = Refused y
 
 -- WHAT PROTECT DECIDES
 unfoldable pub decideOf : (ℕ → Bool) → (ℕ → ℕ) → Space → ℕ → Rights → Changing
-decideOf h m sp va r = changingOf va r (foundOf h m sp va)
+decideOf h m sp va r = changingOf m sp va r (foundOf h m sp va)
 
 -- what it writes
 unfoldable pub writesOf : Change → List Write

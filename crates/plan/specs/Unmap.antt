@@ -7,7 +7,7 @@ use Rattle.word.specs.Scan.{besidesOf}
 use Rattle.word.specs.Writes.{Write, write}
 use Rattle.walk.specs.Walk.{indexOf}
 use Rattle.pool.specs.Stands.{takesOf}
-use Rattle.pool.specs.Book.{openedOf, ticketOf}
+use Rattle.pool.specs.Book.{bookOf, openedOf, ticketAfter}
 use Rattle.pool.specs.Changes.{asideWrites, asideBook}
 use Rattle.pool.specs.declared.Space.{Space}
 use Rattle.pool.specs.declared.Book.{Book}
@@ -79,10 +79,6 @@ book1 sp r = cutBook sp 0 (r .empties) (r .book)
 abbrev pub book2 : Space → Removal → Book
 book2 sp r = cutBook sp 1 (r .empties) (book1 sp r)
 
--- the book after it
-abbrev pub bookAfter : Space → Removal → Book
-bookAfter sp r = cutBook sp 2 (r .empties) (book2 sp r)
-
 -- WHAT UNMAP WRITES: the page's entry, then for each table that became empty its parent's entry and the book
 unfoldable pub writesOf : Space → ℕ → Removal → List Write
 writesOf sp va r =
@@ -95,7 +91,7 @@ unfoldable pub didOf : Space → ℕ → Removing → List Write
 didOf sp va (Go r) = writesOf sp va r
 didOf sp va (Refused y) = []
 
--- what is done, and the ticket of the book after it
-unfoldable pub unmappingOf : Space → Removing → Unmapping
-unmappingOf sp (Go r) = unmapping.Done r (ticketOf (bookAfter sp r))
-unmappingOf sp (Refused y) = unmapping.Refused y
+-- what is done, and the ticket of the book after it: so many pages more are set aside
+unfoldable pub unmappingOf : (ℕ → ℕ) → Space → Removing → Unmapping
+unmappingOf m sp (Go r) = unmapping.Done r (ticketAfter (bookOf m sp) (r .empties))
+unmappingOf m sp (Refused y) = unmapping.Refused y

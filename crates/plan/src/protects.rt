@@ -11,13 +11,14 @@ use crate::finding::find;
 use entry::Rights;
 use pool::Space;
 
-// The entry that changes, and its word.
+// The entry that changes, and its word; the page's frame and size; and the ticket of the moment.
 pub struct Change {
     pub table: u64,
     pub index: u64,
     pub word: u64,
     pub frame: u64,
     pub size: u64,
+    pub ticket: u64,
 }
 
 pub enum Changing {
@@ -25,8 +26,8 @@ pub enum Changing {
     Refused(Reason),
 }
 
-fn changed(va: u64, s: Spot, rights: Rights) -> Change
-    ensures { λ r. ⌜ (s .index ≡ indexOf (s .way .level) va → r ≡ the.changeOf va s rights) ⌝ }
+fn changed(va: u64, s: Spot, rights: Rights, ticket: u64) -> Change
+    ensures { λ r. ⌜ (s .index ≡ indexOf (s .way .level) va → r ≡ the.changeOf va s rights ticket) ⌝ }
 {
     let w = s.way;
     Change {
@@ -35,6 +36,7 @@ fn changed(va: u64, s: Spot, rights: Rights) -> Change
         word: entry::with_rights(w.word, rights),
         frame: s.frame,
         size: s.size,
+        ticket: ticket,
     }
 }
 
@@ -45,7 +47,10 @@ fn decide_protect(mem: &[u8], space: Space, va: u64, rights: Rights) -> Changing
     let s = find(mem, space, va);
     match s {
         Sought::Refused(r) => Changing::Refused(r),
-        Sought::Found(p) => Changing::Go(changed(va, p, rights)),
+        Sought::Found(p) => {
+            let ticket = pool::ticket(pool::book_now(mem, space));
+            Changing::Go(changed(va, p, rights, ticket))
+        }
     }
 }
 

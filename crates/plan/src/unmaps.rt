@@ -135,10 +135,8 @@ fn cut(
     pool::set_aside(mem, left, space, b, child)
 }
 
-// Answers the book after it.
-fn carry_unmap(mem: &mut [u8], left: &mut u64, space: Space, va: u64, r: Removal) -> Book
+fn carry_unmap(mem: &mut [u8], left: &mut u64, space: Space, va: u64, r: Removal)
     requires { ⌜ (the.low r) × (r .spot .index ≡ indexOf (r .spot .way .level) va) ⌝ }
-    ensures { λ b. ⌜ b ≡ the.bookAfter space r ⌝ }
     ensures { λ _. ⌜ Wrote (space .origin) (the.writesOf space va r) (now (left .entry)) (now (left .exit)) (now (mem .entry)) (now (mem .exit)) ⌝ }
 {
     let s = r.spot;
@@ -148,26 +146,27 @@ fn carry_unmap(mem: &mut [u8], left: &mut u64, space: Space, va: u64, r: Removal
     let b0 = r.book;
     word::write(mem, left, space.origin, w.a, s.index, 0);
     if n == 0 {
-        return b0;
+        return;
     }
     // A copy, so that the space itself need not lie in memory where nothing becomes empty.
     let sp = space;
     let b1 = cut(mem, left, sp, va, 0, n, w.b, l + 1, w.a, b0);
     let b2 = cut(mem, left, sp, va, 1, n, w.c, l + 2, w.b, b1);
-    cut(mem, left, sp, va, 2, n, w.d, l + 3, w.c, b2)
+    cut(mem, left, sp, va, 2, n, w.d, l + 3, w.c, b2);
 }
 
-// Unmaps, and answers the ticket of the book after it; or refuses and writes nothing.
+// Unmaps, and answers the ticket of the book after it, by the counts before; or refuses and writes nothing.
 pub fn unmap(mem: &mut [u8], left: &mut u64, space: Space, va: u64) -> Unmapping
-    ensures answer { λ r. ⌜ r ≡ the.unmappingOf space (the.decideOf (holds (now (mem .entry)) (space .origin)) (memory (now (mem .entry)) (space .origin)) space va) ⌝ }
+    ensures answer { λ r. ⌜ r ≡ the.unmappingOf (memory (now (mem .entry)) (space .origin)) space (the.decideOf (holds (now (mem .entry)) (space .origin)) (memory (now (mem .entry)) (space .origin)) space va) ⌝ }
     ensures order { λ _. ⌜ Wrote (space .origin) (the.didOf space va (the.decideOf (holds (now (mem .entry)) (space .origin)) (memory (now (mem .entry)) (space .origin)) space va)) (now (left .entry)) (now (left .exit)) (now (mem .entry)) (now (mem .exit)) ⌝ }
 {
     let d = decide_unmap(mem, space, va);
     match d {
         Removing::Refused(r) => Unmapping::Refused(r),
         Removing::Go(p) => {
-            let b = carry_unmap(mem, left, space, va, p);
-            Unmapping::Done(p, pool::ticket(b))
+            let ticket = pool::ticket_after(pool::book_now(mem, space), p.empties);
+            carry_unmap(mem, left, space, va, p);
+            Unmapping::Done(p, ticket)
         }
     }
 }

@@ -16,3 +16,4 @@ pub mod NewRoles
 pub mod Fresh
 pub mod Makes
 pub mod Interrupted
+pub mod Tickets

@@ -1,7 +1,7 @@
 -- The book of a pool, in the pool's first pages; Layout.antt says which word of it is what. Word k is entry k % 512 of the pool's page k / 512.
 -- The slots are a ring. From the head on it lists the free pages, oldest first, and right behind them the pages set aside, oldest first.
 -- Everything here is over a memory m, with h: which pages lie in the window.
-use Prim.Native.Nat.{ℕ, _+_, _-_, _*_, _/_, _^_, _<_, _≤_}
+use Prim.Native.Nat.{ℕ, _+_, _-_, _*_, _/_, _%_, _^_, _<_, _≤_}
 use mathlib.Core.Bool.{Bool, cond, _&&_, not}
 use lib.Dec.{leb, ltb, eqb}
 use Rattle.pool.specs.declared.Space.{Space}
@@ -117,9 +117,13 @@ listedOf h m sp b k =
 abbrev pub ticketOf : Book → ℕ
 ticketOf b = b .tickets + b .aside
 
--- the same as a number of 64 bits; a book that was opened has no larger one
+-- the same as a number of 64 bits; a book that can be has no larger one
 unfoldable pub ticketIn : Book → ℕ
-ticketIn b = cond (ltb (ticketOf b) (2 ^ 64)) (ticketOf b) 0
+ticketIn b = ticketOf b % 2 ^ 64
+
+-- and once n pages more are set aside
+unfoldable pub ticketAfter : Book → ℕ → ℕ
+ticketAfter b n = (ticketIn b + n) % 2 ^ 64
 
 -- how many pages a report of this ticket releases: those whose number is below it
 unfoldable pub dueOf : Book → ℕ → Due

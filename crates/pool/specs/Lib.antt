@@ -4,3 +4,4 @@ pub mod Changes
 pub mod Create
 pub mod Booked
 pub mod Stands
+pub mod State

@@ -16,6 +16,7 @@ mod bounds;
 mod header;
 mod layout;
 mod making;
+mod moment;
 
 use bounds::book_of;
 pub use bounds::entry;
@@ -29,6 +30,10 @@ use layout::HEAD_AT;
 pub use layout::HEADER;
 pub use layout::TICKETS_AT;
 pub use making::create;
+pub use moment::Counts;
+pub use moment::Stated;
+pub use moment::book_now;
+pub use moment::state;
 
 // "the-book" in ASCII.
 const MARK: u64 = 7741528751932270708;
@@ -204,10 +209,14 @@ pub fn free_page(mem: &[u8], space: Space, book: Book, k: u64) -> Listed
 pub fn ticket(book: Book) -> u64
     ensures { λ r. ⌜ r ≡ the.ticketIn book ⌝ }
 {
-    if 18446744073709551615 - book.tickets < book.aside {
-        return 0;
-    }
-    book.tickets + book.aside
+    std::num::wrapping_add_u64(book.tickets, book.aside)
+}
+
+// The ticket once so many pages more are set aside.
+pub fn ticket_after(book: Book, more: u64) -> u64
+    ensures { λ r. ⌜ r ≡ the.ticketAfter book more ⌝ }
+{
+    std::num::wrapping_add_u64(ticket(book), more)
 }
 
 // How many of the oldest pages set aside a report of this ticket releases. A count in its place would be wrong where two reports overlap:

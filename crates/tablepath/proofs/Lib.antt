@@ -14,3 +14,4 @@ pub mod SaysAny
 pub mod SaysCreate
 pub mod Says
 pub mod Tickets
+pub mod Moments

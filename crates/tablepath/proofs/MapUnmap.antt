@@ -13,6 +13,7 @@ use Rattle.walk.specs.declared.Found.{Found}
 use Rattle.walk.specs.declared.Found.the-variants.{Page, Nothing}
 use Rattle.tables.specs.Roles.{Role}
 use Rattle.pool.specs.Booked.{settingOf}
+use Rattle.pool.specs.Book.{bookOf}
 use Rattle.pool.specs.declared.Space.{Space}
 use Rattle.plan.specs.Map as map
 use Rattle.plan.specs.Unmap as unmap
@@ -60,8 +61,9 @@ module _ (s : List ℕ) (sp : Space) (role : ℕ → Role) (w : WholeBytes s sp 
       let starts : StartsAt (settingOf (holds mapped-window (sp .origin)) sp) (memory mapped-window (sp .origin)) (q .base) =
       record { address = q .base; size = q .size; frame = q .frame; rights = q .rights; means = at-base } in
       let go = unmap-exactly (still .1) (q .base) .succeeds .1 starts in
-      let g = goneOf sp (go .0) in
-      let said : unmapSaid sp (unmap.decideOf (holds mapped-window (sp .origin)) (memory mapped-window (sp .origin)) sp (q .base)) ≡ unmapped.Done g = rw (go .1) in
+      let b = bookOf (memory mapped-window (sp .origin)) sp in
+      let g = goneOf b (go .0) in
+      let said : unmapSaid b (unmap.decideOf (holds mapped-window (sp .origin)) (memory mapped-window (sp .origin)) sp (q .base)) ≡ unmapped.Done g = rw (go .1) in
       let there = look-up-after-unmap mapped-window sp (still .0) (still .1) (q .base) g said in
       let same : Page (q .base) (q .size) (q .frame) (q .rights) ≡ Page (q .base) (g .size) (g .frame) (there .had) = sym at-base ∙ there .before in
       (g, said, cc, cc)

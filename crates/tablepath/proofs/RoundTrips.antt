@@ -39,7 +39,7 @@ use Rattle.effect.proofs.UnmapDone.{unmapped}
 use Rattle.effect.proofs.ProtectDone.{protected}
 use Rattle.effect.proofs.ToldDone.{told}
 use Rattle.effect.proofs.Exactly.{unmap-exactly}
-use Rattle.tablepath.specs.Answers.{mapAnswer, mapWrites, mapSaid, unmapAnswer, unmapWrites, unmapSaid, goneOf, protectAnswer, protectWrites, protectSaid, toldWrites, toldDid, dueDid}
+use Rattle.tablepath.specs.Answers.{mapAnswer, mapWrites, mapSaid, unmapAnswer, unmapWrites, unmapSaid, goneOf, protectAnswer, protectWrites, sameOf, protectSaid, toldWrites, toldDid, dueDid}
 use Rattle.tablepath.specs.declared.Mapped.the-variants as mapped
 use Rattle.tablepath.specs.declared.Unmapped.the-variants as unmapped′
 use Rattle.tablepath.specs.declared.Gone.{Gone}
@@ -96,12 +96,12 @@ pub record Swapped (s s' : List ℕ) (sp : Space) (base size frame : ℕ) (o : F
   pub beside : (va : ℕ) → (In base size va → ⊥) → lookUp s' sp va ≡ lookUp s sp va
 
 module _ (s : List ℕ) (sp : Space) (role : ℕ → Role) (w : Whole (holds s (sp .origin)) sp (memory s (sp .origin)) role) where
-  unmap-swaps : (base : ℕ) (g : Gone) (x : Removing) → unmap.decideOf (holds s (sp .origin)) (memory s (sp .origin)) sp base ≡ x → unmapSaid sp x ≡ unmapped′.Done g
+  unmap-swaps : (base : ℕ) (g : Gone) (x : Removing) → unmap.decideOf (holds s (sp .origin)) (memory s (sp .origin)) sp base ≡ x → unmapSaid (bookOf (memory s (sp .origin)) sp) x ≡ unmapped′.Done g
       → Swapped s (carried s (sp .origin) (unmap.didOf sp base x)) sp base (g .size) (g .frame) Nothing
   unfolding unmapSaid unmap.didOf goneOf
   unmap-swaps base g (removing.Refused y) e f = let z : _≡_ {A = ℕ} 0 1 = cc in absurd (omega arith)
   unmap-swaps base g (removing.Go r) e f =
-      let same : goneOf sp r ≡ g = cc in
+      let same : goneOf (bookOf (memory s (sp .origin)) sp) r ≡ g = cc in
       subst (λ y. Swapped s (carried s (sp .origin) (unmap.writesOf sp base r)) sp base (y .size) (y .frame) Nothing) same (record {
         had = d .had;
         before = d .before;
@@ -127,10 +127,10 @@ module _ (s : List ℕ) (sp : Space) (role : ℕ → Role) (w : Whole (holds s (
 
   protect-swaps : (base : ℕ) (r : Rights) (g : Same) (x : Changing) → protect.decideOf (holds s (sp .origin)) (memory s (sp .origin)) sp base r ≡ x
       → protectSaid x ≡ protected′.Done g → Swapped s (carried s (sp .origin) (protect.didOf x)) sp base (g .size) (g .frame) (Page base (g .size) (g .frame) r)
-  unfolding protectSaid protect.didOf
+  unfolding protectSaid sameOf protect.didOf
   protect-swaps base r g (changing.Refused y) e f = let z : _≡_ {A = ℕ} 0 1 = cc in absurd (omega arith)
   protect-swaps base r g (changing.Go c) e f =
-      let same : record { frame = c .frame; size = c .size } ≡ g = cc in
+      let same : sameOf c ≡ g = cc in
       subst (λ y. Swapped s (carried s (sp .origin) (protect.writesOf c)) sp base (y .size) (y .frame) (Page base (y .size) (y .frame) r)) same (record {
         had = d .had;
         before = d .before;

@@ -40,6 +40,11 @@ marked-whole h sp m m' role k w = record {
     alike : Alike role m m'
     alike q l i live u = (λ j. k .same (at q i) j, k .zeros (at q i), k .clean (at q i))
 
+-- so what a call's writes leave of the book, marks among them leave too
+pub call-book : (sp : Space) (m : ℕ → ℕ) (ws : List word.Write) (es : List (Event ℕ)) → writes es ≡ eventsOf ws → Marks sp m es → SameBook sp (word.after m ws) (after m es)
+call-book sp m ws es e k =
+    marked-book sp (word.after m ws) (after m es) (subst (λ x. MarkedFrom sp x (after m es)) (ap (after m) e ∙ events-after m ws) (marks-left sp es m k))
+
 -- what a run shows
 pub record Ran (h : ℕ → Bool) (sp : Space) (n : ℕ) (m : ℕ → ℕ) (es : List (Event ℕ)) : Type 0 where
   pub role : ℕ → Role
@@ -48,7 +53,7 @@ pub record Ran (h : ℕ → Bool) (sp : Space) (n : ℕ) (m : ℕ → ℕ) (es :
   pub ticket : n ≤ ticketOf (bookOf (after m es) sp)
 
 -- one call, with marks
-call-ran : (h : ℕ → Bool) (sp : Space) (n : ℕ) (m : ℕ → ℕ) (ws : List word.Write) (es : List (Event ℕ)) → Served h sp n m ws → writes es ≡ eventsOf ws
+pub call-ran : (h : ℕ → Bool) (sp : Space) (n : ℕ) (m : ℕ → ℕ) (ws : List word.Write) (es : List (Event ℕ)) → Served h sp n m ws → writes es ≡ eventsOf ws
     → Marks sp m es → Ran h sp n m es
 call-ran h sp n m ws es s e k = record {
   role = s .role;
@@ -67,7 +72,7 @@ call-ran h sp n m ws es s e k = record {
     left = subst (λ x. MarkedFrom sp x (after m es)) now (marks-left sp es m k)
 
     same : SameBook sp (word.after m ws) (after m es)
-    same = marked-book sp (word.after m ws) (after m es) left
+    same = call-book sp m ws es e k
 
     kept : KeepsNumbers sp (word.after m ws) (after m es)
     kept = same-keeps (s .whole .booked) same

@@ -1,16 +1,14 @@
 -- What the answers say, in a space that is whole: from what the decisions do.
 use Prim.Native.Nat.{ℕ, _+_, _^_, _≤_}
-use mathlib.Core.Bool.{Bool, cond}
+use mathlib.Core.Bool.{Bool}
 use mathlib.Core.Logic.{_↔_}
 use mathlib.Core.Path.{_≡_, sym, ap, _∙_, subst}
 use native.Mathlib.Decide.{decLt}
 use native.Mathlib.Omega.{arith}
-use borrow.Author.Tests.{lt-ltb, le-ltb}
-use lib.Dec.{ltb}
 use Rattle.entry.specs.declared.Rights.{Rights}
 use Rattle.walk.specs.declared.Found.the-variants as found
 use Rattle.tables.specs.Roles.{Role}
-use Rattle.pool.specs.Book.{bookOf, ticketOf, dueOf}
+use Rattle.pool.specs.Book.{bookOf, ticketOf, ticketAfter, dueOf}
 use Rattle.pool.specs.Booked.{released}
 use Rattle.pool.specs.declared.Space.{Space}
 use Rattle.pool.specs.declared.Book.{Book}
@@ -23,6 +21,7 @@ use Rattle.plan.specs.declared.maps.Asked.{Asked}
 use Rattle.plan.specs.declared.maps.Mapping.{Mapping}
 use Rattle.plan.specs.declared.unmaps.Removal.{Removal}
 use Rattle.plan.specs.declared.unmaps.Removing.the-variants as removing
+use Rattle.plan.specs.declared.protects.Change.{Change}
 use Rattle.plan.specs.declared.protects.Changing.the-variants as changing
 use Rattle.effect.specs.Whole.{Whole}
 use Rattle.effect.specs.UnmapDone.{UnmapDone}
@@ -35,9 +34,9 @@ use Rattle.effect.proofs.ToldDone as effect
 use Rattle.effect.proofs.Exactly.{unmap-exactly, protect-exactly, told-exactly}
 use Rattle.tablepath.specs.declared.Same.{Same}
 use Rattle.tablepath.specs.declared.Report.the-variants as told
-use Rattle.tablepath.specs.Answers.{mapAnswer, mapWrites, mapSaid, unmapAnswer, unmapWrites, unmapSaid, goneOf, protectAnswer, protectSaid, toldAnswer, toldWrites, toldSaid, toldDid, dueSaid, dueDid}
+use Rattle.tablepath.specs.Answers.{mapAnswer, mapWrites, mapSaid, unmapAnswer, unmapWrites, unmapSaid, goneOf, protectAnswer, protectWrites, sameOf, protectSaid, toldAnswer, toldWrites, toldSaid, toldDid, dueSaid, dueDid}
 use Rattle.tablepath.proofs.SaysAny.{map-refused-by, map-done-by, unmap-refused-by, unmap-done-by, protect-refused-by, protect-done-by, due-unknown, due-spent, due-released, due-no-refusal}
-use Rattle.tablepath.specs.Says.{MapMade, MapSays, afterUnmap, UnmapGone, UnmapSays, ProtectSays, ToldReleased, ToldSays}
+use Rattle.tablepath.specs.Says.{MapMade, MapSays, afterUnmap, UnmapGone, UnmapSays, afterProtect, ProtectSays, ToldReleased, ToldSays}
 
 -- Map --------------------------------------------------------------------------------------------------------------------------
 
@@ -127,16 +126,16 @@ module _ {h : ℕ → Bool} {sp : Space} {m : ℕ → ℕ} {role : ℕ → Role}
     d : UnmapDone h sp m role va r
     d = unmapped w va r e
 
-    -- the ticket that is answered
-    ticket-is : ticketOf (unmap.bookAfter sp r) ≡ cond (ltb 0 (r .empties)) (ticketOf (bookOf (afterUnmap h m sp va) sp)) 0
-    unfolding unmapWrites unmap.didOf
-    ticket-is = elim (decLt 0 (r .empties)) [ yes u ↦ rw (lt-ltb 0 (r .empties) u, e) (ap ticketOf (d .book u)) | no u ↦ rw (le-ltb 0 (r .empties) (omega arith)) (ap ticketOf (d .none (omega arith))) ]
-
     whole-now : Whole h sp (afterUnmap h m sp va) (d .role')
     unfolding unmapWrites unmap.didOf
     whole-now = rw e (d .whole)
 
-    unmap-gone : UnmapGone h sp m role va (goneOf sp r)
+    -- THE TICKET that is answered
+    unmap-ticket : ticketAfter (bookOf m sp) (r .empties) ≡ ticketOf (bookOf (afterUnmap h m sp va) sp)
+    unfolding unmapWrites unmap.didOf
+    unmap-ticket = rw e (d .ticket)
+
+    unmap-gone : UnmapGone h sp m role va (goneOf (bookOf m sp) r)
     unfolding goneOf unmapWrites unmap.didOf
     unmap-gone = record {
       had = d .had;
@@ -145,10 +144,9 @@ module _ {h : ℕ → Bool} {sp : Space} {m : ℕ → ℕ} {role : ℕ → Role}
       whole = whole-now;
       tables = d .fewer;
       more = rw e (ap (λ (x : Book). x .aside) (d .counts));
-      ticket = ticket-is;
-      releases = λ u.
-          let t : ticketOf (unmap.bookAfter sp r) ≡ ticketOf (bookOf (afterUnmap h m sp va) sp) = rw (lt-ltb 0 (r .empties) u) at ticket-is in
-          subst (λ x. (toldAnswer h (afterUnmap h m sp va) sp x ≡ told.Released (bookOf (afterUnmap h m sp va) sp .aside)) ↔ (x ≤ 2 ^ 62)) (sym t)
+      ticket = unmap-ticket;
+      releases =
+          subst (λ x. (toldAnswer h (afterUnmap h m sp va) sp x ≡ told.Released (bookOf (afterUnmap h m sp va) sp .aside)) ↔ (x ≤ 2 ^ 62)) (sym unmap-ticket)
           (λ x. told-says whole-now (ticketOf (bookOf (afterUnmap h m sp va) sp)) .done .0 (_, x) .1, told-all whole-now);
     }
 
@@ -159,21 +157,31 @@ module _ {h : ℕ → Bool} {sp : Space} {m : ℕ → ℕ} {role : ℕ → Role}
       let x = unmap-exactly w va in
       record {
         refused = λ y. (
-          λ e. let f = unmap-refused-by sp y (unmap.decideOf h m sp va) e in
+          λ e. let f = unmap-refused-by (bookOf m sp) y (unmap.decideOf h m sp va) e in
               let same = x .only y f in
               (same, x .refused .0 (f ∙ ap removing.Refused same)),
           λ n. rw (x .refused .1 (n .1), n .0),
         );
         done = (
-          λ g. let f = unmap-done-by sp (g .0) (unmap.decideOf h m sp va) (g .1) in x .succeeds .0 (f .0, f .1),
-          λ a. let f = x .succeeds .1 a in (goneOf sp (f .0), rw (f .1)),
+          λ g. let f = unmap-done-by (bookOf m sp) (g .0) (unmap.decideOf h m sp va) (g .1) in x .succeeds .0 (f .0, f .1),
+          λ a. let f = x .succeeds .1 a in (goneOf (bookOf m sp) (f .0), rw (f .1)),
         );
-        gone = λ g e. let f = unmap-done-by sp g (unmap.decideOf h m sp va) e in subst (UnmapGone h sp m role va) (f .2) (unmap-gone (f .0) (f .1));
+        gone = λ g e. let f = unmap-done-by (bookOf m sp) g (unmap.decideOf h m sp va) e in subst (UnmapGone h sp m role va) (f .2) (unmap-gone (f .0) (f .1));
       }
 
+  module _ (rights : Rights) (c : Change) (e : protect.decideOf h m sp va rights ≡ changing.Go c) where
+    protect-whole : Whole h sp (afterProtect h m sp va rights) role
+    unfolding protectWrites protect.didOf
+    protect-whole = rw e (protected w va rights c e .whole)
+
+    -- THE TICKET that is answered
+    protect-ticket : (c .ticket ≡ ticketOf (bookOf (afterProtect h m sp va rights) sp)) × (c .ticket ≡ ticketOf (bookOf m sp))
+    unfolding protectWrites protect.didOf
+    protect-ticket = let d = protected w va rights c e in (d .ticket ∙ rw e (sym (ap ticketOf (d .book))), d .ticket)
+
   -- WHAT PROTECT ANSWERS
-  pub protect-says : (rights : Rights) → ProtectSays h sp m va rights
-  unfolding protectAnswer protectSaid
+  pub protect-says : (rights : Rights) → ProtectSays h sp m role va rights
+  unfolding protectAnswer protectSaid sameOf
   protect-says rights =
       let x = protect-exactly w va rights in
       record {
@@ -185,10 +193,14 @@ module _ {h : ℕ → Bool} {sp : Space} {m : ℕ → ℕ} {role : ℕ → Role}
         );
         done = (
           λ g. let f = protect-done-by (g .0) (protect.decideOf h m sp va rights) (g .1) in x .succeeds .0 (f .0, f .1),
-          λ a. let f = x .succeeds .1 a in (record { frame = f .0 .frame; size = f .0 .size }, rw (f .1)),
+          λ a. let f = x .succeeds .1 a in (sameOf (f .0), rw (f .1)),
         );
         before = λ g e.
             let f = protect-done-by g (protect.decideOf h m sp va rights) e in
             let k = protected w va rights (f .0) (f .1) in
             (k .had, k .before ∙ ap (λ (x : Same). found.Page va (x .size) (x .frame) (k .had)) (f .2));
+        whole = λ g e. let f = protect-done-by g (protect.decideOf h m sp va rights) e in protect-whole rights (f .0) (f .1);
+        ticket = λ g e.
+            let f = protect-done-by g (protect.decideOf h m sp va rights) e in
+            subst (λ (x : Same). (x .ticket ≡ ticketOf (bookOf (afterProtect h m sp va rights) sp)) × (x .ticket ≡ ticketOf (bookOf m sp))) (f .2) (protect-ticket rights (f .0) (f .1));
       }

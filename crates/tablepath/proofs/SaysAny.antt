@@ -8,7 +8,7 @@ use native.Mathlib.Omega.{arith}
 use lib.ListN.{length}
 use Rattle.word.specs.Memory.{memory, holds}
 use Rattle.word.specs.Writes.{carried}
-use Rattle.pool.specs.Book.{openedOf, dueOf}
+use Rattle.pool.specs.Book.{bookOf, openedOf, dueOf}
 use Rattle.pool.specs.Create.{createdOf, createdIn, createWrites, createIn, newSpace, mayCreate}
 use Rattle.pool.specs.declared.Space.{Space}
 use Rattle.pool.specs.declared.Book.{Book}
@@ -38,7 +38,7 @@ use Rattle.tablepath.specs.declared.Unmapped.the-variants as unmapped
 use Rattle.tablepath.specs.declared.Same.{Same}
 use Rattle.tablepath.specs.declared.Protected.the-variants as protected
 use Rattle.tablepath.specs.declared.Report.the-variants as told
-use Rattle.tablepath.specs.Answers.{mapAnswer, mapWrites, mapSaid, unmapAnswer, unmapWrites, unmapSaid, goneOf, protectAnswer, protectWrites, protectSaid, toldAnswer, toldWrites, toldSaid, toldDid, dueSaid, dueDid}
+use Rattle.tablepath.specs.Answers.{mapAnswer, mapWrites, mapSaid, unmapAnswer, unmapWrites, unmapSaid, goneOf, protectAnswer, protectWrites, sameOf, protectSaid, toldAnswer, toldWrites, toldSaid, toldDid, dueSaid, dueDid}
 use Rattle.tablepath.specs.Says.{ToldOpened, Declined, RefusalLeaves}
 
 -- An answer comes of one decision --------------------------------------------------------------------------------------------------
@@ -53,22 +53,22 @@ unfolding mapSaid
 map-done-by k (map.Go p) e = (p, refl, cc)
 map-done-by k (map.Refused r) e = let z : _≡_ {A = ℕ} 0 1 = cc in absurd (omega arith)
 
-pub unmap-refused-by : (sp : Space) (y : Reason) (x : Removing) → unmapSaid sp x ≡ unmapped.Refused y → x ≡ removing.Refused y
+pub unmap-refused-by : (b : Book) (y : Reason) (x : Removing) → unmapSaid b x ≡ unmapped.Refused y → x ≡ removing.Refused y
 unfolding unmapSaid
-unmap-refused-by sp y (removing.Go r) e = let z : _≡_ {A = ℕ} 0 1 = cc in absurd (omega arith)
-unmap-refused-by sp y (removing.Refused r) e = let same : r ≡ y = cc in ap removing.Refused same
+unmap-refused-by b y (removing.Go r) e = let z : _≡_ {A = ℕ} 0 1 = cc in absurd (omega arith)
+unmap-refused-by b y (removing.Refused r) e = let same : r ≡ y = cc in ap removing.Refused same
 
-pub unmap-done-by : (sp : Space) (g : Gone) (x : Removing) → unmapSaid sp x ≡ unmapped.Done g → (r : Removal) × (x ≡ removing.Go r) × (goneOf sp r ≡ g)
+pub unmap-done-by : (b : Book) (g : Gone) (x : Removing) → unmapSaid b x ≡ unmapped.Done g → (r : Removal) × (x ≡ removing.Go r) × (goneOf b r ≡ g)
 unfolding unmapSaid
-unmap-done-by sp g (removing.Go r) e = (r, refl, cc)
-unmap-done-by sp g (removing.Refused y) e = let z : _≡_ {A = ℕ} 0 1 = cc in absurd (omega arith)
+unmap-done-by b g (removing.Go r) e = (r, refl, cc)
+unmap-done-by b g (removing.Refused y) e = let z : _≡_ {A = ℕ} 0 1 = cc in absurd (omega arith)
 
 pub protect-refused-by : (y : Reason) (x : Changing) → protectSaid x ≡ protected.Refused y → x ≡ changing.Refused y
 unfolding protectSaid
 protect-refused-by y (changing.Go c) e = let z : _≡_ {A = ℕ} 0 1 = cc in absurd (omega arith)
 protect-refused-by y (changing.Refused r) e = let same : r ≡ y = cc in ap changing.Refused same
 
-pub protect-done-by : (g : Same) (x : Changing) → protectSaid x ≡ protected.Done g → (c : Change) × (x ≡ changing.Go c) × (record { frame = c .frame; size = c .size } ≡ g)
+pub protect-done-by : (g : Same) (x : Changing) → protectSaid x ≡ protected.Done g → (c : Change) × (x ≡ changing.Go c) × (sameOf c ≡ g)
 unfolding protectSaid
 protect-done-by g (changing.Go c) e = (c, refl, cc)
 protect-done-by g (changing.Refused y) e = let z : _≡_ {A = ℕ} 0 1 = cc in absurd (omega arith)
@@ -140,7 +140,7 @@ unfolding createdOf createWrites mapAnswer mapWrites map.didOf unmapAnswer unmap
 refusal-leaves s = record {
   create = λ origin first pages y e. create-none s origin first pages y (mayCreate (length s) (holds s origin) origin first pages) e;
   map = λ sp q y e. rw (map-refused-by y (map.decideOf (holds s (sp .origin)) (memory s (sp .origin)) sp q) e);
-  unmap = λ sp va y e. rw (unmap-refused-by sp y (unmap.decideOf (holds s (sp .origin)) (memory s (sp .origin)) sp va) e);
+  unmap = λ sp va y e. rw (unmap-refused-by (bookOf (memory s (sp .origin)) sp) y (unmap.decideOf (holds s (sp .origin)) (memory s (sp .origin)) sp va) e);
   protect = λ sp va r y e. rw (protect-refused-by y (protect.decideOf (holds s (sp .origin)) (memory s (sp .origin)) sp va r) e);
   told = λ sp t d. told-none s sp t (openedOf (holds s (sp .origin)) (memory s (sp .origin)) sp) d;
 }

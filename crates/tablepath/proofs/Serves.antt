@@ -4,6 +4,7 @@ use mathlib.Core.Bool.{Bool, true, false, cond, _&&_}
 use mathlib.Core.List.{List, [], _∷_}
 use mathlib.Core.Logic.{_⊎_, inl, inr, _≢_}
 use mathlib.Core.Path.{_≡_, refl, sym, ap, _∙_, subst}
+use native.Mathlib.Decide.{decLe}
 use native.Mathlib.Omega.{arith}
 use Rattle.word.specs.Writes.{Write, after}
 use Rattle.word.proofs.Writes.{Every, every-map}
@@ -42,6 +43,7 @@ use Rattle.effect.proofs.ProtectDone.{protected}
 use Rattle.effect.proofs.ToldDone as effect
 use Rattle.effect.proofs.Wholes.{book-opens}
 use Rattle.effect.proofs.Numbers.{release-ticket}
+use Rattle.effect.proofs.Exactly.{told-exactly}
 use Rattle.tablepath.specs.Answers.{mapWrites, unmapWrites, protectWrites, toldWrites, toldDid, dueDid}
 use Rattle.tablepath.specs.Calls.{Call, Within, callWrites, From}
 use Rattle.tablepath.specs.Calls as calls
@@ -113,3 +115,20 @@ serves h sp n m role (calls.map q) v w u = map-served h sp n m role w u q (map.d
 serves h sp n m role (calls.unmap va) v w u = unmap-served h sp n m role w u va (unmap.decideOf h m sp va) refl
 serves h sp n m role (calls.protect va g) v w u = protect-served h sp n m role w u va g (protect.decideOf h m sp va g) refl
 serves h sp n m role (calls.told t) v w u = told-served h sp n m role w u t v
+
+-- a report of a ticket above the present one writes nothing
+told-none : (h : ℕ → Bool) (sp : Space) (m : ℕ → ℕ) (role : ℕ → Role) (t : ℕ) → Whole h sp m role → ticketOf (bookOf m sp) < t → toldWrites h m sp t ≡ []
+unfolding toldWrites toldDid dueDid
+told-none h sp m role t w u = rw (book-opens w, told-exactly (sp .pages) (bookOf m sp) t (w .booked .sound) .unknown .1 u)
+
+-- so every call serves from the present ticket on
+pub serves-now : (h : ℕ → Bool) (sp : Space) (m : ℕ → ℕ) (role : ℕ → Role) (c : Call) → Whole h sp m role → Served h sp (ticketOf (bookOf m sp)) m (callWrites h m sp c)
+unfolding callWrites
+serves-now h sp m role (calls.map q) w = serves h sp (ticketOf (bookOf m sp)) m role (calls.map q) tt w (omega arith)
+serves-now h sp m role (calls.unmap va) w = serves h sp (ticketOf (bookOf m sp)) m role (calls.unmap va) tt w (omega arith)
+serves-now h sp m role (calls.protect va g) w = serves h sp (ticketOf (bookOf m sp)) m role (calls.protect va g) tt w (omega arith)
+serves-now h sp m role (calls.told t) w = go (decLe t (ticketOf (bookOf m sp)))
+  where
+    go : Dec (t ≤ ticketOf (bookOf m sp)) → Served h sp (ticketOf (bookOf m sp)) m (toldWrites h m sp t)
+    go (yes u) = told-served h sp (ticketOf (bookOf m sp)) m role w (omega arith) t u
+    go (no u) = rw (told-none h sp m role t w (omega arith)) (none-served h sp (ticketOf (bookOf m sp)) m role w (omega arith))

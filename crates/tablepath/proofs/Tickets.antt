@@ -1,11 +1,9 @@
 -- THE TICKET THAT UNMAP ANSWERS can be reported, and then every table that it set aside is free again.
 use Prim.Native.Nat.{ℕ, _+_, _^_, _<_, _≤_}
-use mathlib.Core.Bool.{Bool, cond}
+use mathlib.Core.Bool.{Bool}
 use mathlib.Core.List.{List}
-use mathlib.Core.Path.{_≡_, refl, sym, ap, _∙_}
-use native.Mathlib.Decide.{decLe}
+use mathlib.Core.Path.{_≡_}
 use native.Mathlib.Omega.{arith}
-use borrow.Author.Tests.{le-ltb}
 use Rattle.word.specs.Memory.{memory, holds}
 use Rattle.word.specs.Writes.{carried}
 use Rattle.word.proofs.Writes.{holds-carried, memory-carried}
@@ -19,7 +17,7 @@ use Rattle.tablepath.specs.Says.{UnmapGone, afterUnmap}
 use Rattle.tablepath.specs.declared.Unmapped.the-variants as unmapped
 use Rattle.tablepath.specs.declared.Gone.{Gone}
 use Rattle.tablepath.specs.declared.Report.the-variants as told
-use Rattle.tablepath.proofs.Says.{unmap-says, told-says}
+use Rattle.tablepath.proofs.Says.{unmap-says}
 use Rattle.tablepath.proofs.Wholes.{WholeBytes, call-leaves}
 
 -- the report of the ticket t is done, and releases n pages or more
@@ -31,16 +29,12 @@ module _ (s : List ℕ) (sp : Space) (role : ℕ → Role) (w : WholeBytes s sp 
   said : UnmapGone (holds s (sp .origin)) sp (memory s (sp .origin)) role base g
   said = unmap-says w base .gone g done
 
-  reports : Dec (g .aside ≤ 0) → Reports (holds s (sp .origin)) (afterUnmap (holds s (sp .origin)) (memory s (sp .origin)) sp base) sp (g .ticket) (g .aside)
-  reports (no u) = (bookOf (afterUnmap (holds s (sp .origin)) (memory s (sp .origin)) sp base) sp .aside, said .releases (omega arith) .1 early, omega (arith, said .more))
-  reports (yes u) =
-      let none : g .ticket ≡ 0 = said .ticket ∙ simp (le-ltb 0 (g .aside) u) in
-      let k = told-says (said .whole) (g .ticket) .done .1 (omega (arith, none), early) in
-      (k .0, k .1, omega arith)
+  reports : Reports (holds s (sp .origin)) (afterUnmap (holds s (sp .origin)) (memory s (sp .origin)) sp base) sp (g .ticket) (g .aside)
+  reports = (bookOf (afterUnmap (holds s (sp .origin)) (memory s (sp .origin)) sp base) sp .aside, said .releases .1 early, omega (arith, said .more))
 
   -- THE REPORT of the ticket, right after, is done: what was set aside is free again
   pub told-after-unmap : Reports (holds (carried s (sp .origin) (unmapWrites (holds s (sp .origin)) (memory s (sp .origin)) sp base)) (sp .origin))
       (memory (carried s (sp .origin) (unmapWrites (holds s (sp .origin)) (memory s (sp .origin)) sp base)) (sp .origin)) sp (g .ticket) (g .aside)
   unfolding callWrites
   told-after-unmap =
-      rw (holds-carried s (sp .origin) _, memory-carried s (sp .origin) _ (call-leaves _ sp _ role w (calls.unmap base) .1)) (reports (decLe (g .aside) 0))
+      rw (holds-carried s (sp .origin) _, memory-carried s (sp .origin) _ (call-leaves _ sp _ role w (calls.unmap base) .1)) reports

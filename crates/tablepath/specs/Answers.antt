@@ -4,7 +4,7 @@ use mathlib.Core.Bool.{Bool}
 use mathlib.Core.List.{List, []}
 use Rattle.word.specs.Writes.{Write}
 use Rattle.entry.specs.declared.Rights.{Rights}
-use Rattle.pool.specs.Book.{openedOf, dueOf, ticketOf}
+use Rattle.pool.specs.Book.{bookOf, openedOf, dueOf, ticketAfter}
 use Rattle.pool.specs.Changes.{releaseWrites}
 use Rattle.pool.specs.declared.Space.{Space}
 use Rattle.pool.specs.declared.Book.{Book}
@@ -20,6 +20,7 @@ use Rattle.plan.specs.Map.{Placed}
 use Rattle.plan.specs.declared.unmaps.Removing.{Removing}
 use Rattle.plan.specs.declared.unmaps.Removing.the-variants as removing
 use Rattle.plan.specs.declared.unmaps.Removal.{Removal}
+use Rattle.plan.specs.declared.protects.Change.{Change}
 use Rattle.plan.specs.declared.protects.Changing.{Changing}
 use Rattle.plan.specs.declared.protects.Changing.the-variants as changing
 use Rattle.tablepath.specs.declared.Mapped.{Mapped}
@@ -27,6 +28,7 @@ use Rattle.tablepath.specs.declared.Mapped.the-variants as mapped
 use Rattle.tablepath.specs.declared.Gone.{Gone}
 use Rattle.tablepath.specs.declared.Unmapped.{Unmapped}
 use Rattle.tablepath.specs.declared.Unmapped.the-variants as unmapped
+use Rattle.tablepath.specs.declared.Same.{Same}
 use Rattle.tablepath.specs.declared.Protected.{Protected}
 use Rattle.tablepath.specs.declared.Protected.the-variants as protected
 use Rattle.tablepath.specs.declared.Report.{Report}
@@ -46,29 +48,33 @@ mapWrites h m sp q = map.didOf sp (map.decideOf h m sp q)
 
 -- Unmap ------------------------------------------------------------------------------------------------------------------------
 
--- the page that is gone, and the ticket of the book after it: 0 where no table was set aside, since then no book was opened
-unfoldable pub goneOf : Space → Removal → Gone
-goneOf sp r = record {
+-- the page that is gone, and the ticket after it, where b is the book before: so many pages more are set aside
+unfoldable pub goneOf : Book → Removal → Gone
+goneOf b r = record {
   frame = r .spot .frame;
   size = r .spot .size;
   aside = r .empties;
-  ticket = ticketOf (unmap.bookAfter sp r);
+  ticket = ticketAfter b (r .empties);
 }
 
-unfoldable pub unmapSaid : Space → Removing → Unmapped
-unmapSaid sp (removing.Go r) = unmapped.Done (goneOf sp r)
-unmapSaid sp (removing.Refused y) = unmapped.Refused y
+unfoldable pub unmapSaid : Book → Removing → Unmapped
+unmapSaid b (removing.Go r) = unmapped.Done (goneOf b r)
+unmapSaid b (removing.Refused y) = unmapped.Refused y
 
 unfoldable pub unmapAnswer : (ℕ → Bool) → (ℕ → ℕ) → Space → ℕ → Unmapped
-unmapAnswer h m sp va = unmapSaid sp (unmap.decideOf h m sp va)
+unmapAnswer h m sp va = unmapSaid (bookOf m sp) (unmap.decideOf h m sp va)
 
 unfoldable pub unmapWrites : (ℕ → Bool) → (ℕ → ℕ) → Space → ℕ → List Write
 unmapWrites h m sp va = unmap.didOf sp va (unmap.decideOf h m sp va)
 
 -- Protect ----------------------------------------------------------------------------------------------------------------------
 
+-- the page that stays, and the ticket of the book, which is as it was
+unfoldable pub sameOf : Change → Same
+sameOf c = record { frame = c .frame; size = c .size; ticket = c .ticket }
+
 unfoldable pub protectSaid : Changing → Protected
-protectSaid (changing.Go c) = protected.Done (record { frame = c .frame; size = c .size })
+protectSaid (changing.Go c) = protected.Done (sameOf c)
 protectSaid (changing.Refused y) = protected.Refused y
 
 unfoldable pub protectAnswer : (ℕ → Bool) → (ℕ → ℕ) → Space → ℕ → Rights → Protected

@@ -1,10 +1,9 @@
 -- WHAT THE ANSWERS SAY: of map, unmap, protect and told in a space that is whole, over any memory; of create and of every refusal, for any bytes.
 use Prim.Native.Nat.{ℕ, _+_, _%_, _^_, _<_, _≤_}
-use mathlib.Core.Bool.{Bool, false, cond}
+use mathlib.Core.Bool.{Bool, false}
 use mathlib.Core.List.{List}
 use mathlib.Core.Logic.{_↔_, _≢_}
 use mathlib.Core.Path.{_≡_}
-use lib.Dec.{ltb}
 use lib.ListN.{length}
 use Rattle.word.specs.Memory.{memory, holds}
 use Rattle.word.specs.Writes.{after, carried}
@@ -92,11 +91,10 @@ pub record UnmapGone (h : ℕ → Bool) (sp : Space) (m : ℕ → ℕ) (role : �
   pub tables : tablesOf sp role ≡ tablesOf sp role' + g .aside
   -- so many pages more are set aside
   pub more : bookOf (afterUnmap h m sp va) sp .aside ≡ bookOf m sp .aside + g .aside
-  -- the ticket is that of the moment after it; 0 where no table was set aside
-  pub ticket : g .ticket ≡ cond (ltb 0 (g .aside)) (ticketOf (bookOf (afterUnmap h m sp va) sp)) 0
+  -- the ticket is that of the moment after it
+  pub ticket : g .ticket ≡ ticketOf (bookOf (afterUnmap h m sp va) sp)
   -- reported, it releases all that is set aside until then, exactly while tickets are left
-  pub releases : 0 < g .aside
-      → (toldAnswer h (afterUnmap h m sp va) sp (g .ticket) ≡ told.Released (bookOf (afterUnmap h m sp va) sp .aside)) ↔ (g .ticket ≤ 2 ^ 62)
+  pub releases : (toldAnswer h (afterUnmap h m sp va) sp (g .ticket) ≡ told.Released (bookOf (afterUnmap h m sp va) sp .aside)) ↔ (g .ticket ≤ 2 ^ 62)
 
 pub record UnmapSays (h : ℕ → Bool) (sp : Space) (m : ℕ → ℕ) (role : ℕ → Role) (va : ℕ) : Type 0 where
   -- it refuses exactly where no page starts, and for no other reason
@@ -108,13 +106,22 @@ pub record UnmapSays (h : ℕ → Bool) (sp : Space) (m : ℕ → ℕ) (role : �
 
 -- Protect ----------------------------------------------------------------------------------------------------------------------
 
-pub record ProtectSays (h : ℕ → Bool) (sp : Space) (m : ℕ → ℕ) (va : ℕ) (rights : Rights) : Type 0 where
+-- the memory after it
+abbrev pub afterProtect : (ℕ → Bool) → (ℕ → ℕ) → Space → ℕ → Rights → ℕ → ℕ
+afterProtect h m sp va rights = after m (protectWrites h m sp va rights)
+
+pub record ProtectSays (h : ℕ → Bool) (sp : Space) (m : ℕ → ℕ) (role : ℕ → Role) (va : ℕ) (rights : Rights) : Type 0 where
   -- as unmap: it refuses exactly where no page starts, and for no other reason
   pub refused : (y : Reason) → (protectAnswer h m sp va rights ≡ protected.Refused y) ↔ ((y ≡ NothingStarts) × ¬ StartsAt (settingOf h sp) m va)
   -- it is done exactly where one starts
   pub done : ((g : Same) × (protectAnswer h m sp va rights ≡ protected.Done g)) ↔ StartsAt (settingOf h sp) m va
   -- the page that was there, with some rights, had the frame and the size that it answers
   pub before : (g : Same) → protectAnswer h m sp va rights ≡ protected.Done g → (had : Rights) × (meaning (settingOf h sp) m va ≡ found.Page va (g .size) (g .frame) had)
+  -- the space is whole, each page with its role
+  pub whole : (g : Same) → protectAnswer h m sp va rights ≡ protected.Done g → Whole h sp (afterProtect h m sp va rights) role
+  -- the ticket is that of the moment after it, which is that of the moment before
+  pub ticket : (g : Same) → protectAnswer h m sp va rights ≡ protected.Done g
+      → (g .ticket ≡ ticketOf (bookOf (afterProtect h m sp va rights) sp)) × (g .ticket ≡ ticketOf (bookOf m sp))
 
 -- Told -------------------------------------------------------------------------------------------------------------------------
 
@@ -132,7 +139,7 @@ pub record ToldReleased (h : ℕ → Bool) (sp : Space) (m : ℕ → ℕ) (role 
   pub more : bookOf (afterTold h m sp t) sp .free ≡ bookOf m sp .free + k
   -- k pages fewer are set aside
   pub fewer : bookOf m sp .aside ≡ bookOf (afterTold h m sp t) sp .aside + k
-  -- those whose number is below the ticket became free
+  -- those whose number is below the ticket became free: of a ticket between two that were handed out, too
   pub frees : (p n : ℕ) → Numbered m sp p n → n < t → role' p ≡ free
   -- the others stay set aside, with their numbers
   pub stays : (p n : ℕ) → Numbered m sp p n → t ≤ n → (role' p ≡ aside) × Numbered (afterTold h m sp t) sp p n
@@ -140,7 +147,7 @@ pub record ToldReleased (h : ℕ → Bool) (sp : Space) (m : ℕ → ℕ) (role 
   pub others : (p : ℕ) → role p ≢ aside → role' p ≡ role p
 
 pub record ToldSays (h : ℕ → Bool) (sp : Space) (m : ℕ → ℕ) (role : ℕ → Role) (t : ℕ) : Type 0 where
-  -- unknown: exactly a ticket above the present one
+  -- unknown: exactly a ticket above the present one; one below it need not have been handed out
   pub unknown : (toldAnswer h m sp t ≡ told.Unknown) ↔ (ticketOf (bookOf m sp) < t)
   -- spent: exactly one that is not, and with which the numbers would run out
   pub spent : (toldAnswer h m sp t ≡ told.Spent) ↔ ((t ≤ ticketOf (bookOf m sp)) × (2 ^ 62 < t))

@@ -1,4 +1,4 @@
-// Page tables in lent bytes: create, map, unmap, protect, look up, and told. Each operation decides first, only reading, and then carries
+// Page tables in lent bytes: create, map, unmap, protect, look up, told, and state. Each operation decides first, only reading, and then carries
 // its plan out. Any bytes and any numbers will do: what cannot be done is refused with a reason, and then no byte has changed.
 // Each operation that writes also stands here with a budget of writes (`up_to`): stopped after any of them, the bytes are those at entry
 // with the first so many planned writes carried out. That is the order in which it writes.
@@ -8,6 +8,7 @@ ghost use Rattle.word.specs.Memory.{memory, holds};
 ghost use Rattle.word.specs.Writes.{Wrote, carried};
 ghost use Rattle.walk.specs.Walk.{walk};
 ghost use Rattle.pool.specs.Create as made;
+ghost use Rattle.pool.specs.State as say;
 ghost use Rattle.tablepath.specs.Answers as the;
 use plan::Asked;
 use plan::Changing;
@@ -18,6 +19,7 @@ use pool::Created;
 use pool::Due;
 use pool::Opened;
 use pool::Space;
+use pool::Stated;
 use walk::Found;
 
 pub enum Mapped {
@@ -26,7 +28,8 @@ pub enum Mapped {
     Refused(Reason),
 }
 
-// The page that was unmapped, how many tables were set aside, and, where some were, the ticket with which to report that every cache was told.
+// The page that was unmapped, how many tables were set aside, and the ticket with which to report that every cache was told. Calls that set
+// nothing aside answer the same ticket again: it speaks of the last moment at which it was answered.
 pub struct Gone {
     pub frame: u64,
     pub size: u64,
@@ -39,10 +42,11 @@ pub enum Unmapped {
     Refused(Reason),
 }
 
-// The page whose rights changed.
+// The page whose rights changed, and the ticket, as of unmap.
 pub struct Same {
     pub frame: u64,
     pub size: u64,
+    pub ticket: u64,
 }
 
 pub enum Protected {
@@ -144,6 +148,7 @@ pub fn protect_up_to(
         Changing::Go(c) => Protected::Done(Same {
             frame: c.frame,
             size: c.size,
+            ticket: c.ticket,
         }),
     }
 }
@@ -179,13 +184,21 @@ pub fn told_up_to(mem: &mut [u8], left: &mut u64, space: Space, ticket: u64) -> 
     }
 }
 
-// The caller reports that every cache was told of what had happened when this ticket was handed out: the pages set aside until then are free.
+// The caller reports that every cache was told of what had happened when this ticket was answered last: the pages set aside until then are
+// free. A ticket between two that were answered frees exactly the pages with smaller numbers; one above the present one is unknown.
 pub fn told(mem: &mut [u8], space: Space, ticket: u64) -> Report
     ensures answer { λ r. ⌜ r ≡ the.toldAnswer (holds (now (mem .entry)) (space .origin)) (memory (now (mem .entry)) (space .origin)) space ticket ⌝ }
     ensures bytes { λ _. ⌜ now (mem .exit) ≡ carried (now (mem .entry)) (space .origin) (the.toldWrites (holds (now (mem .entry)) (space .origin)) (memory (now (mem .entry)) (space .origin)) space ticket) ⌝ }
 {
     let mut left: u64 = word::ENDLESS;
     told_up_to(mem, &mut left, space, ticket)
+}
+
+// How many of the pool's pages are free, set aside and tables, and the ticket of this moment. Writes nothing.
+pub fn state(mem: &[u8], space: Space) -> Stated
+    ensures answer { λ r. ⌜ r ≡ say.stateOf (holds (now (mem .entry)) (space .origin)) (memory (now (mem .entry)) (space .origin)) space ⌝ }
+{
+    pool::state(mem, space)
 }
 
 // What the address means; the root is given as in CR3.

@@ -20,6 +20,7 @@ use Rattle.tables.specs.Meaning.{meaning, never-outside}
 use Rattle.tables.specs.Operation.{Changed}
 use Rattle.tables.specs.Overlap.{aligned-base}
 use Rattle.pool.specs.Booked.{settingOf}
+use Rattle.pool.specs.Book.{bookOf}
 use Rattle.pool.specs.declared.Space.{Space}
 use Rattle.pool.proofs.Pages.{root-page}
 use Rattle.plan.specs.Unmap as unmap
@@ -37,7 +38,7 @@ use Rattle.effect.proofs.Exactly.{unmap-exactly, protect-exactly}
 use Rattle.effect.proofs.UnmapDone.{unmapped}
 use Rattle.effect.proofs.ProtectDone.{protected}
 use Rattle.effect.proofs.Wholes.{root-low}
-use Rattle.tablepath.specs.Answers.{unmapAnswer, unmapWrites, unmapSaid, goneOf, protectAnswer, protectWrites, protectSaid}
+use Rattle.tablepath.specs.Answers.{unmapAnswer, unmapWrites, unmapSaid, goneOf, protectAnswer, protectWrites, sameOf, protectSaid}
 use Rattle.tablepath.specs.declared.Unmapped.the-variants as unmapped′
 use Rattle.tablepath.specs.declared.Gone.{Gone}
 use Rattle.tablepath.specs.declared.Protected.the-variants as protected′
@@ -109,11 +110,11 @@ module _ {h : ℕ → Bool} {sp : Space} {m : ℕ → ℕ} {role : ℕ → Role}
   unfolding unmapAnswer unmapWrites unmapSaid unmap.didOf goneOf
   unmap-ok g done = go (unmap.decideOf h m sp base) refl done
     where
-      go : (x : Removing) → unmap.decideOf h m sp base ≡ x → unmapSaid sp x ≡ unmapped′.Done g → UnmapOk h sp m (unmap.didOf sp base x) base (g .frame) (g .size)
+      go : (x : Removing) → unmap.decideOf h m sp base ≡ x → unmapSaid (bookOf m sp) x ≡ unmapped′.Done g → UnmapOk h sp m (unmap.didOf sp base x) base (g .frame) (g .size)
       go (removing.Refused y) e f = let z : _≡_ {A = ℕ} 0 1 = cc in absurd (omega arith)
       go (removing.Go r) e f =
           let d : UnmapDone h sp m role base r = unmapped w base r e in
-          let same : goneOf sp r ≡ g = cc in
+          let same : goneOf (bookOf m sp) r ≡ g = cc in
           subst (λ (y : Gone). UnmapOk h sp m (unmap.writesOf sp base r) base (y .frame) (y .size)) same (record {
             made = removal-made (r .spot .size) (r .spot .frame) (d .had) (d .before) (r .spot .way .level) Nothing (unmap.writesOf sp base r) (d .role') (d .size-is) (d .aligned) (d .changed) (d .whole) refl;
             rights = d .had;
@@ -125,7 +126,7 @@ module _ {h : ℕ → Bool} {sp : Space} {m : ℕ → ℕ} {role : ℕ → Role}
   unfolding unmapAnswer unmapWrites unmapSaid unmap.didOf
   unmap-err y refused = go (unmap.decideOf h m sp base) refl refused
     where
-      go : (x : Removing) → unmap.decideOf h m sp base ≡ x → unmapSaid sp x ≡ unmapped′.Refused y → NotThere sp m (unmap.didOf sp base x) base
+      go : (x : Removing) → unmap.decideOf h m sp base ≡ x → unmapSaid (bookOf m sp) x ≡ unmapped′.Refused y → NotThere sp m (unmap.didOf sp base x) base
       go (removing.Go r) e f = let z : _≡_ {A = ℕ} 0 1 = cc in absurd (omega arith)
       go (removing.Refused z) e f =
           let none-other = unmap-exactly w base .only z e in
@@ -133,14 +134,14 @@ module _ {h : ℕ → Bool} {sp : Space} {m : ℕ → ℕ} {role : ℕ → Role}
 
   -- PROTECT, OK: the base was mapped; the one changing write was made; it has the same frame with the new flags.
   pub protect-ok : (r : Rights) (g : Same) → protectAnswer h m sp base r ≡ protected′.Done g → ProtectOk h sp m (protectWrites h m sp base r) base (g .frame) (g .size) r
-  unfolding protectAnswer protectWrites protectSaid protect.didOf
+  unfolding protectAnswer protectWrites protectSaid sameOf protect.didOf
   protect-ok r g done = go (protect.decideOf h m sp base r) refl done
     where
       go : (x : Changing) → protect.decideOf h m sp base r ≡ x → protectSaid x ≡ protected′.Done g → ProtectOk h sp m (protect.didOf x) base (g .frame) (g .size) r
       go (changing.Refused y) e f = let z : _≡_ {A = ℕ} 0 1 = cc in absurd (omega arith)
       go (changing.Go c) e f =
           let d : ProtectDone h sp m role base r c = protected w base r c e in
-          let same : record { frame = c .frame; size = c .size } ≡ g = cc in
+          let same : sameOf c ≡ g = cc in
           subst (λ (y : Same). ProtectOk h sp m (protect.writesOf c) base (y .frame) (y .size) r) same (record {
             made = change-made (c .size) (c .frame) (d .had) (d .before) (d .level) (Page base (c .size) (c .frame) r) (protect.writesOf c) role (d .size-is) (d .aligned) (d .changed) (d .whole) r refl;
             before = d .had;

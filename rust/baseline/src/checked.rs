@@ -143,6 +143,13 @@ impl<'a> Pool<'a> {
         Ok(book)
     }
 
+    /// That of this moment, as the book's words have it.
+    #[inline]
+    fn ticket(&self) -> u64 {
+        let header = &self.book.as_flattened()[..SLOTS];
+        get(&header[ASIDE]).wrapping_add(get(&header[TICKETS]))
+    }
+
     #[inline]
     fn most(&self) -> u64 {
         self.tables.len() as u64 - 1
@@ -211,6 +218,9 @@ pub fn create(mem: &mut [u8], origin: u64, pool: u64, pages: u64) -> Result<u64,
 
 /// Maps the frame at the base, and answers how many tables were made for it.
 pub fn map(mem: &mut [u8], space: &Space, base: u64, frame: u64, size: u64, rights: u64) -> Result<u64, Reason> {
+    if rights > 7 {
+        return Err(Reason::Rights);
+    }
     let target = match size {
         0x1000 => 0,
         0x20_0000 => 1,
@@ -296,7 +306,7 @@ pub fn unmap(mem: &mut [u8], space: &Space, base: u64) -> Result<Unmapped, Reaso
     let (frame, size) = (frame(level, word), size(level));
     if empty == 0 {
         put(&mut pool.tables[way[level]][index(level, base)], 0);
-        return Ok(Unmapped { frame, size, aside: 0, ticket: 0 });
+        return Ok(Unmapped { frame, size, aside: 0, ticket: pool.ticket() });
     }
     let book = pool.open()?;
     if empty as u64 > pool.most() - book.free - book.aside {
@@ -316,10 +326,13 @@ pub fn unmap(mem: &mut [u8], space: &Space, base: u64) -> Result<Unmapped, Reaso
 
 /// Gives the page that starts at the base other rights; the machine's marks stay.
 pub fn protect(mem: &mut [u8], space: &Space, base: u64, rights: u64) -> Result<Protected, Reason> {
+    if rights > 7 {
+        return Err(Reason::Rights);
+    }
     let pool = Pool::of(mem, space)?;
     let Spot { level, word, way } = pool.find(base)?;
     put(&mut pool.tables[way[level]][index(level, base)], with_rights(word, rights));
-    Ok(Protected { frame: frame(level, word), size: size(level) })
+    Ok(Protected { frame: frame(level, word), size: size(level), ticket: pool.ticket() })
 }
 
 /// Every cache was told of what was unmapped before this ticket: those pages become free. Answers how many.

@@ -61,9 +61,11 @@ pub enum Reason {
     UnknownTicket = 23,
     /// No ticket is left.
     SpentTickets = 24,
+    /// A bit of the rights means nothing.
+    Rights = 25,
 }
 
-/// The page that was unmapped. `ticket` is what `told` takes once every cache knows, and 0 where no table was set aside.
+/// The page that was unmapped. `ticket` is what `told` takes once every cache knows.
 #[derive(Clone, Copy, PartialEq, Eq, Debug)]
 pub struct Unmapped {
     pub frame: u64,
@@ -76,6 +78,7 @@ pub struct Unmapped {
 pub struct Protected {
     pub frame: u64,
     pub size: u64,
+    pub ticket: u64,
 }
 
 /// What an address means.

@@ -159,7 +159,8 @@ pub unsafe fn unmap(mem: *mut u8, space: &Space, base: u64) -> Result<Unmapped, 
     }
     memory.put(table(level), index(level, base), 0);
     if up == level {
-        return Ok(Unmapped { frame, size, aside: 0, ticket: 0 });
+        let book = memory.book(space);
+        return Ok(Unmapped { frame, size, aside: 0, ticket: book.aside + book.tickets });
     }
     let book = memory.book(space);
     let mut aside = book.aside;
@@ -181,7 +182,8 @@ pub unsafe fn protect(mem: *mut u8, space: &Space, base: u64, rights: u64) -> Re
     }
     let (level, word, way) = memory.find(space.root, base)?;
     memory.put(way[level], index(level, base), with_rights(word, rights));
-    Ok(Protected { frame: frame(level, word), size: size(level) })
+    let book = memory.book(space);
+    Ok(Protected { frame: frame(level, word), size: size(level), ticket: book.aside + book.tickets })
 }
 
 /// # Safety

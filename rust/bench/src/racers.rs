@@ -19,9 +19,9 @@ pub trait Racer {
 pub struct Library;
 
 #[inline(always)]
-fn lent(space: &Space) -> tablepath::Space {
+fn lent(space: &Space) -> numbers::Handle {
     let Space { origin, pool, pages, root } = *space;
-    tablepath::Space { origin, pool, pages, root }
+    numbers::Handle { origin, pool, pages, root }
 }
 
 impl Racer for Library {

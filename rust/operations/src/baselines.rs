@@ -37,7 +37,7 @@ fn unmapped(answer: Result<baseline::Unmapped, Reason>) -> Unmapped {
 
 fn protected(answer: Result<baseline::Protected, Reason>) -> Protected {
     match told(answer) {
-        (reason, Some(baseline::Protected { frame, size })) => Protected { reason, frame, size },
+        (reason, Some(baseline::Protected { frame, size, ticket })) => Protected { reason, frame, size, ticket },
         (reason, None) => Protected { reason, ..Protected::default() },
     }
 }

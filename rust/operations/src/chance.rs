@@ -110,7 +110,7 @@ impl Scene {
     }
 
     fn rights(&mut self) -> u64 {
-        // Bits above the third count for nothing.
+        // A bit above the third means nothing, and is refused.
         if self.random.chance(1, 32) {
             self.random.word()
         } else {

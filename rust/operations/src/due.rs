@@ -40,6 +40,7 @@ pub fn due(window: Window, request: &Request) -> Due {
             let writes = if answer.reason == 0 { new_pool(pool, pages, answer.root) } else { vec![] };
             Ok((Answer::Created(answer), writes))
         }
+        Request::Map { rights, .. } | Request::Protect { rights, .. } if rights > 7 => Err(25),
         Request::Map { space, base, frame, size, rights } => match asked(base, frame, size) {
             0 => Pool::standing(window, space).and_then(|pool| pool.map(base, frame, size, rights)),
             reason => Err(reason),
@@ -131,6 +132,11 @@ impl<'a> Pool<'a> {
     fn word(&self, at: u64) -> u64 {
         let at = 8 * at as usize;
         u64::from_le_bytes(self.book[at..at + 8].try_into().expect("eight bytes"))
+    }
+
+    /// That of this moment, as the book's words have it, whatever they are.
+    fn ticket(&self) -> u64 {
+        self.word(4).wrapping_add(self.word(5))
     }
 
     fn open(&self) -> Result<Book, u64> {
@@ -245,7 +251,8 @@ impl<'a> Pool<'a> {
         // The last of the way is the root's, and the root stays.
         let empty = way[..way.len() - 1].iter().take_while(|entry| self.lone(entry.address)).count();
         if empty == 0 {
-            return Ok((Answer::Unmapped(Unmapped { frame, size, ..Unmapped::default() }), writes));
+            let ticket = self.ticket();
+            return Ok((Answer::Unmapped(Unmapped { frame, size, ticket, ..Unmapped::default() }), writes));
         }
         let book = self.open()?;
         let aside = empty as u64;
@@ -264,7 +271,8 @@ impl<'a> Pool<'a> {
     fn protect(&self, base: u64, rights: u64) -> Outcome {
         let (way, frame, size) = self.starts(base)?;
         let word = way[0].word & !rights_bits(7) | rights_bits(rights);
-        Ok((Answer::Protected(Protected { reason: 0, frame, size }), vec![Word(way[0].address, word)]))
+        let ticket = self.ticket();
+        Ok((Answer::Protected(Protected { reason: 0, frame, size, ticket }), vec![Word(way[0].address, word)]))
     }
 
     fn told(&self, ticket: u64) -> Outcome {

@@ -103,6 +103,7 @@ impl Ledger {
                 }
                 Ok(Answer::LookedUp(self.means(va)))
             }
+            Request::Map { rights, .. } | Request::Protect { rights, .. } if rights > 7 => Err(25),
             Request::Map { space, base, frame, size, rights } => match asked(base, frame, size) {
                 0 => match self.standing(space, lent)? {
                     0 => self.map(base, frame, size, rights),
@@ -149,7 +150,7 @@ impl Ledger {
         for table in Ledger::needs(base, size) {
             *self.tables.entry(table).or_insert(0) += 1;
         }
-        self.mappings.push(Mapping { base, size, frame, rights: rights % 8 });
+        self.mappings.push(Mapping { base, size, frame, rights });
         Ok(Answer::Mapped(Mapped { reason: 0, tables }))
     }
 
@@ -169,7 +170,7 @@ impl Ledger {
             }
         }
         self.aside += aside;
-        let ticket = if aside == 0 { 0 } else { self.released + self.aside };
+        let ticket = self.released + self.aside;
         if aside > 0 {
             self.tickets.push_back(ticket);
         }
@@ -179,8 +180,9 @@ impl Ledger {
     fn protect(&mut self, base: u64, rights: u64) -> Result<Answer, u64> {
         let at = self.starts(base)?;
         let page = &mut self.mappings[at];
-        page.rights = rights % 8;
-        Ok(Answer::Protected(Protected { reason: 0, frame: page.frame, size: page.size }))
+        page.rights = rights;
+        let ticket = self.released + self.aside;
+        Ok(Answer::Protected(Protected { reason: 0, frame: page.frame, size: page.size, ticket }))
     }
 
     fn told(&mut self, ticket: u64) -> Result<Answer, u64> {

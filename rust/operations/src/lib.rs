@@ -44,9 +44,9 @@ answers! {
     Created { reason, root }
     /// `tables`: how many were made.
     Mapped { reason, tables }
-    /// `aside`: how many tables were set aside; `ticket`: that of this moment, and 0 where none was.
+    /// `aside`: how many tables were set aside; `ticket`: that of the moment after it.
     Unmapped { reason, frame, size, aside, ticket }
-    Protected { reason, frame, size }
+    Protected { reason, frame, size, ticket }
     Told { reason, released }
     /// `kind`: 0 nothing, 1 a page, 2 outside.
     LookedUp { kind, base, size, frame, rights }
@@ -68,7 +68,7 @@ pub trait Operations {
 }
 
 /// The reasons, by number; 0 is no refusal.
-pub const REASONS: [&str; 25] = [
+pub const REASONS: [&str; 26] = [
     "done",
     "Size",
     "BaseUnaligned",
@@ -94,6 +94,7 @@ pub const REASONS: [&str; 25] = [
     "BadBook",
     "UnknownTicket",
     "SpentTickets",
+    "Rights",
 ];
 
 /// Asks so many requests, in one scene after the other, or until something is wrong: then the scene's number, and its steps.

@@ -5,9 +5,9 @@ use tablepath::numbers;
 
 pub struct Library;
 
-fn lent(space: Space) -> tablepath::Space {
+fn lent(space: Space) -> numbers::Handle {
     let Space { origin, pool, pages, root } = space;
-    tablepath::Space { origin, pool, pages, root }
+    numbers::Handle { origin, pool, pages, root }
 }
 
 impl Operations for Library {
@@ -27,8 +27,8 @@ impl Operations for Library {
     }
 
     fn protect(&self, mem: &mut [u8], space: Space, base: u64, rights: u64) -> Protected {
-        let numbers::Protected { reason, frame, size } = numbers::protect(mem, lent(space), base, rights);
-        Protected { reason, frame, size }
+        let numbers::Protected { reason, frame, size, ticket } = numbers::protect(mem, lent(space), base, rights);
+        Protected { reason, frame, size, ticket }
     }
 
     fn told(&self, mem: &mut [u8], space: Space, ticket: u64) -> Told {

@@ -202,7 +202,7 @@ impl Flawed {
             EmptyLeftLinked if answer.aside > 0 => {
                 words.mem.copy_from_slice(before);
                 words.put(last.address, 0);
-                (answer.aside, answer.ticket) = (0, 0);
+                (answer.aside, answer.ticket) = (0, answer.ticket - answer.aside);
             }
             OnlyOneUnlinked if answer.aside > 1 => {
                 words.mem.copy_from_slice(before);

@@ -63,7 +63,7 @@ fn life(of: &dyn Operations) {
     // The machine reads and writes the page; then it is the kernel's alone.
     let at = (0x15000 + 8 * 359 - ORIGIN) as usize;
     mem[at] |= 0x60;
-    let protected = Protected { reason: 0, frame: 0x123_4000, size: 0x1000 };
+    let protected = Protected { reason: 0, frame: 0x123_4000, size: 0x1000, ticket: 0 };
     assert_eq!(of.protect(mem, SPACE, VA, 5), protected);
     assert_eq!(entry(mem, 0x15, 359), 0x8000_0000_0123_4063);
 

@@ -1,16 +1,16 @@
 //! A small example: mappings of each size, made by the library; then marks and damage, as a machine and an accident make them.
 
-use tablepath::{entry, Entry, Reason, Rights, Size, Space};
+use tablepath::{entry, Entry, Pages, Reason, Rights, Size, Space};
 
 pub const ORIGIN: u64 = 0x10_0000;
-const PAGES: u64 = 12;
+const PAGES: usize = 12;
 const CODE: u64 = 0x40_0000;
 const BUFFERS: u64 = 0x7f00_0000_0000;
 
 /// The window's bytes, and the space in it.
-pub fn example() -> Result<(Vec<u8>, Space), Reason> {
-    let mut bytes = vec![0; PAGES as usize * 4096];
-    let space = Space::create(&mut bytes, ORIGIN, ORIGIN, PAGES)?;
+pub fn example() -> Result<(Box<Pages<PAGES>>, Space), Reason> {
+    let mut bytes = Box::new(Pages::ZERO);
+    let space = Space::create(&mut bytes, ORIGIN, ORIGIN, PAGES as u64)?;
     let all = Rights::WRITABLE | Rights::USER | Rights::NO_EXECUTE;
     let mut map = |base, frame, size, rights| space.map(&mut bytes, base, frame, size, rights);
     for page in 0..3 {
@@ -38,7 +38,7 @@ pub fn example() -> Result<(Vec<u8>, Space), Reason> {
 
 /// Sets bits in the entry of this level that the address goes through, and accessed in those above it.
 fn set(bytes: &mut [u8], space: Space, va: u64, level: u64, bits: u64) {
-    let mut table = space.root;
+    let mut table = space.root();
     for above in (level..4).rev() {
         let index = va >> (12 + 9 * above) & 511;
         let place = (table + 8 * index - ORIGIN) as usize;

@@ -15,16 +15,16 @@ fn scratch(name: &str) -> PathBuf {
 
 fn picture_of_the_example() -> Picture {
     let (bytes, space) = example().expect("it fits");
-    Picture::of(Window { bytes: &bytes, origin: space.origin }, space.root, Limits::default())
+    Picture::of(Window { bytes: &bytes, origin: space.origin() }, space.root(), Limits::default())
 }
 
 #[test]
 fn draws_text_and_svg() {
     let (bytes, space) = example().expect("it fits");
     let (image, drawing) = (scratch("image"), scratch("drawing.svg"));
-    fs::write(&image, bytes).unwrap();
+    fs::write(&image, &bytes[..]).unwrap();
     let (image, drawing) = (image.to_str().unwrap(), drawing.to_str().unwrap());
-    let (origin, root) = (format!("{:#x}", space.origin), space.root.to_string());
+    let (origin, root) = (format!("{:#x}", space.origin()), space.root().to_string());
     let ran = run(&[image, &origin, &root, "--svg", drawing]);
     assert!(ran.status.success());
     assert_eq!(String::from_utf8(ran.stdout).unwrap(), text(&picture_of_the_example()));

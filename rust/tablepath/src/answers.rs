@@ -10,28 +10,49 @@ pub struct Mapped {
 }
 
 /// A page was unmapped.
+#[must_use = "the frame is yours again only after a shootdown and its report, which needs the ticket"]
 #[derive(Clone, Copy, PartialEq, Eq, Hash, Debug)]
 pub struct Unmapped {
-    /// Where it lay in physical memory: yours again, once no processor holds the page in a cache.
+    /// Where it lay in physical memory: yours again after the shootdown.
     pub frame: u64,
     /// How large it was.
     pub size: Size,
     /// How many tables became empty and were set aside.
     pub aside: u64,
-    /// To be reported by [`Space::told`](crate::Space::told), where a table was set aside.
-    pub ticket: Option<Ticket>,
+    /// To be reported by [`Space::told`](crate::Space::told), after the shootdown.
+    pub ticket: Ticket,
 }
 
 /// A page has other rights.
+#[must_use = "processors may still use the old rights until a shootdown"]
 #[derive(Clone, Copy, PartialEq, Eq, Hash, Debug)]
 pub struct Protected {
     /// Where it lies in physical memory.
     pub frame: u64,
     /// How large it is.
     pub size: Size,
+    /// To be reported by [`Space::told`](crate::Space::told), after the shootdown.
+    pub ticket: Ticket,
 }
 
-/// The moment at which tables were set aside: what [`Space::told`](crate::Space::told) speaks of. A later one is larger.
+/// How many pages of a pool are what; those not counted are the book's and the root.
+#[derive(Clone, Copy, PartialEq, Eq, Hash, Debug)]
+pub struct State {
+    /// Of the pool.
+    pub pages: u64,
+    /// May become tables.
+    pub free: u64,
+    /// Were tables, and wait for a report.
+    pub aside: u64,
+    /// But for the root.
+    pub tables: u64,
+    /// Of this moment: what unmap or protect answered last.
+    pub ticket: Ticket,
+}
+
+/// The last moment at which it was answered: what [`Space::told`](crate::Space::told) speaks of. A later one is no smaller, and is larger
+/// where a table was set aside in between.
+#[must_use]
 #[derive(Clone, Copy, PartialEq, Eq, PartialOrd, Ord, Hash, Debug)]
 pub struct Ticket(u64);
 
@@ -49,6 +70,7 @@ impl From<u64> for Ticket {
 }
 
 /// What an address means.
+#[must_use]
 #[derive(Clone, Copy, PartialEq, Eq, Hash, Debug)]
 pub enum Found {
     /// This page.
@@ -88,7 +110,7 @@ impl From<numbers::LookedUp> for Found {
         let numbers::LookedUp { kind, base, size, frame, rights } = found;
         match kind {
             0 => Found::Nothing,
-            1 => Found::Page(Page { base, size: Size::answered(size), frame, rights: Rights::from_bits(rights) }),
+            1 => Found::Page(Page { base, size: Size::answered(size), frame, rights: Rights::answered(rights) }),
             _ => Found::Outside,
         }
     }

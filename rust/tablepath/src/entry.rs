@@ -3,6 +3,7 @@
 use crate::{numbers, Rights};
 
 /// What one entry of a table says.
+#[must_use]
 #[derive(Clone, Copy, PartialEq, Eq, Hash, Debug)]
 pub enum Entry {
     /// Nothing: it is not present.
@@ -37,7 +38,7 @@ impl From<numbers::Said> for Entry {
     /// The library answers no sixth kind.
     fn from(said: numbers::Said) -> Entry {
         let numbers::Said { kind, address, rights, marks } = said;
-        let (rights, accessed, dirty) = (Rights::from_bits(rights), marks & 1 != 0, marks & 2 != 0);
+        let (rights, accessed, dirty) = (Rights::answered(rights), marks & 1 != 0, marks & 2 != 0);
         match kind {
             0 => Entry::Absent,
             1 => Entry::Page { frame: address, rights, accessed, dirty },
@@ -52,18 +53,18 @@ impl From<numbers::Said> for Entry {
 /// root, 0 at the last table. It is what a walk goes by at this entry; for any bytes and any numbers.
 ///
 /// ```
-/// use tablepath::{entry, Entry, Reason, Rights, Size, Space};
+/// use tablepath::{entry, Entry, Pages, Reason, Rights, Size, Space};
 ///
-/// let mut pool = vec![0; 8 * 4096];
+/// let mut pool = Box::new(Pages::<8>::ZERO);
 /// let space = Space::create(&mut pool, 0x10_0000, 0x10_0000, 8)?;
 /// space.map(&mut pool, 0x4000_0000, 0x8000_0000, Size::Gib1, Rights::WRITABLE)?;
 ///
-/// let Entry::Table { address, rights, accessed } = entry(&pool, space.origin, space.root, 3, 0) else { panic!() };
+/// let Entry::Table { address, rights, accessed } = entry(&pool, space.origin(), space.root(), 3, 0) else { panic!() };
 /// assert_eq!((rights, accessed), (Rights::WRITABLE | Rights::USER, false));
 /// let page = Entry::Page { frame: 0x8000_0000, rights: Rights::WRITABLE, accessed: false, dirty: false };
-/// assert_eq!(entry(&pool, space.origin, address, 2, 1), page);
-/// assert_eq!(entry(&pool, space.origin, address, 2, 2), Entry::Absent);
-/// assert_eq!(entry(&pool, space.origin, 0, 2, 2), Entry::Outside);
+/// assert_eq!(entry(&pool, space.origin(), address, 2, 1), page);
+/// assert_eq!(entry(&pool, space.origin(), address, 2, 2), Entry::Absent);
+/// assert_eq!(entry(&pool, space.origin(), 0, 2, 2), Entry::Outside);
 /// # Ok::<(), Reason>(())
 /// ```
 pub fn entry(mem: &[u8], origin: u64, table: u64, level: u64, index: u64) -> Entry {

@@ -9,13 +9,17 @@ compile_error!("Tablepath is for processors of 64 bits");
 mod answers;
 mod entry;
 pub mod numbers;
+mod pages;
+#[allow(unsafe_code)]
+pub mod raw;
 mod reason;
 mod rights;
 mod size;
 mod space;
 
-pub use answers::{Found, Mapped, Page, Protected, Ticket, Unmapped};
+pub use answers::{Found, Mapped, Page, Protected, State, Ticket, Unmapped};
 pub use entry::{entry, Entry};
+pub use pages::Pages;
 pub use reason::Reason;
 pub use rights::Rights;
 pub use size::Size;

@@ -1,7 +1,8 @@
 //! The operations as C has them: numbers in, and a struct of numbers out, every field of it.
 //!
-//! They are as safe as the rest, for any bytes and any numbers; [`Space`] is handier. What the numbers mean is in the header
-//! `tablepath.h`: a reason of 0 is "done", and with any other reason every other field is 0.
+//! They are safe to call with any bytes and any numbers; [`Space`](crate::Space) is handier, and tests that the bytes lie where a word of a
+//! table is one store, which these don't. What the numbers mean is in the header `tablepath.h`: a reason of 0 is "done", and with any other
+//! reason every other field is 0.
 //!
 //! ```
 //! let mut pool = vec![0; 8 * 4096];
@@ -9,10 +10,23 @@
 //! assert_eq!((made.reason, made.root), (0, 0x10_1000));
 //! ```
 
-// All that is unsafe in this crate is here.
+// All that is unsafe in this crate is here, and declared in `raw`.
 #![allow(unsafe_code)]
 
-use crate::Space;
+use crate::raw;
+
+/// A space as four numbers, whatever they name.
+#[derive(Clone, Copy, PartialEq, Eq, Hash, Debug)]
+pub struct Handle {
+    /// The physical address of the window's first byte.
+    pub origin: u64,
+    /// The physical address of the pool's first page.
+    pub pool: u64,
+    /// How many pages of 4096 bytes the pool has.
+    pub pages: u64,
+    /// The physical address of the root table.
+    pub root: u64,
+}
 
 /// Structs of numbers as the compiled library answers them.
 macro_rules! answers {
@@ -49,7 +63,7 @@ answers! {
         size,
         /// How many tables became empty and were set aside.
         aside,
-        /// To be reported by [`told`]; 0 where none was set aside.
+        /// To be reported by [`told`].
         ticket,
     }
     /// What [`protect`] answers.
@@ -60,6 +74,8 @@ answers! {
         frame,
         /// How large it is, in bytes.
         size,
+        /// To be reported by [`told`].
+        ticket,
     }
     /// What [`told`] answers.
     Told {
@@ -67,6 +83,21 @@ answers! {
         reason,
         /// How many pages are free again.
         released,
+    }
+    /// What [`state`] answers.
+    Counts {
+        /// Why not; 0 where it was done.
+        reason,
+        /// How many pages the pool has.
+        pages,
+        /// How many of them are free.
+        free,
+        /// How many are set aside.
+        aside,
+        /// How many are tables, but for the root.
+        tables,
+        /// The ticket of this moment.
+        ticket,
     }
     /// What [`look_up`] answers.
     LookedUp {
@@ -94,94 +125,58 @@ answers! {
     }
 }
 
-// Two words come back in registers, by C's convention on each processor and by that of the module alike.
-#[rustfmt::skip]
-extern "C" {
-    fn tp_create(mem: *mut u8, len: usize, origin: u64, pool: u64, pages: u64) -> Created;
-    fn tp_map(
-        mem: *mut u8, len: usize, origin: u64, pool: u64, pages: u64, root: u64,
-        base: u64, frame: u64, size: u64, rights: u64,
-    ) -> Mapped;
-    fn tp_told(mem: *mut u8, len: usize, origin: u64, pool: u64, pages: u64, root: u64, ticket: u64) -> Told;
-}
-
-/// A function whose answer has more than two words. On x86-64 it is C's. Elsewhere the module is one that was lowered for x86-64
-/// and compiled once more (tools/native-archive): it takes where to put the answer as its first argument, which is not how C has
-/// it there.
-macro_rules! long {
-    ($name:ident($($argument:ident: $type:ty),*) -> $answer:ident) => {
-        #[cfg(target_arch = "x86_64")]
-        extern "C" {
-            fn $name($($argument: $type),*) -> $answer;
-        }
-
-        #[cfg(not(target_arch = "x86_64"))]
-        #[allow(clippy::too_many_arguments)]
-        #[inline]
-        unsafe fn $name($($argument: $type),*) -> $answer {
-            extern "C" {
-                fn $name(to: *mut $answer, $($argument: $type),*);
-            }
-            let mut answer = core::mem::MaybeUninit::uninit();
-            // SAFETY: the answer is here until the call is over, and the library sets every field of it; the rest is as the caller has it.
-            unsafe {
-                $name(answer.as_mut_ptr(), $($argument),*);
-                answer.assume_init()
-            }
-        }
-    };
-}
-
-long!(tp_unmap(mem: *mut u8, len: usize, origin: u64, pool: u64, pages: u64, root: u64, base: u64) -> Unmapped);
-long!(tp_protect(mem: *mut u8, len: usize, origin: u64, pool: u64, pages: u64, root: u64, base: u64, rights: u64) -> Protected);
-long!(tp_look_up(mem: *const u8, len: usize, origin: u64, root: u64, va: u64) -> LookedUp);
-long!(tp_entry(mem: *const u8, len: usize, origin: u64, table: u64, level: u64, index: u64) -> Said);
-
 // SAFETY, of every call below: pointer and length are those of one slice, which is lent for the call, and the library is proved to
 // end and to read and write inside it alone, for any bytes and any numbers (crates/abi: no function has a `requires`).
 
-/// `tp_create`.
+/// `tp_raw_create`.
 #[inline]
 pub fn create(mem: &mut [u8], origin: u64, pool: u64, pages: u64) -> Created {
-    unsafe { tp_create(mem.as_mut_ptr(), mem.len(), origin, pool, pages) }
+    unsafe { raw::tp_raw_create(mem.as_mut_ptr(), mem.len(), origin, pool, pages) }
 }
 
-/// `tp_map`.
+/// `tp_raw_map`.
 #[inline]
-pub fn map(mem: &mut [u8], space: Space, base: u64, frame: u64, size: u64, rights: u64) -> Mapped {
-    let Space { origin, pool, pages, root } = space;
-    unsafe { tp_map(mem.as_mut_ptr(), mem.len(), origin, pool, pages, root, base, frame, size, rights) }
+pub fn map(mem: &mut [u8], space: Handle, base: u64, frame: u64, size: u64, rights: u64) -> Mapped {
+    let Handle { origin, pool, pages, root } = space;
+    unsafe { raw::tp_raw_map(mem.as_mut_ptr(), mem.len(), origin, pool, pages, root, base, frame, size, rights) }
 }
 
-/// `tp_unmap`.
+/// `tp_raw_unmap`.
 #[inline]
-pub fn unmap(mem: &mut [u8], space: Space, base: u64) -> Unmapped {
-    let Space { origin, pool, pages, root } = space;
-    unsafe { tp_unmap(mem.as_mut_ptr(), mem.len(), origin, pool, pages, root, base) }
+pub fn unmap(mem: &mut [u8], space: Handle, base: u64) -> Unmapped {
+    let Handle { origin, pool, pages, root } = space;
+    unsafe { raw::tp_raw_unmap(mem.as_mut_ptr(), mem.len(), origin, pool, pages, root, base) }
 }
 
-/// `tp_protect`.
+/// `tp_raw_protect`.
 #[inline]
-pub fn protect(mem: &mut [u8], space: Space, base: u64, rights: u64) -> Protected {
-    let Space { origin, pool, pages, root } = space;
-    unsafe { tp_protect(mem.as_mut_ptr(), mem.len(), origin, pool, pages, root, base, rights) }
+pub fn protect(mem: &mut [u8], space: Handle, base: u64, rights: u64) -> Protected {
+    let Handle { origin, pool, pages, root } = space;
+    unsafe { raw::tp_raw_protect(mem.as_mut_ptr(), mem.len(), origin, pool, pages, root, base, rights) }
 }
 
-/// `tp_told`.
+/// `tp_raw_told`.
 #[inline]
-pub fn told(mem: &mut [u8], space: Space, ticket: u64) -> Told {
-    let Space { origin, pool, pages, root } = space;
-    unsafe { tp_told(mem.as_mut_ptr(), mem.len(), origin, pool, pages, root, ticket) }
+pub fn told(mem: &mut [u8], space: Handle, ticket: u64) -> Told {
+    let Handle { origin, pool, pages, root } = space;
+    unsafe { raw::tp_raw_told(mem.as_mut_ptr(), mem.len(), origin, pool, pages, root, ticket) }
 }
 
-/// `tp_look_up`.
+/// `tp_raw_state`.
+#[inline]
+pub fn state(mem: &[u8], space: Handle) -> Counts {
+    let Handle { origin, pool, pages, root } = space;
+    unsafe { raw::tp_raw_state(mem.as_ptr(), mem.len(), origin, pool, pages, root) }
+}
+
+/// `tp_raw_look_up`.
 #[inline]
 pub fn look_up(mem: &[u8], origin: u64, root: u64, va: u64) -> LookedUp {
-    unsafe { tp_look_up(mem.as_ptr(), mem.len(), origin, root, va) }
+    unsafe { raw::tp_raw_look_up(mem.as_ptr(), mem.len(), origin, root, va) }
 }
 
-/// `tp_entry`.
+/// `tp_raw_entry`.
 #[inline]
 pub fn entry(mem: &[u8], origin: u64, table: u64, level: u64, index: u64) -> Said {
-    unsafe { tp_entry(mem.as_ptr(), mem.len(), origin, table, level, index) }
+    unsafe { raw::tp_raw_entry(mem.as_ptr(), mem.len(), origin, table, level, index) }
 }

@@ -7,15 +7,15 @@ macro_rules! reasons {
         /// Why something was refused; then no byte has changed.
         ///
         /// ```
-        /// use tablepath::{Reason, Rights, Size, Space};
+        /// use tablepath::{Pages, Reason, Rights, Size, Space};
         ///
-        /// let mut pool = vec![0; 8 * 4096];
+        /// let mut pool = Box::new(Pages::<8>::ZERO);
         /// let space = Space::create(&mut pool, 0x10_0000, 0x10_0000, 8)?;
         /// let before = pool.clone();
         /// let refused = space.map(&mut pool, 0x1000, 0x20_0000, Size::Mib2, Rights::WRITABLE);
         /// assert_eq!(refused, Err(Reason::BaseUnaligned));
         /// assert_eq!(refused.unwrap_err().to_string(), "the base is no multiple of the size");
-        /// assert_eq!(pool, before);
+        /// assert!(pool == before);
         /// # Ok::<(), Reason>(())
         /// ```
         #[derive(Clone, Copy, PartialEq, Eq, Hash, Debug)]
@@ -91,6 +91,8 @@ reasons! {
     BadBook = 22, "the book does not add up";
     UnknownTicket = 23, "a ticket above the present one";
     SpentTickets = 24, "no ticket is left: 2^62 tables were set aside";
+    Rights = 25, "the rights have a bit that means nothing";
+    PointerUnaligned = 26, "the pointer and the origin differ modulo 4096";
 }
 
 impl core::error::Error for Reason {}

@@ -1,5 +1,6 @@
 //! Rights, as bits that are put together by `|`.
 
+use crate::Reason;
 use core::fmt;
 use core::ops::{BitOr, BitOrAssign};
 
@@ -30,8 +31,23 @@ impl Rights {
         self.0
     }
 
-    /// Of C's number; bits above the third count for nothing.
-    pub const fn from_bits(bits: u64) -> Rights {
+    /// Of C's number; a bit above the third means nothing, and is refused as map and protect refuse it.
+    ///
+    /// ```
+    /// use tablepath::{Reason, Rights};
+    /// assert_eq!(Rights::from_bits(3), Ok(Rights::WRITABLE | Rights::USER));
+    /// assert_eq!(Rights::from_bits(8), Err(Reason::Rights));
+    /// ```
+    pub const fn from_bits(bits: u64) -> Result<Rights, Reason> {
+        if bits < 8 {
+            Ok(Rights(bits))
+        } else {
+            Err(Reason::Rights)
+        }
+    }
+
+    /// Rights that the library answered: it answers no other bits.
+    pub(crate) const fn answered(bits: u64) -> Rights {
         Rights(bits & 7)
     }
 

@@ -1,48 +1,99 @@
 //! A space, and the operations on it.
 
-use crate::{numbers, Found, Mapped, Protected, Reason, Rights, Size, Ticket, Unmapped};
+use crate::{numbers, Found, Mapped, Protected, Reason, Rights, Size, State, Ticket, Unmapped};
 
-/// What is the same at every call: where the window, the pool and the root are.
+/// Where the window, the pool and the root are: made by [`create`](Space::create), or by [`open`](Space::open) where the book agrees.
 ///
 /// Any bytes and any numbers may be given: every call ends, reads and writes inside the lent bytes alone, and what can't be done is
 /// refused with a [`Reason`] and no byte changed. What no type can see to is yours: that the bytes are the physical memory at
-/// `origin`, that one call at a time is made on them, and that [`told`](Space::told) is said truly.
+/// the origin, that one call at a time writes a pool, and that [`told`](Space::told) is said truly.
+///
+/// The bytes are lent for each call. Where they begin must agree with the origin modulo 4096, so that a word of a table is one store: else the
+/// call is refused, [`Reason::PointerUnaligned`].
+#[must_use]
 #[derive(Clone, Copy, PartialEq, Eq, Hash, Debug)]
-pub struct Space {
-    /// The physical address of the window's first byte.
-    pub origin: u64,
-    /// The physical address of the pool's first page. Its first `(pages + 263) / 256` pages hold a book of what is free.
-    pub pool: u64,
-    /// How many pages of 4096 bytes the pool has.
-    pub pages: u64,
-    /// The physical address of the root table, for CR3.
-    pub root: u64,
+pub struct Space(numbers::Handle);
+
+/// Whether a word of a table in these bytes is one store.
+fn placed(mem: &[u8], origin: u64) -> Result<(), Reason> {
+    if (mem.as_ptr().addr() as u64 ^ origin) % 4096 == 0 {
+        Ok(())
+    } else {
+        Err(Reason::PointerUnaligned)
+    }
 }
 
 impl Space {
     /// Makes a pool of these pages, with its book and an empty root. What the pages held is lost.
     ///
     /// ```
-    /// use tablepath::{Reason, Space};
+    /// use tablepath::{Pages, Reason, Space};
     ///
-    /// let mut window = vec![0; 16 * 4096];
+    /// let mut window = Box::new(Pages::<16>::ZERO);
     /// let space = Space::create(&mut window, 0x10_0000, 0x10_2000, 8)?;
-    /// assert_eq!(space.root, 0x10_3000);
+    /// assert_eq!(space.root(), 0x10_3000);
     /// assert_eq!(Space::create(&mut window, 0x10_0000, 0x10_2000, 99), Err(Reason::PoolOutside));
     /// # Ok::<(), Reason>(())
     /// ```
     pub fn create(mem: &mut [u8], origin: u64, pool: u64, pages: u64) -> Result<Space, Reason> {
+        placed(mem, origin)?;
         let numbers::Created { reason, root } = numbers::create(mem, origin, pool, pages);
         Reason::of(reason)?;
-        Ok(Space { origin, pool, pages, root })
+        Ok(Space(numbers::Handle { origin, pool, pages, root }))
+    }
+
+    /// The space that [`create`](Space::create) made here with these numbers, by what its book says.
+    ///
+    /// ```
+    /// use tablepath::{Pages, Reason, Space};
+    ///
+    /// let mut pool = Box::new(Pages::<8>::ZERO);
+    /// assert_eq!(Space::open(&pool, 0x10_0000, 0x10_0000, 8, 0x10_1000), Err(Reason::NoBook));
+    /// let space = Space::create(&mut pool, 0x10_0000, 0x10_0000, 8)?;
+    /// assert_eq!(Space::open(&pool, 0x10_0000, 0x10_0000, 8, space.root()), Ok(space));
+    /// assert_eq!(Space::open(&pool, 0x10_0000, 0x10_0000, 7, space.root()), Err(Reason::OtherBook));
+    /// # Ok::<(), Reason>(())
+    /// ```
+    pub fn open(mem: &[u8], origin: u64, pool: u64, pages: u64, root: u64) -> Result<Space, Reason> {
+        let space = Space(numbers::Handle { origin, pool, pages, root });
+        space.state(mem)?;
+        Ok(space)
+    }
+
+    /// The physical address of the window's first byte.
+    pub const fn origin(self) -> u64 {
+        self.0.origin
+    }
+
+    /// The physical address of the pool's first page. Its first pages hold the book.
+    pub const fn pool(self) -> u64 {
+        self.0.pool
+    }
+
+    /// How many pages of 4096 bytes the pool has.
+    pub const fn pages(self) -> u64 {
+        self.0.pages
+    }
+
+    /// The physical address of the root table, for CR3.
+    pub const fn root(self) -> u64 {
+        self.0.root
+    }
+
+    /// Its numbers, as C has them.
+    pub const fn handle(self) -> numbers::Handle {
+        self.0
     }
 
     /// Maps the frame at the base: the whole page, or nothing where one of its addresses is mapped.
     ///
-    /// ```
-    /// use tablepath::{Found, Page, Reason, Rights, Size, Space};
+    /// A walk that begins after it finds the page. A cached upper entry of a table that is set aside may say "nothing" until its report:
+    /// such a fault is spurious, and INVLPG of the address ends it.
     ///
-    /// let mut pool = vec![0; 8 * 4096];
+    /// ```
+    /// use tablepath::{Found, Page, Pages, Reason, Rights, Size, Space};
+    ///
+    /// let mut pool = Box::new(Pages::<8>::ZERO);
     /// let space = Space::create(&mut pool, 0x10_0000, 0x10_0000, 8)?;
     /// let (base, frame, rights) = (0x4000_0000, 0x8000_0000, Rights::WRITABLE | Rights::NO_EXECUTE);
     /// assert_eq!(space.map(&mut pool, base, frame, Size::Gib1, rights)?.tables, 1);
@@ -53,19 +104,19 @@ impl Space {
     /// # Ok::<(), Reason>(())
     /// ```
     pub fn map(self, mem: &mut [u8], base: u64, frame: u64, size: Size, rights: Rights) -> Result<Mapped, Reason> {
-        let numbers::Mapped { reason, tables } = numbers::map(mem, self, base, frame, size.bytes(), rights.bits());
+        placed(mem, self.0.origin)?;
+        let numbers::Mapped { reason, tables } = numbers::map(mem, self.0, base, frame, size.bytes(), rights.bits());
         Reason::of(reason)?;
         Ok(Mapped { tables })
     }
 
-    /// Unmaps the page that starts exactly at the base. Tables that become empty are set aside: nothing touches them before the
-    /// report, [`told`](Space::told). Whether caches still hold the page itself is for you to see to (INVLPG on every processor)
-    /// before the frame is used anew.
+    /// Unmaps the page that starts exactly at the base. Tables that become empty are set aside: nothing writes them or hands them out
+    /// before the report, [`told`](Space::told), which comes after the shootdown, as does any new use of the frame.
     ///
     /// ```
-    /// use tablepath::{Found, Reason, Rights, Size, Space};
+    /// use tablepath::{Found, Pages, Reason, Rights, Size, Space};
     ///
-    /// let mut pool = vec![0; 8 * 4096];
+    /// let mut pool = Box::new(Pages::<8>::ZERO);
     /// let space = Space::create(&mut pool, 0x10_0000, 0x10_0000, 8)?;
     /// space.map(&mut pool, 0x1000, 0x5000, Size::Kib4, Rights::USER)?;
     ///
@@ -74,24 +125,24 @@ impl Space {
     /// assert_eq!(space.look_up(&pool, 0x1000), Found::Nothing);
     /// assert_eq!(space.unmap(&mut pool, 0x1000), Err(Reason::NothingStarts));
     ///
-    /// // .. every processor has dropped what it had cached ..
-    /// let ticket = unmapped.ticket.expect("three tables were set aside");
-    /// assert_eq!(space.told(&mut pool, ticket), Ok(3));
+    /// // .. a fence; INVLPG of 0x1000 on every processor, and all have answered ..
+    /// assert_eq!(space.told(&mut pool, unmapped.ticket), Ok(3));
     /// # Ok::<(), Reason>(())
     /// ```
     pub fn unmap(self, mem: &mut [u8], base: u64) -> Result<Unmapped, Reason> {
-        let numbers::Unmapped { reason, frame, size, aside, ticket } = numbers::unmap(mem, self, base);
+        placed(mem, self.0.origin)?;
+        let numbers::Unmapped { reason, frame, size, aside, ticket } = numbers::unmap(mem, self.0, base);
         Reason::of(reason)?;
-        let ticket = (aside > 0).then_some(Ticket::from(ticket));
-        Ok(Unmapped { frame, size: Size::answered(size), aside, ticket })
+        Ok(Unmapped { frame, size: Size::answered(size), aside, ticket: ticket.into() })
     }
 
-    /// Gives the page that starts exactly at the base other rights. The machine's marks, accessed and dirty, stay.
+    /// Gives the page that starts exactly at the base other rights. The machine's marks, accessed and dirty, stay as they were when the entry
+    /// was read.
     ///
     /// ```
-    /// use tablepath::{Reason, Rights, Size, Space};
+    /// use tablepath::{Pages, Reason, Rights, Size, Space};
     ///
-    /// let mut pool = vec![0; 8 * 4096];
+    /// let mut pool = Box::new(Pages::<8>::ZERO);
     /// let space = Space::create(&mut pool, 0x10_0000, 0x10_0000, 8)?;
     /// space.map(&mut pool, 0x20_0000, 0x40_0000, Size::Mib2, Rights::WRITABLE)?;
     ///
@@ -101,31 +152,56 @@ impl Space {
     /// # Ok::<(), Reason>(())
     /// ```
     pub fn protect(self, mem: &mut [u8], base: u64, rights: Rights) -> Result<Protected, Reason> {
-        let numbers::Protected { reason, frame, size } = numbers::protect(mem, self, base, rights.bits());
+        placed(mem, self.0.origin)?;
+        let numbers::Protected { reason, frame, size, ticket } = numbers::protect(mem, self.0, base, rights.bits());
         Reason::of(reason)?;
-        Ok(Protected { frame, size: Size::answered(size) })
+        Ok(Protected { frame, size: Size::answered(size), ticket: ticket.into() })
     }
 
-    /// Reports that no processor walks, or holds in a cache, anything from before this ticket was handed out. What was set aside
-    /// before it is free again: the answer says how many pages.
+    /// Reports a shootdown: every processor has dropped what it held of the pages that were unmapped or protected up to this ticket. What was
+    /// set aside before it is free again: the answer says how many pages.
+    ///
+    /// The shootdown: a fence, so that the stores have left this processor's buffer (MFENCE, or any locked instruction; sending an x2APIC IPI
+    /// does not serialise); then INVLPG of each such page on every processor that uses these tables, and a wait until all have answered. The
+    /// ticket is one that was answered before it began.
     ///
     /// ```
-    /// use tablepath::{Reason, Space, Ticket};
+    /// use tablepath::{Pages, Reason, Space, Ticket};
     ///
-    /// let mut pool = vec![0; 8 * 4096];
+    /// let mut pool = Box::new(Pages::<8>::ZERO);
     /// let space = Space::create(&mut pool, 0x10_0000, 0x10_0000, 8)?;
     /// assert_eq!(space.told(&mut pool, Ticket::from(7)), Err(Reason::UnknownTicket));
     /// # Ok::<(), Reason>(())
     /// ```
     pub fn told(self, mem: &mut [u8], ticket: Ticket) -> Result<u64, Reason> {
-        let numbers::Told { reason, released } = numbers::told(mem, self, ticket.into());
+        placed(mem, self.0.origin)?;
+        let numbers::Told { reason, released } = numbers::told(mem, self.0, ticket.into());
         Reason::of(reason)?;
         Ok(released)
     }
 
+    /// How many pages of the pool are what, and the ticket of this moment.
+    ///
+    /// ```
+    /// use tablepath::{Pages, Reason, Rights, Size, Space};
+    ///
+    /// let mut pool = Box::new(Pages::<8>::ZERO);
+    /// let space = Space::create(&mut pool, 0x10_0000, 0x10_0000, 8)?;
+    /// space.map(&mut pool, 0x1000, 0x5000, Size::Kib4, Rights::USER)?;
+    /// let state = space.state(&pool)?;
+    /// assert_eq!((state.pages, state.free, state.aside, state.tables), (8, 3, 0, 3)); // and the book, and the root
+    /// # Ok::<(), Reason>(())
+    /// ```
+    pub fn state(self, mem: &[u8]) -> Result<State, Reason> {
+        placed(mem, self.0.origin)?;
+        let numbers::Counts { reason, pages, free, aside, tables, ticket } = numbers::state(mem, self.0);
+        Reason::of(reason)?;
+        Ok(State { pages, free, aside, tables, ticket: Ticket::from(ticket) })
+    }
+
     /// What a walk from the root finds for the address; see [`look_up`].
     pub fn look_up(self, mem: &[u8], va: u64) -> Found {
-        look_up(mem, self.origin, self.root, va)
+        look_up(mem, self.0.origin, self.0.root, va)
     }
 }
 

@@ -21,18 +21,20 @@ fn rights() {
     let words =
         ["r-x kernel", "rwx kernel", "r-x user", "rwx user", "r-- kernel", "rw- kernel", "r-- user", "rw- user"];
     for (bits, words) in (0..).zip(words) {
-        let rights = Rights::from_bits(bits);
+        let rights = Rights::from_bits(bits).expect("its bits mean something");
         assert_eq!((rights.bits(), rights.to_string().as_str()), (bits, words));
-        assert_eq!(Rights::from_bits(bits | !7), rights, "bits above the third count for nothing");
         for (bit, right) in [Rights::WRITABLE, Rights::USER, Rights::NO_EXECUTE].into_iter().enumerate() {
             assert_eq!(rights.contains(right), bits >> bit & 1 == 1);
         }
         assert!(rights.contains(Rights::NONE) && rights.contains(rights));
     }
+    for bits in [8, 9, 1 << 63, u64::MAX] {
+        assert_eq!(Rights::from_bits(bits), Err(Reason::Rights));
+    }
     let mut rights = Rights::default();
     assert_eq!(rights, Rights::NONE);
     rights |= Rights::USER;
-    assert_eq!(rights | Rights::WRITABLE, Rights::from_bits(3));
+    assert_eq!(Ok(rights | Rights::WRITABLE), Rights::from_bits(3));
     assert_eq!(format!("{rights:?}"), "Rights(r-x user)");
 }
 

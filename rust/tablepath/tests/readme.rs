@@ -1,11 +1,13 @@
-//! The page of Rust in the repository's README is the first of this crate's, which is itself run as a test of documentation.
+//! The pages of Rust in the repository's README are this crate's, which are themselves run as tests of documentation.
 
-fn page_of_rust(text: &str) -> &str {
-    let (_, page) = text.split_once("```rust\n").expect("a page of Rust");
-    page.split_once("```").expect("it ends").0
+fn pages_of_rust(text: &str) -> Vec<&str> {
+    let pages = text.split("```rust\n").skip(1);
+    pages.map(|page| page.split_once("```").expect("it ends").0).collect()
 }
 
 #[test]
-fn both_show_the_same_page() {
-    assert_eq!(page_of_rust(include_str!("../../../README.md")), page_of_rust(include_str!("../README.md")));
+fn both_show_the_same_pages() {
+    let pages = pages_of_rust(include_str!("../README.md"));
+    assert_eq!(pages.len(), 2);
+    assert_eq!(pages_of_rust(include_str!("../../../README.md")), pages);
 }

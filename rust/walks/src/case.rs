@@ -3,7 +3,7 @@
 use model::{Answer, End, Kind, Walk, Window};
 use std::fmt;
 
-/// What `tp_look_up` answers: every field is compared, those that say nothing too.
+/// What `tp_raw_look_up` answers: every field is compared, those that say nothing too.
 #[derive(Clone, Copy, PartialEq, Eq, Debug)]
 pub struct LookedUp {
     pub kind: u64,

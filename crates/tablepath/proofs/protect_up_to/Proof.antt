@@ -1,5 +1,5 @@
 use mathlib.Core.Path.{sym, _∙_}
-use Rattle.tablepath.specs.Answers.{protectAnswer, protectWrites, protectSaid}
+use Rattle.tablepath.specs.Answers.{protectAnswer, protectWrites, protectSaid, sameOf}
 use borrow.Author.Needs.{needs}
 use Rattle.tablepath.proofs.protect_up_to.Statement.{statement}
 use Rattle.tablepath.proofs.protect_up_to.Tie as tie
@@ -25,7 +25,7 @@ same-length c = search needs
 
 -- src/lib.rt:135:1
 returns : tie.Need-returns
-unfolding protectAnswer protectWrites protectSaid
+unfolding protectAnswer protectWrites protectSaid sameOf
 returns c = (rw (sym (c .before .before .before .before .before .protect .ensures .0) ∙ c .before .d .given .1), c .before .before .before .before .before .protect .ensures .1)
 
 -- src/lib.rt:135:1
@@ -34,7 +34,7 @@ same-length-2 c = search needs
 
 -- src/lib.rt:135:1
 returns-2 : tie.Need-returns-2
-unfolding protectAnswer protectWrites protectSaid
+unfolding protectAnswer protectWrites protectSaid sameOf
 returns-2 c = (rw (sym (c .before .before .before .before .before .protect .ensures .0) ∙ c .before .d2 .given .1), c .before .before .before .before .before .protect .ensures .1)
 
 pub protect-up-to-spec : {M : Type 1} → statement M

@@ -27,7 +27,7 @@ same-length c = search needs
 -- src/lib.rt:106:1
 returns : tie.Need-returns
 unfolding unmapAnswer unmapWrites unmapSaid
-returns c = (rw (unmapping-refused _ _ _ (sym (c .before .before .before .before .before .unmap .ensures .0) ∙ c .before .d .given .1)), c .before .before .before .before .before .unmap .ensures .1)
+returns c = (rw (unmapping-refused _ _ _ _ (sym (c .before .before .before .before .before .unmap .ensures .0) ∙ c .before .d .given .1)), c .before .before .before .before .before .unmap .ensures .1)
 
 -- src/lib.rt:106:1
 same-length-2 : tie.Need-same-length-2
@@ -36,7 +36,7 @@ same-length-2 c = search needs
 -- src/lib.rt:106:1
 returns-2 : tie.Need-returns-2
 unfolding unmapAnswer unmapWrites unmapSaid goneOf
-returns-2 c = let k = unmapping-done _ _ _ _ (sym (c .before .before .before .before .before .before .unmap .ensures .0) ∙ c .before .before .d2 .given .1) in (rw (k .0, k .1), c .before .before .before .before .before .before .unmap .ensures .1)
+returns-2 c = let k = unmapping-done _ _ _ _ _ (sym (c .before .before .before .before .before .before .unmap .ensures .0) ∙ c .before .before .d2 .given .1) in (rw (k .0, k .1), c .before .before .before .before .before .before .unmap .ensures .1)
 
 pub unmap-up-to-spec : {M : Type 1} → statement M
 unmap-up-to-spec =

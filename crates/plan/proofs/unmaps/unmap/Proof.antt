@@ -1,53 +1,58 @@
-use borrow.Author.Needs.{needs}
 use mathlib.Core.Path.{sym, _∙_}
 use Rattle.word.proofs.Budget.{wrote-none}
 use Rattle.plan.specs.Unmap.{didOf, unmappingOf}
-use Rattle.plan.proofs.Low.{unmap-fits, ticket-is}
+use Rattle.plan.proofs.Low.{unmap-fits, unmap-room}
+use borrow.Author.Needs.{needs}
 use Rattle.plan.proofs.unmaps.unmap.Statement.{statement}
 use Rattle.plan.proofs.unmaps.unmap.Tie as tie
 use Rattle.plan.proofs.unmaps.unmap.Reads as reads
 use Rattle.plan.proofs.unmaps.unmap.Lts as lts
 use Rattle.plan.proofs.unmaps.carry_unmap.Reads as carry-unmap-reads
 use Rattle.plan.proofs.unmaps.decide_unmap.Reads as decide-unmap-reads
-use Rattle.pool.proofs.ticket.Reads as ticket-reads
+use Rattle.pool.proofs.book_now.Reads as book-now-reads
+use Rattle.pool.proofs.ticket_after.Reads as ticket-after-reads
 
--- src/unmaps.rt:165:9
+-- src/unmaps.rt:163:9
 decide-unmap-requires : tie.Need-decide-unmap-requires
 decide-unmap-requires c κs = search needs
 
--- src/unmaps.rt:167:27
+-- src/unmaps.rt:165:27
 enum-known-d : tie.Need-enum-known-d
 enum-known-d c = search needs
 
--- src/unmaps.rt:168:22
+-- src/unmaps.rt:166:22
 enum-known-d-2 : tie.Need-enum-known-d-2
 enum-known-d-2 c = search needs
 
--- src/unmaps.rt:169:17
+-- src/unmaps.rt:167:45
+book-now-requires : tie.Need-book-now-requires
+book-now-requires c κs = search needs
+
+-- src/unmaps.rt:167:17
+ticket-after-requires : tie.Need-ticket-after-requires
+ticket-after-requires c κs = search needs
+
+-- src/unmaps.rt:168:13
 carry-unmap-requires : tie.Need-carry-unmap-requires
-carry-unmap-requires c κs = let f = unmap-fits _ _ _ _ _ (sym (c .before .before .before .before .before .decide-unmap .ensures) ∙ c .before .before .before .d2 .given .1) in (f .low, f .index)
+carry-unmap-requires c κs = let f = unmap-fits _ _ _ _ _ (sym (c .before .before .before .before .before .before .before .before .decide-unmap .ensures) ∙ c .before .before .before .before .before .before .d2 .given .1) in (f .low, f .index)
 
--- src/unmaps.rt:170:32
-ticket-requires : tie.Need-ticket-requires
-ticket-requires c κs = search needs
-
--- src/unmaps.rt:161:1
+-- src/unmaps.rt:159:1
 same-length : tie.Need-same-length
 same-length c = search needs
 
--- src/unmaps.rt:161:1
+-- src/unmaps.rt:159:1
 returns : tie.Need-returns
 unfolding didOf unmappingOf
 returns c = let e = sym (c .before .before .before .decide-unmap .ensures) ∙ c .before .d .given .1 in (rw e, rw e (wrote-none _ _ _))
 
--- src/unmaps.rt:161:1
+-- src/unmaps.rt:159:1
 same-length-2 : tie.Need-same-length-2
 same-length-2 c = search needs
 
--- src/unmaps.rt:161:1
+-- src/unmaps.rt:159:1
 returns-2 : tie.Need-returns-2
 unfolding didOf unmappingOf
-returns-2 c = let e = sym (c .before .before .before .before .before .before .before .before .before .decide-unmap .ensures) ∙ c .before .before .before .before .before .before .before .d2 .given .1 in (rw (e, c .ticket .ensures, c .before .before .before .carry-unmap .ensures .0, ticket-is _ _ _ (unmap-fits _ _ _ _ _ e)), rw e (c .before .before .before .carry-unmap .ensures .1))
+returns-2 c = let e = sym (c .before .before .before .before .before .before .before .before .before .before .before .decide-unmap .ensures) ∙ c .before .before .before .before .before .before .before .before .before .d2 .given .1 in (rw (e, c .before .before .before .before .before .ticket-after .ensures, c .before .before .before .before .before .before .book-now .ensures (unmap-room _ _ _ _ _ e)), rw e (c .before .before .carry-unmap .ensures))
 
 pub unmap-spec : {M : Type 1} → statement M
 unmap-spec =
@@ -56,8 +61,9 @@ unmap-spec =
     decide-unmap-requires
     enum-known-d
     enum-known-d-2
+    book-now-requires
+    ticket-after-requires
     carry-unmap-requires
-    ticket-requires
     same-length
     returns
     same-length-2

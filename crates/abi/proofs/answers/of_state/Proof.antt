@@ -1,0 +1,45 @@
+use Rattle.abi.specs.Answers.{counted}
+use borrow.Author.Needs.{needs}
+use Rattle.abi.proofs.answers.of_state.Statement.{statement}
+use Rattle.abi.proofs.answers.of_state.Tie as tie
+use Rattle.abi.proofs.answers.of_state.Reads as reads
+use Rattle.abi.proofs.answers.of_state.Lts as lts
+use Rattle.abi.proofs.answers.pool_reason.Reads as pool-reason-reads
+use Rattle.abi.proofs.answers.uncounted.Reads as uncounted-reads
+
+-- src/answers.rt:252:31
+enum-known-a : tie.Need-enum-known-a
+enum-known-a c = search needs
+
+-- src/answers.rt:252:47
+pool-reason-requires : tie.Need-pool-reason-requires
+pool-reason-requires c κs = search needs
+
+-- src/answers.rt:252:37
+uncounted-requires : tie.Need-uncounted-requires
+uncounted-requires c κs = search needs
+
+-- src/answers.rt:253:30
+enum-known-a-2 : tie.Need-enum-known-a-2
+enum-known-a-2 c = search needs
+
+-- src/answers.rt:248:1
+returns : tie.Need-returns
+unfolding counted
+returns c = rw (c .before .before .before .a .given .1, c .uncounted .ensures, c .before .pool-reason .ensures)
+
+-- src/answers.rt:248:1
+returns-2 : tie.Need-returns-2
+unfolding counted
+returns-2 c = rw (c .before .a2 .given .1)
+
+pub of-state-spec : {M : Type 1} → statement M
+of-state-spec =
+    tie.close
+    (tie.spec
+    enum-known-a
+    pool-reason-requires
+    uncounted-requires
+    enum-known-a-2
+    returns
+    returns-2)

@@ -1,0 +1,42 @@
+// The space that C's numbers name, or the number of the reason why there is none.
+ghost use mathlib.Core.Path.{_≡_};
+ghost use Rattle.abi.specs.Calls as call;
+use plan::Asked;
+use plan::Shape;
+use pool::Space;
+
+// A space by page numbers, or the number of the reason why there is none.
+pub enum Sited {
+    At(Space),
+    Refused(u64),
+}
+
+// The space that the four numbers name.
+pub fn site(origin: u64, pool: u64, pages: u64, root: u64) -> Sited
+    ensures { λ r. ⌜ r ≡ call.siteOf origin pool pages root ⌝ }
+{
+    if pool % 4096 != 0 {
+        return Sited::Refused(14);
+    }
+    if root % 4096 != 0 {
+        return Sited::Refused(15);
+    }
+    Sited::At(Space {
+        origin: origin,
+        first: pool / 4096,
+        pages: pages,
+        root: root / 4096,
+    })
+}
+
+// Why map is refused where there is no space, for the reason y: its size, alignment and range come first. Where there is one, map
+// itself looks at them first.
+pub fn misplaced(q: Asked, y: u64) -> u64
+    ensures { λ r. ⌜ r ≡ call.misplacedOf q y ⌝ }
+{
+    let s = plan::shaped(q.size, q.base, q.frame);
+    match s {
+        Shape::Bad(r) => crate::answers::reason(r),
+        Shape::Level(n) => y,
+    }
+}
