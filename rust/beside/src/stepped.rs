@@ -180,7 +180,8 @@ pub fn run(of: &dyn Operations, seed: u64, operations: u64, caches: bool, flaw: 
     let (linked, frozen) = (BTreeSet::new(), BTreeSet::new());
     let mut stepped = Stepped { writer, memory, clock: &clock, means, linked, frozen };
     let processor = |which: usize, upper| {
-        Onlooker::new(&sight, memory, &clock, &mailboxes[which], upper, seed.wrapping_add(which as u64), 4096).with(caches, flaw)
+        Onlooker::new(&sight, memory, &clock, &mailboxes[which], upper, seed.wrapping_add(which as u64), 4096)
+            .with(caches, flaw)
     };
     let mut onlookers = [processor(0, Upper::All), processor(1, Upper::Leading)];
     for _ in 0..operations {
