@@ -37,4 +37,12 @@ impl Flaw {
         Flaw::TicketOfLaterCalls,
         Flaw::FrameBeforeReport,
     ];
+
+    /// Words of the trouble that it has to make.
+    pub fn words(self) -> &'static str {
+        match self {
+            Flaw::FrameBeforeReport => "which is gone",
+            _ => "",
+        }
+    }
 }

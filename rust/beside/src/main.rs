@@ -75,8 +75,12 @@ fn sound(name: &str, caches: bool, run: impl FnOnce() -> Result<Tally, String>) 
 }
 
 /// A negative control: it has to be found out.
-fn wrong(name: &str, run: impl FnOnce() -> Result<Tally, String>) -> bool {
+fn wrong(name: &str, flaw: Flaw, run: impl FnOnce() -> Result<Tally, String>) -> bool {
     match run() {
+        Err(trouble) if !trouble.contains(flaw.words()) => {
+            println!("beside: FAILED: {name} was found out by something else: {trouble}");
+            false
+        }
         Err(trouble) => {
             println!("beside: found out: {name}: {}", trouble.lines().next().unwrap_or(""));
             true
@@ -96,7 +100,7 @@ fn beside_the_code(of: &dyn Operations, seed: u64) -> Vec<bool> {
             let some = |count, flaw| rounds(seed, count, |seed| run(of, seed, room, flaw));
             checks.push(sound(name, true, || some(count, Flaw::None)));
             for flaw in [Flaw::LinkThenClear].into_iter().chain(Flaw::OF_REPORTS) {
-                checks.push(wrong(&format!("{flaw:?}, {name}"), || some(count, flaw)));
+                checks.push(wrong(&format!("{flaw:?}, {name}"), flaw, || some(count, flaw)));
             }
         };
     both("in interrupts of the writer", 20, 100_000, alive::interrupted);
@@ -125,10 +129,10 @@ fn main() -> ExitCode {
     let of_writes =
         [Flaw::LinkThenClear, Flaw::UnlinkThenClear, Flaw::Halves, Flaw::ProtectByClearing, Flaw::ToldBeforeWalksEnd];
     for flaw in of_writes {
-        checks.push(wrong(&format!("{flaw:?}"), || steps(20, 400, false, flaw)));
+        checks.push(wrong(&format!("{flaw:?}"), flaw, || steps(20, 400, false, flaw)));
     }
     for flaw in Flaw::OF_REPORTS {
-        checks.push(wrong(&format!("{flaw:?}"), || steps(20, 400, true, flaw)));
+        checks.push(wrong(&format!("{flaw:?}"), flaw, || steps(20, 400, true, flaw)));
     }
     if cfg!(feature = "library") {
         checks.extend(beside_the_code(of, seed));
