@@ -1,8 +1,10 @@
 /* The kernel, doctored: one of these stands in place of a function (the linker's --wrap), and the account must find it out. */
 #include "foresee.h"
 #include "machine.h"
+#include "must.h"
 #include "own.h"
 #include "second.h"
+#include "shootdowns.h"
 #include "tablepath.h"
 
 #define SPACE uint8_t *mem, size_t len, uint64_t origin, uint64_t pool, uint64_t pages, uint64_t root
@@ -103,5 +105,33 @@ void __wrap_shoot_down(uint64_t va) {
     if (tp_look_up(&process_space, va).kind == TP_PAGE) return;
 #endif
     __real_shoot_down(va);
+}
+#endif
+
+#if defined EARLY_REPORT /* every shootdown counts as done when it has begun */
+int __wrap_is_done(const struct shootdown *s);
+int __wrap_is_done(const struct shootdown *s) {
+    (void)s;
+    return 1;
+}
+#endif
+
+#if defined PAGE_TOO_FEW /* of several pages of a shootdown the last is left out */
+void __real_do_shootdown(struct shootdown *s);
+void __wrap_do_shootdown(struct shootdown *s);
+void __wrap_do_shootdown(struct shootdown *s) {
+    unsigned pages = s->pages;
+    if (pages > 1) s->pages--;
+    __real_do_shootdown(s);
+    s->pages = pages;
+}
+#endif
+
+#if defined LATER_TICKET /* reported with the last ticket, though it was answered after the shootdown began */
+void __real_must_report_of(uint64_t ticket, uint64_t tables);
+void __wrap_must_report_of(uint64_t ticket, uint64_t tables);
+void __wrap_must_report_of(uint64_t ticket, uint64_t tables) {
+    (void)ticket;
+    __real_must_report_of(last_ticket(), tables);
 }
 #endif

@@ -7,7 +7,7 @@
 #include "second.h"
 #include "tests.h"
 
-enum { MOST = 24, WORDS = MOST * ENTRIES };
+enum { MOST = 40, WORDS = MOST * ENTRIES };
 static uint64_t before[WORDS];
 static const uint64_t rights = TP_WRITABLE | TP_USER;
 

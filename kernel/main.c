@@ -55,6 +55,7 @@ void first_processor(uint64_t start_info) {
     test_marks();
     test_bits();
     test_stale();
+    test_overlapping();
     test_dry();
     test_night(rounds_asked(ROUNDS));
     test_own_marks();

@@ -20,7 +20,7 @@ own_pool:
         .skip 16 * 4096
 own_pool_ends:
 process_pool:
-        .skip 24 * 4096
+        .skip 40 * 4096
 process_pool_ends:
 
 .macro word_in name

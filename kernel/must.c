@@ -6,7 +6,7 @@
 #include "own.h"
 #include "second.h"
 
-static uint64_t made, aside, released;
+static uint64_t made, aside, released, ticket_answered;
 
 uint64_t size_of(unsigned n) { return n == 0 ? PAGE : n == 1 ? MIB2 : GIB1; }
 
@@ -61,7 +61,7 @@ void must_protect(uint64_t base, uint64_t rights) {
           after.rights, rights);
 }
 
-uint64_t must_unmap(uint64_t base, uint64_t frame, uint64_t size) {
+uint64_t must_unmap_untold(uint64_t base, uint64_t frame, uint64_t size) {
     uint64_t tables = alone(base);
     struct tp_unmapped u = tp_unmap(&process_space, base);
     check(u.reason == TP_DONE && u.frame == frame && u.size == size && u.aside == tables,
@@ -69,8 +69,14 @@ uint64_t must_unmap(uint64_t base, uint64_t frame, uint64_t size) {
           u.aside, tables);
     check(tp_look_up(&process_space, base).kind == TP_NOTHING, "unmapped %s at %x: look-up still says something", size_name(size), base);
     aside += u.aside;
-    shoot_down(base);
+    if (u.ticket) ticket_answered = u.ticket;
     return u.ticket;
+}
+
+uint64_t must_unmap(uint64_t base, uint64_t frame, uint64_t size) {
+    uint64_t ticket = must_unmap_untold(base, frame, size);
+    shoot_down(base);
+    return ticket;
 }
 
 void must_report(uint64_t ticket) {
@@ -80,10 +86,19 @@ void must_report(uint64_t ticket) {
     aside = 0;
 }
 
+void must_report_of(uint64_t ticket, uint64_t tables) {
+    uint64_t later = aside - (tables - released);
+    aside = tables - released;
+    must_report(ticket);
+    aside = later;
+}
+
 void must_unmap_and_report(uint64_t base, uint64_t frame, uint64_t size) {
     uint64_t ticket = must_unmap(base, frame, size);
     if (ticket) must_report(ticket);
 }
 
+uint64_t last_ticket(void) { return ticket_answered; }
 uint64_t tables_made(void) { return made; }
+uint64_t tables_set_aside(void) { return released + aside; }
 uint64_t tables_released(void) { return released; }

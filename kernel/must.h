@@ -22,15 +22,23 @@ void must_be(const struct tp_space *s, const struct place *place);
 void must_map(uint64_t base, uint64_t frame, uint64_t size, uint64_t rights);
 void must_protect(uint64_t base, uint64_t rights);
 
-/* Unmaps, and tells the second processor; the answer is the ticket. Reports, with a ticket that all before it were told. */
+/* Unmaps, and tells nobody yet; the answer is the ticket. Or tells the second processor at once. */
+uint64_t must_unmap_untold(uint64_t base, uint64_t frame, uint64_t size);
 uint64_t must_unmap(uint64_t base, uint64_t frame, uint64_t size);
+
+/* Reports, with a ticket that all before it were told: all tables set aside must be free again; or so many of those of the whole run. */
 void must_report(uint64_t ticket);
+void must_report_of(uint64_t ticket, uint64_t tables);
 
 /* Both at once. */
 void must_unmap_and_report(uint64_t base, uint64_t frame, uint64_t size);
 
-/* How many tables were made, and released after they had been set aside, so far. */
+/* The last ticket that was answered. */
+uint64_t last_ticket(void);
+
+/* How many tables were made, set aside, and released after that, so far. */
 uint64_t tables_made(void);
+uint64_t tables_set_aside(void);
 uint64_t tables_released(void);
 
 #endif

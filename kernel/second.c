@@ -3,12 +3,14 @@
 #include "foresee.h"
 #include "image.h"
 #include "machine.h"
+#include "shootdowns.h"
 
 enum { APIC_END = 0xb0, APIC_ENABLE = 0xf0, APIC_COMMAND = 0x300, TO_THE_OTHER = 0xc4000, INIT = 0x500, START_AT_8000 = 0x608 };
 
 static struct {
     uint32_t posted, done;
-    int access; /* else invlpg */
+    int access; /* else a shootdown; else one invlpg */
+    struct shootdown *shootdown;
     enum access kind;
     uint64_t va, word;
     struct outcome outcome;
@@ -42,7 +44,10 @@ void second_processor(void) {
 
 void second_ordered(void) {
     if (order.access) order.outcome = access_here(order.kind, order.va, order.word);
-    else invlpg(order.va);
+    else if (order.shootdown) {
+        for (unsigned n = 0; n < order.shootdown->pages; n++) invlpg(order.shootdown->page[n]);
+        __atomic_store_n(&order.shootdown->done, 1, __ATOMIC_RELEASE);
+    } else invlpg(order.va);
     *apic(APIC_END) = 0;
     __atomic_store_n(&order.done, order.posted, __ATOMIC_RELEASE);
 }
@@ -55,9 +60,18 @@ static void interrupt_second(void) {
 
 static void order_invlpg(uint64_t va) {
     order.access = 0;
+    order.shootdown = 0;
     order.va = va;
     interrupt_second();
 }
+
+void do_shootdown(struct shootdown *s) {
+    order.access = 0;
+    order.shootdown = s;
+    interrupt_second();
+}
+
+int is_done(const struct shootdown *s) { return (int)__atomic_load_n(&s->done, __ATOMIC_ACQUIRE); }
 
 void shoot_down(uint64_t va) {
     last_shot = va;

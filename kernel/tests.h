@@ -9,6 +9,7 @@ void test_rights(void);
 void test_marks(void);
 void test_bits(void);
 void test_stale(void);
+void test_overlapping(void);
 void test_dry(void);
 void test_night(uint64_t rounds);
 

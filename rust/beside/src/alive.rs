@@ -3,13 +3,18 @@
 //! - a timer's interrupt of the writer (`interrupted`): on any processor, since a thread that is interrupted anywhere sees
 //!   its own stores in the order of its code.
 
-use crate::log::{Log, Tally};
-use crate::onlooker::{Onlooker, Shared};
+use crate::cache::Upper;
+use crate::flaw::Flaw;
+use crate::log::Tally;
+use crate::memory::Shared;
+use crate::onlooker::Onlooker;
 use crate::scene::Scene;
-use crate::stepped::{singles, Flaw};
+use crate::shootdowns::Mailbox;
+use crate::stepped::singles;
+use crate::writer::Writer;
 use model::Window;
 use operations::due::due;
-use operations::{Answer, Operations};
+use operations::Operations;
 use std::hint::spin_loop;
 use std::sync::atomic::{fence, AtomicBool, AtomicPtr, AtomicU64, Ordering::SeqCst};
 use std::thread;
@@ -20,22 +25,14 @@ use std::time::{Duration, Instant};
 struct Between {
     /// Odd while an operation runs.
     clock: AtomicU64,
-    /// How often the writer asked for a flush, and how often there was one.
-    asked: AtomicU64,
-    done: AtomicU64,
     /// Turns that fell into an operation.
     amid: AtomicU64,
     stop: AtomicBool,
+    mailboxes: [Mailbox; 1],
 }
 
 impl Between {
     fn turn(&self, onlooker: &mut Onlooker, reads: u64) {
-        let asked = self.asked.load(SeqCst);
-        // Not at once: a processor goes on with what it holds until it is told.
-        if asked != self.done.load(SeqCst) && onlooker.random.chance(1, 8) {
-            onlooker.flush();
-            self.done.store(asked, SeqCst);
-        }
         if self.clock.load(SeqCst) % 2 == 1 {
             self.amid.fetch_add(1, SeqCst);
         }
@@ -55,80 +52,48 @@ impl Between {
     }
 }
 
-struct Writer<'a> {
-    scene: Scene,
-    memory: Shared,
-    between: &'a Between,
-    log: Log,
-    tally: Tally,
-    /// The ticket at the moment when the flush was asked for that is not done yet.
-    promised: Option<u64>,
-}
-
-impl Writer<'_> {
-    fn reports(&mut self, flaw: Flaw) {
-        if flaw == Flaw::ToldBeforeCachesDrop {
-            self.scene.reported = self.scene.ticket();
-            return;
-        }
-        match self.promised {
-            Some(ticket) if self.between.asked.load(SeqCst) == self.between.done.load(SeqCst) => {
-                self.scene.reported = ticket;
-                self.promised = None;
-            }
-            None if self.scene.random.chance(1, 4) => {
-                self.promised = Some(self.scene.ticket());
-                self.between.asked.fetch_add(1, SeqCst);
-            }
-            _ => {}
-        }
-    }
-
-    fn operation(&mut self, of: &dyn Operations, flaw: Flaw) -> Result<(), String> {
-        self.reports(flaw);
-        let request = self.scene.next();
-        let judged = self.scene.ledger.judge(&request, self.memory.len).expect("our own pool");
-        let clock = &self.between.clock;
-        // SAFETY: that others read it meanwhile is what is tested.
-        let bytes = unsafe { self.memory.lent() };
-        // No store of the operation is to be seen before the clock is.
-        let begin = || {
-            clock.fetch_add(1, SeqCst);
-            fence(SeqCst);
-        };
-        let answer = if flaw == Flaw::LinkThenClear {
-            let due = due(Window { bytes, origin: self.memory.origin }, &request);
-            let writes = singles(self.memory, &request, &due.writes, flaw);
-            begin();
-            for (at, word) in writes {
-                self.memory.write(at, word);
-                if word % 2 == 1 {
-                    // Long enough to be seen on a busy machine, too; a sleep would be woken by the interrupts, and begin again.
-                    let seen = Instant::now() + Duration::from_micros(20);
-                    while Instant::now() < seen {
-                        spin_loop();
-                    }
+/// One operation, as the compiled library does it.
+fn operation(of: &dyn Operations, writer: &mut Writer, between: &Between) -> Result<(), String> {
+    let clock = &between.clock;
+    let began = clock.load(SeqCst);
+    writer.tell(began);
+    let request = writer.next();
+    let judged = writer.scene.ledger.judge(&request, writer.memory.len).expect("our own pool");
+    // SAFETY: that others read it meanwhile is what is tested.
+    let bytes = unsafe { writer.memory.lent() };
+    // No store of the operation is to be seen before the clock is.
+    let begin = || {
+        clock.fetch_add(1, SeqCst);
+        fence(SeqCst);
+    };
+    let answer = if writer.flaw == Flaw::LinkThenClear {
+        let due = due(Window { bytes, origin: writer.memory.origin }, &request);
+        let writes = singles(writer.memory, &request, &due.writes, writer.flaw);
+        begin();
+        for (at, word) in writes {
+            writer.memory.write(at, word);
+            if word % 2 == 1 {
+                // Long enough to be seen on a busy machine, too; a sleep would be woken by the interrupts, and begin again.
+                let seen = Instant::now() + Duration::from_micros(20);
+                while Instant::now() < seen {
+                    spin_loop();
                 }
             }
-            due.answer
-        } else {
-            begin();
-            request.ask(of, bytes)
-        };
-        let state = clock.fetch_add(1, SeqCst).div_ceil(2);
-        if answer != judged {
-            return Err(format!("{request}: answered\n  {answer}, should be\n  {judged}"));
         }
-        for (which, means) in self.scene.means().into_iter().enumerate() {
-            self.log.note(state, which, means);
-        }
-        if let Answer::Told(told) = answer {
-            self.tally.reports += u64::from(told.released > 0);
-            self.scene.spoil(self.memory, told.released);
-        }
-        self.tally.operations += 1;
-        Ok(())
+        due.answer
+    } else {
+        begin();
+        request.ask(of, bytes)
+    };
+    let state = clock.fetch_add(1, SeqCst).div_ceil(2);
+    if answer != judged {
+        return Err(format!("{request}: answered\n  {answer}, should be\n  {judged}"));
     }
+    for (which, means) in writer.scene.means(&writer.sight.watched).into_iter().enumerate() {
+        writer.log.note(state, which, means);
+    }
+    writer.note(&request, &answer, began);
+    Ok(())
 }
 
 /// One pool; `beside` runs the writer, and lets the onlooker walk meanwhile.
@@ -139,15 +104,17 @@ fn run(
     flaw: Flaw,
     beside: impl FnOnce(&mut Onlooker, &Between, &mut dyn FnMut() -> Result<(), String>) -> Result<(), String>,
 ) -> Result<Tally, String> {
-    let (scene, mut words) = Scene::new(of, seed);
+    let (scene, sight, mut words) = Scene::new(of, seed);
     let memory = Shared::of(&mut words, scene.space().origin);
     let between = Between::default();
-    let (watched, space, log) = (scene.watched.clone(), scene.space(), Log::new(&scene.means()));
-    let mut writer = Writer { scene, memory, between: &between, log, tally: Tally::default(), promised: None };
-    let mut onlooker = Onlooker::new(&watched, space, memory, &between.clock, seed, true, room);
-    beside(&mut onlooker, &between, &mut || writer.operation(of, flaw))?;
+    let Between { clock, mailboxes, .. } = &between;
+    let mut writer = Writer::new(scene, &sight, memory, mailboxes, flaw);
+    let upper = if seed % 2 == 0 { Upper::All } else { Upper::Leading };
+    let mut onlooker = Onlooker::new(&sight, memory, clock, &mailboxes[0], upper, seed, room).with(true, flaw);
+    beside(&mut onlooker, &between, &mut || operation(of, &mut writer, &between))?;
     onlooker.finish();
-    writer.log.judge(&watched, &onlooker.seen, &mut writer.tally)?;
+    writer.log.judge(&sight.watched, &onlooker.seen, &mut writer.tally)?;
+    writer.tally.add(onlooker.counts);
     writer.tally.amid = between.amid.load(SeqCst);
     Ok(writer.tally)
 }
@@ -155,6 +122,15 @@ fn run(
 pub fn threads(of: &dyn Operations, seed: u64, room: usize, flaw: Flaw) -> Result<Tally, String> {
     run(of, seed, room, flaw, |onlooker, between, operation| {
         onlooker.quiet = 16;
+        let began = Instant::now();
+        let mut patient = || {
+            // In turns the writer waits while three shootdowns are under way, as kernels do, and runs ahead.
+            let end = Instant::now() + Duration::from_micros(50);
+            while began.elapsed().as_millis() / 16 % 2 == 0 && between.mailboxes[0].is_full() && Instant::now() < end {
+                thread::yield_now();
+            }
+            operation()
+        };
         thread::scope(|scope| {
             scope.spawn(|| {
                 while !between.stop.load(SeqCst) {
@@ -166,7 +142,7 @@ pub fn threads(of: &dyn Operations, seed: u64, room: usize, flaw: Flaw) -> Resul
                     }
                 }
             });
-            let outcome = between.write(operation);
+            let outcome = between.write(&mut patient);
             between.stop.store(true, SeqCst);
             outcome
         })

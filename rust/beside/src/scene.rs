@@ -1,11 +1,13 @@
 //! What the writer asks: pages of every size at few addresses, so that tables come and go and are used again, at other
 //! places and at other levels; and which addresses are watched.
 
-use crate::onlooker::Shared;
+use crate::frames::Frames;
+use crate::memory::Shared;
 use operations::layout::{ASIDE, FREE, HEAD, HEADER};
 use operations::ledger::{Ledger, GIB1, KIB4, MIB2, PHYSICAL, SIZES};
 use operations::random::Random;
 use operations::{LookedUp, Operations, Request, Space};
+use std::collections::BTreeSet;
 
 /// The indices of the addresses that are used, the same ones at each level: what a walk reads in a table that was used again
 /// is an entry that may well be there.
@@ -13,12 +15,40 @@ const INDICES: [u64; 2] = [5, 511];
 const TOPS: [u64; 2] = [0, 255];
 const ORIGIN: u64 = 0x4000_0000;
 
+/// What the walks know.
+pub struct Sight {
+    pub root: u64,
+    pub watched: Vec<u64>,
+    /// The base and size of every page that may be mapped; and for each watched address a bit for each of them that it lies in.
+    pub pages: Vec<(u64, u64)>,
+    lies_in: Vec<u64>,
+}
+
+impl Sight {
+    fn new(root: u64, watched: Vec<u64>) -> Sight {
+        let mut pages: Vec<(u64, u64)> = vec![];
+        for size in SIZES {
+            let begins: BTreeSet<u64> = bases().map(|base| base / size * size).collect();
+            pages.extend(begins.into_iter().map(|base| (base, size)));
+        }
+        assert!(pages.len() <= 64, "a bit for each page");
+        let bits = |va: &u64| {
+            let within = |page: &(u64, u64)| u64::from((page.0..page.0 + page.1).contains(va));
+            pages.iter().enumerate().map(|(bit, page)| within(page) << bit).sum()
+        };
+        let lies_in = watched.iter().map(bits).collect();
+        Sight { root, watched, pages, lies_in }
+    }
+
+    /// The watched addresses in these pages.
+    pub fn told(&self, pages: u64) -> impl Iterator<Item = usize> + '_ {
+        (0..self.watched.len()).filter(move |which| self.lies_in[*which] & pages != 0)
+    }
+}
+
 pub struct Scene {
     pub random: Random,
     pub ledger: Ledger,
-    pub watched: Vec<u64>,
-    /// The ticket up to which every walk has ended and every cache was dropped.
-    pub reported: u64,
 }
 
 fn bases() -> impl Iterator<Item = u64> {
@@ -38,8 +68,8 @@ pub fn junk(random: &mut Random) -> u64 {
 }
 
 impl Scene {
-    /// A pool in a window with a page before and after it, all of it junk; and the words of the window.
-    pub fn new(of: &dyn Operations, seed: u64) -> (Scene, Vec<u64>) {
+    /// A pool in a window with a page before and after it, all of it junk; what is watched; and the words of the window.
+    pub fn new(of: &dyn Operations, seed: u64) -> (Scene, Sight, Vec<u64>) {
         let mut random = Random::new(seed, 0);
         let pages = 6 + random.below(14);
         let mut words: Vec<u64> = (0..512 * (pages + 2)).map(|_| junk(&mut random)).collect();
@@ -51,15 +81,16 @@ impl Scene {
         let mut watched: Vec<u64> = bases().map(|base| base + random.below(KIB4)).collect();
         // Beside them: what only a large page covers.
         watched.extend([GIB1 * 5 + 7 * MIB2, GIB1 * 5 + MIB2 * 5 + 9 * KIB4, GIB1 * 511, 0]);
-        (Scene { random, ledger, watched, reported: 0 }, words)
+        let sight = Sight::new(ledger.space.root, watched);
+        (Scene { random, ledger }, sight, words)
     }
 
     pub fn space(&self) -> Space {
         self.ledger.space
     }
 
-    pub fn means(&self) -> Vec<LookedUp> {
-        self.watched.iter().map(|va| self.ledger.means(*va)).collect()
+    pub fn means(&self, watched: &[u64]) -> Vec<LookedUp> {
+        watched.iter().map(|va| self.ledger.means(*va)).collect()
     }
 
     /// The ticket of this moment.
@@ -67,15 +98,25 @@ impl Scene {
         self.ledger.released + self.ledger.aside
     }
 
-    pub fn next(&mut self) -> Request {
-        let space = self.space();
+    /// Few pages are free.
+    pub fn is_dry(&self) -> bool {
+        self.ledger.free < 3
+    }
+
+    /// A frame above the pool: mostly another each time; now and then one that is mapped already, or one that was and is gone.
+    fn frame(&mut self, size: u64, gone: &Frames) -> u64 {
         let random = &mut self.random;
-        let dry = self.ledger.free < 3;
-        if self.reported > self.ledger.released && random.chance(if dry { 3 } else { 1 }, 8) {
-            let more = random.below(self.reported - self.ledger.released);
-            let ticket = if random.chance(1, 3) { self.reported - more } else { self.reported };
-            return Request::Told { space, ticket };
+        let fresh = (GIB1 * 16 + random.below(PHYSICAL - 32 * GIB1)) / size * size;
+        match random.below(8) {
+            0 => self.ledger.mappings.iter().find(|page| page.size == size).map_or(fresh, |page| page.frame),
+            1 => gone.again(size).unwrap_or(fresh),
+            _ => fresh,
         }
+    }
+
+    pub fn next(&mut self, gone: &Frames) -> Request {
+        let (space, dry) = (self.space(), self.is_dry());
+        let random = &mut self.random;
         let all: Vec<u64> = bases().collect();
         let pages = &self.ledger.mappings;
         let page = |random: &mut Random| match pages.len() {
@@ -87,9 +128,8 @@ impl Scene {
             0..=6 => {
                 let size = random.pick(&[SIZES[0], SIZES[0], SIZES[0], SIZES[0], SIZES[1], SIZES[1], SIZES[2]]);
                 let base = random.pick(&all) / size * size;
-                // Above the pool, and each time another.
-                let frame = (GIB1 * 16 + random.below(PHYSICAL - 32 * GIB1)) / size * size;
-                Request::Map { space, base, frame, size, rights: random.below(8) }
+                let rights = random.below(8);
+                Request::Map { space, base, frame: self.frame(size, gone), size, rights }
             }
             // While the pool is dry some pages stay, or nothing would be left to be seen.
             7..=12 if !dry || pages.len() > 3 => Request::Unmap { space, base: page(random) },

@@ -2,32 +2,19 @@
 //! the order in which they are due, and walks read on in between. The compiled library does the same operation on a copy,
 //! at once: what it answers and what it leaves has to be what the single writes leave.
 
-use crate::log::{Log, Tally};
-use crate::onlooker::{Onlooker, Shared};
+use crate::cache::Upper;
+use crate::flaw::Flaw;
+use crate::log::Tally;
+use crate::memory::Shared;
+use crate::onlooker::Onlooker;
 use crate::scene::Scene;
+use crate::shootdowns::Mailbox;
+use crate::writer::Writer;
 use model::{walk, Window};
 use operations::due::{due, looked_up, Write};
 use operations::{Answer, LookedUp, Operations, Request};
 use std::collections::BTreeSet;
 use std::sync::atomic::{AtomicU64, Ordering::SeqCst};
-
-/// What is done wrongly on purpose.
-#[derive(Clone, Copy, PartialEq, Eq, Debug)]
-pub enum Flaw {
-    None,
-    /// A table is linked and then cleared.
-    LinkThenClear,
-    /// An empty table is unlinked, and then the page's entry in it is cleared.
-    UnlinkThenClear,
-    /// A word is written in two halves.
-    Halves,
-    /// Rights are changed by way of an entry that is not present.
-    ProtectByClearing,
-    /// Told while walks that had begun go on.
-    ToldBeforeWalksEnd,
-    /// Told while a cache keeps what it had.
-    ToldBeforeCachesDrop,
-}
 
 /// The single writes, in order; a flaw changes the order, or takes one apart.
 pub fn singles(memory: Shared, request: &Request, writes: &[Write], flaw: Flaw) -> Vec<(u64, u64)> {
@@ -63,11 +50,9 @@ pub fn singles(memory: Shared, request: &Request, writes: &[Write], flaw: Flaw) 
 }
 
 struct Stepped<'a> {
-    scene: Scene,
+    writer: Writer<'a>,
     memory: Shared,
     clock: &'a AtomicU64,
-    log: Log,
-    tally: Tally,
     /// What each watched address means.
     means: Vec<LookedUp>,
     /// The tables that an entry names, and those that are set aside, which nothing may write.
@@ -77,7 +62,7 @@ struct Stepped<'a> {
 
 impl Stepped<'_> {
     fn is_table(&self, page: u64) -> bool {
-        let space = self.scene.space();
+        let space = self.writer.scene.space();
         (space.behind()..space.end()).contains(&page)
     }
 
@@ -86,11 +71,11 @@ impl Stepped<'_> {
         // SAFETY: all is on one thread.
         let bytes: &[u8] = unsafe { self.memory.lent() };
         let window = Window { bytes, origin: self.memory.origin };
-        let mean = |va: &u64| match looked_up(walk(window, self.scene.space().root, *va)) {
+        let mean = |va: &u64| match looked_up(walk(window, self.writer.scene.space().root, *va)) {
             Answer::LookedUp(found) => found,
             other => unreachable!("{other}"),
         };
-        self.scene.watched.iter().map(mean).collect()
+        self.writer.sight.watched.iter().map(mean).collect()
     }
 
     /// Writes one word; answers whether that changed what some watched address means.
@@ -101,7 +86,7 @@ impl Stepped<'_> {
         }
         let old = self.memory.read(at).expect("in the window");
         self.memory.write(at, word);
-        if page != self.scene.space().root && !self.linked.contains(&page) {
+        if page != self.writer.scene.space().root && !self.linked.contains(&page) {
             return Ok(false);
         }
         // No page that is mapped lies in the pool: these name tables.
@@ -117,44 +102,45 @@ impl Stepped<'_> {
         let walked = self.walked();
         let state = self.clock.fetch_add(2, SeqCst) / 2 + 1;
         for (which, means) in walked.iter().enumerate() {
-            self.log.note(state, which, *means);
+            self.writer.log.note(state, which, *means);
         }
         let changed = walked != self.means;
         self.means = walked;
         Ok(changed)
     }
 
-    fn operation(&mut self, of: &dyn Operations, onlooker: &mut Onlooker, flaw: Flaw) -> Result<(), String> {
-        let request = self.scene.next();
+    fn operation(&mut self, of: &dyn Operations, onlookers: &mut [Onlooker]) -> Result<(), String> {
+        let (request, began) = (self.writer.next(), self.clock.load(SeqCst));
         // SAFETY: all is on one thread.
         let bytes: &[u8] = unsafe { self.memory.lent() };
         let due = due(Window { bytes, origin: self.memory.origin }, &request);
         let mut at_once = bytes.to_vec();
         let answer = request.ask(of, &mut at_once);
         let before = self.means.clone();
-        let judged = self.scene.ledger.judge(&request, bytes.len()).expect("our own pool");
+        let judged = self.writer.scene.ledger.judge(&request, bytes.len()).expect("our own pool");
         if answer != judged || answer != due.answer {
             return Err(format!("{request}: answered\n  {answer}, should be\n  {judged}, and\n  {}", due.answer));
         }
-        let after = self.scene.means();
+        let watched = &self.writer.sight.watched;
+        let after = self.writer.scene.means(watched);
         let mut changes = 0;
-        for (at, word) in singles(self.memory, &request, &due.writes, flaw) {
-            let random = &mut self.scene.random;
+        for (at, word) in singles(self.memory, &request, &due.writes, self.writer.flaw) {
+            let random = &mut self.writer.scene.random;
             // Few in the midst of a clearing, which is long.
             let pause = word != 0 || at % 4096 == 0 || random.chance(1, 64);
             let reads = if pause { random.below(24) } else { 0 };
-            onlooker.turn(reads);
-            self.tally.amid += u64::from(reads > 0);
+            if reads > 0 {
+                onlookers.iter_mut().for_each(|onlooker| onlooker.turn(reads));
+                self.writer.tally.amid += 1;
+            }
             if !self.write(at, word)? {
                 continue;
             }
             changes += 1;
             let odd = |which: &usize| self.means[*which] != before[*which] && self.means[*which] != after[*which];
             if let Some(which) = (0..after.len()).find(odd) {
-                return Err(format!(
-                    "{request}: in its midst {:#x} means\n  {:x?}",
-                    self.scene.watched[which], self.means[which]
-                ));
+                let (va, means) = (watched[which], self.means[which]);
+                return Err(format!("{request}: in its midst {va:#x} means\n  {means:x?}"));
             }
         }
         if self.means != after || changes > 1 {
@@ -164,46 +150,52 @@ impl Stepped<'_> {
         if unsafe { self.memory.lent() } != &at_once[..] {
             return Err(format!("{request}: the library leaves other bytes"));
         }
-        if let Answer::Told(told) = answer {
-            self.tally.reports += u64::from(told.released > 0);
-            self.scene.spoil(self.memory, told.released);
-            self.frozen = self.scene.aside(self.memory).into_iter().collect();
-        }
-        if self.frozen != self.scene.aside(self.memory).into_iter().collect() {
+        self.writer.note(&request, &answer, began);
+        let aside = self.writer.scene.aside(self.memory).into_iter().collect();
+        if let Answer::Told(_) = answer {
+            // What is seen from here on is seen after the report.
+            self.clock.fetch_add(2, SeqCst);
+            self.frozen = aside;
+        } else if self.frozen != aside {
             return Err(format!("{request}: what is unlinked is not what is set aside"));
         }
-        self.tally.operations += 1;
+        Ok(())
+    }
+
+    fn judge(&mut self, onlooker: &mut Onlooker) -> Result<(), String> {
+        self.writer.log.judge(&self.writer.sight.watched, &onlooker.seen, &mut self.writer.tally)?;
+        onlooker.seen.clear();
         Ok(())
     }
 }
 
-/// So many operations in one pool.
+/// So many operations in one pool, beside two processors: INVLPG drops all upper entries of the one, and of the other those
+/// that lead to the address.
 pub fn run(of: &dyn Operations, seed: u64, operations: u64, caches: bool, flaw: Flaw) -> Result<Tally, String> {
-    let (scene, mut words) = Scene::new(of, seed);
+    let (scene, sight, mut words) = Scene::new(of, seed);
     let memory = Shared::of(&mut words, scene.space().origin);
-    let clock = AtomicU64::new(0);
-    let (watched, space, means) = (scene.watched.clone(), scene.space(), scene.means());
-    let log = Log::new(&means);
+    let (clock, mailboxes) = (AtomicU64::new(0), [Mailbox::default(), Mailbox::default()]);
+    let means = scene.means(&sight.watched);
+    let writer = Writer::new(scene, &sight, memory, &mailboxes, flaw);
     let (linked, frozen) = (BTreeSet::new(), BTreeSet::new());
-    let tally = Tally::default();
-    let mut stepped = Stepped { scene, memory, clock: &clock, log, tally, means, linked, frozen };
-    let mut onlooker = Onlooker::new(&watched, space, memory, &clock, seed, caches, 4096);
+    let mut stepped = Stepped { writer, memory, clock: &clock, means, linked, frozen };
+    let processor = |which: usize, upper| {
+        Onlooker::new(&sight, memory, &clock, &mailboxes[which], upper, seed.wrapping_add(which as u64), 4096)
+            .with(caches, flaw)
+    };
+    let mut onlookers = [processor(0, Upper::All), processor(1, Upper::Leading)];
     for _ in 0..operations {
-        if stepped.scene.random.chance(1, 6) {
-            match flaw {
-                Flaw::ToldBeforeWalksEnd => onlooker.forget(),
-                Flaw::ToldBeforeCachesDrop => onlooker.finish(),
-                _ => onlooker.flush(),
-            }
-            stepped.scene.reported = stepped.scene.ticket();
+        stepped.writer.tell(clock.load(SeqCst));
+        stepped.operation(of, &mut onlookers)?;
+        for onlooker in &mut onlookers {
+            onlooker.turn(stepped.writer.scene.random.below(32));
+            stepped.judge(onlooker)?;
         }
-        stepped.operation(of, &mut onlooker, flaw)?;
-        let reads = stepped.scene.random.below(32);
-        onlooker.turn(reads);
-        stepped.log.judge(&watched, &onlooker.seen, &mut stepped.tally)?;
-        onlooker.seen.clear();
     }
-    onlooker.finish();
-    stepped.log.judge(&watched, &onlooker.seen, &mut stepped.tally)?;
-    Ok(stepped.tally)
+    for onlooker in &mut onlookers {
+        onlooker.finish();
+        stepped.judge(onlooker)?;
+        stepped.writer.tally.add(onlooker.counts);
+    }
+    Ok(stepped.writer.tally)
 }

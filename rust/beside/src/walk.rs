@@ -36,9 +36,14 @@ impl Walk {
         self.table + self.va / covers(self.left) % 512 * 8
     }
 
-    /// Goes on for another address, where that has the same way up to here.
+    /// Has that address the same way up to here?
+    pub fn leads_to(&self, va: u64) -> bool {
+        self.va / covers(self.left + 1) == va / covers(self.left + 1)
+    }
+
+    /// Goes on for that address.
     pub fn serves(&self, va: u64) -> Option<Walk> {
-        (self.va / covers(self.left + 1) == va / covers(self.left + 1)).then_some(Walk { va, ..*self })
+        self.leads_to(va).then_some(Walk { va, ..*self })
     }
 
     pub fn step(self, word: u64) -> Next {
