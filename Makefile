@@ -9,8 +9,9 @@
 # make ground  the words, the entries and the walk alone, with their wrong programs: what all the rest stands on
 # make wrong   the wrong programs alone, each of which the prover must refuse; with what is proved already
 # make walks   the compiled library against the manual's walk alone, with what is proved already
+# make believed what a reader must believe, counted and in an order in which it can be read
 # make clean   removes all that was made
-.PHONY: help test demo lib install kernel picture bench ground wrong walks clean
+.PHONY: help test demo lib install kernel picture bench ground wrong walks believed clean
 
 PREFIX = /usr/local
 
@@ -53,6 +54,9 @@ wrong:
 
 walks:
 	@tools/test archive rust walks
+
+believed:
+	@tools/believed
 
 clean:
 	rm -rf target rust/target
