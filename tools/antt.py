@@ -16,8 +16,8 @@ PIECE = r'(?:«[^»]*»|[^\s(){}.;,@"«»]+)'
 TOKEN = re.compile(rf'{PIECE}(?:\.{PIECE})*|\.{PIECE}|[(){{}};,.@]')
 DECLARED = re.compile(rf'((?:unfoldable |abbrev |pub )*)(?:(record|data) ({PIECE})|({PIECE})(?: \{{[^}}]*\}})? :)')
 USE = re.compile(r'(?:ghost )?use ([^\s;{]+?)\.?(?:\{(.*)\})?(?: as ([^\s;]+))?;?')
-# What needs no `use` line: the language's own words, and those of contracts.
-OWN = set('Type Unit tt ⊥ ¬ absurd yes no × → ∀ ℓ = : | ↦ [ ] _ record elim let in where unfold module pub now ⌜ ⌝ omega simp rw cc'.split())
+# What needs no `use` line, where nothing else has that name: the language's own words, and those of contracts.
+OWN = set('Type Unit Dec tt ⊥ ¬ absurd yes no × → ∀ ℓ = : | ↦ [ ] _ record elim let in where unfold module pub now ⌜ ⌝ omega simp rw cc'.split())
 
 
 @dataclasses.dataclass
@@ -58,16 +58,16 @@ class Reading:
         self.bound[-1].update(names)
 
     def refer(self, word):
-        first = word.split('.')[0]
-        if not any(first in names for names in self.bound) and not re.match(r'\d', first):
-            self.found.add(self.scope(word))
+        first, found = word.split('.')[0], self.scope(word)
+        if not any(first in names for names in self.bound) and not re.match(r'\d', first) and (found[0] != 'unknown' or word not in OWN):
+            self.found.add(found)
 
     def pattern(self, words):
         """A constructor is referred to, any other name is bound."""
         for at, word in enumerate(words):
-            if word in OWN or word in '(){};,@' or word[0] in '.0123456789' or words[at + 1:at + 2] == ['=']:
-                continue
             found = self.scope(word)
+            if (found[0] == 'unknown' and word in OWN) or word in '(){};,@' or word[0] in '.0123456789' or words[at + 1:at + 2] == ['=']:
+                continue
             if found[0] == 'unknown' or (found[0] == 'antt' and found[-1] == word):
                 self.bind([word])
             else:
@@ -111,7 +111,7 @@ class Reading:
                 self.pattern(bound.split())
                 self.read(kind)
                 at = end + 1
-            elif word not in OWN and word[0] != '.' and word not in ',@':
+            elif word[0] != '.' and word not in ',@':
                 self.refer(word)
 
 
