@@ -210,6 +210,8 @@ def target(path, name):
         return ('type', crate, (file or ['lib'])[0], type_name)
     module = modules().get((crate, part, rest))
     found = module and module.names()[0].get(name)
+    if not module and '.' in rest:  # the constructors of a type, behind its name
+        return target(*path.rsplit('.', 1))
     return found if found and found[:4] == ('antt', crate, part, rest) else ('unknown', f'{path}.{name}')
 
 
