@@ -76,6 +76,7 @@ module _ {h : ℕ → Bool} {sp : Space} {m : ℕ → ℕ} {role : ℕ → Role}
       none = λ u. unfold cutBook in rw u (z u);
       counts = subst (λ xs. bookOf (after m xs) sp ≡ asideMore n (bookOf m sp)) same (d .book);
       fate = λ p. ticketed p (d .fate p);
+      on-way = d .on-way;
       fewer = fewer;
       numbers = subst (λ xs. (p j : ℕ) → Numbered m sp p j → Numbered (after m xs) sp p j) same (d .numbers);
     }

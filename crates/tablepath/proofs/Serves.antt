@@ -8,7 +8,7 @@ use native.Mathlib.Omega.{arith}
 use Rattle.word.specs.Writes.{Write, after}
 use Rattle.word.proofs.Writes.{Every, every-map}
 use Rattle.entry.specs.declared.Rights.{Rights}
-use Rattle.world.specs.Events.{Among, all-map}
+use Rattle.world.specs.Events.{Among, All, all-map}
 use Rattle.world.specs.Rules.{Obeys, obeys-nil}
 use Rattle.world.specs.Frozen.{SomeReads, obeys-from, among-none}
 use Rattle.tables.specs.Roles.{Role, aside, left, Built}
@@ -45,14 +45,13 @@ use Rattle.effect.proofs.Numbers.{release-ticket}
 use Rattle.tablepath.specs.Answers.{mapWrites, unmapWrites, protectWrites, toldWrites, toldDid, dueDid}
 use Rattle.tablepath.specs.Calls.{Call, Within, callWrites, From}
 use Rattle.tablepath.specs.Calls as calls
-use Rattle.tablepath.proofs.Serving.{Served, changed-serves, numbered-aside}
-use Rattle.tablepath.proofs.Running.{Serves}
+use Rattle.tablepath.proofs.Serving.{IsBuilt, Served, changed-serves, numbered-aside}
 
 module _ (h : ℕ → Bool) (sp : Space) (n : ℕ) (m : ℕ → ℕ) (role : ℕ → Role) (w : Whole h sp m role) (u : n ≤ ticketOf (bookOf m sp)) where
   -- a call that is refused writes nothing
   none-served : Served h sp n m []
-  unfolding after eventsOf
-  none-served = record { role = role; whole = w; obeys = obeys-nil (walkerOf (settingOf h sp)) (From sp n m) m; ticket = u }
+  unfolding after eventsOf All
+  none-served = record { role = role; whole = w; obeys = obeys-nil (walkerOf (settingOf h sp)) (From sp n m) m; ticket = u; built = (role, w .sound .built) }
 
   map-served : (q : Asked) (x : Placed) → map.decideOf h m sp q ≡ x → Served h sp n m (map.didOf sp x)
   unfolding map.didOf
@@ -78,7 +77,7 @@ module _ (h : ℕ → Bool) (sp : Space) (n : ℕ) (m : ℕ → ℕ) (role : ℕ
   -- a report -----------------------------------------------------------------------------------------------------------------------
 
   -- what it writes is the book's: no walk comes there, and no page set aside is read meanwhile
-  release-spare : (k : ℕ) → Every (Spare role) (releaseWrites sp (bookOf m sp) k)
+  pub release-spare : (k : ℕ) → Every (Spare role) (releaseWrites sp (bookOf m sp) k)
   release-spare k = every-map (λ q v. book-spare role q (w .booked .in-book q (v .0) (v .1))) _ (release-proper sp (bookOf m sp) k)
 
   told-obeys : (t k : ℕ) → t ≤ n → ToldDone h sp m role t k
@@ -100,14 +99,21 @@ module _ (h : ℕ → Bool) (sp : Space) (n : ℕ) (m : ℕ → ℕ) (role : ℕ
   due-served t due.Spent v e = none-served
   due-served t (due.Pages k) v e =
       let d = effect.told w t k e in
-      record { role = released m sp k role; whole = d .whole; obeys = told-obeys t k v d; ticket = rw (release-ticket (w .booked) k (d .enough)) u }
+      record {
+        role = released m sp k role;
+        whole = d .whole;
+        obeys = told-obeys t k v d;
+        ticket = rw (release-ticket (w .booked) k (d .enough)) u;
+        built = all-map _ m _ (IsBuilt h sp) (λ x b. (role, b)) (spare-untouched (releaseWrites sp (bookOf m sp) k) (w .sound .built) (release-spare k) .moments);
+      }
 
   told-served : (t : ℕ) → t ≤ n → Served h sp n m (toldWrites h m sp t)
   unfolding toldWrites toldDid
   told-served t v = rw (book-opens w) (due-served t (dueOf (bookOf m sp) t) v refl)
 
 -- EVERY CALL SERVES
-pub serves : (h : ℕ → Bool) (sp : Space) (n : ℕ) → Serves h sp n
+pub serves : (h : ℕ → Bool) (sp : Space) (n : ℕ) (m : ℕ → ℕ) (role : ℕ → Role) (c : Call) → Within n c → Whole h sp m role → n ≤ ticketOf (bookOf m sp)
+    → Served h sp n m (callWrites h m sp c)
 unfolding callWrites mapWrites unmapWrites protectWrites
 serves h sp n m role (calls.map q) v w u = map-served h sp n m role w u q (map.decideOf h m sp q) refl
 serves h sp n m role (calls.unmap va) v w u = unmap-served h sp n m role w u va (unmap.decideOf h m sp va) refl

@@ -1,3 +1,5 @@
 pub mod Answers
 pub mod Calls
 pub mod Says
+pub mod Nights
+pub mod Gone
