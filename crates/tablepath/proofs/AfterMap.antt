@@ -1,8 +1,8 @@
--- AFTER MAP. A walk that begins when map's last write has reached memory, and uses no cache, finds the page. What goes on from a cache may find
--- nothing still, and nothing else; after a shootdown that begins then it finds the page too.
+-- AFTER MAP. Once its writes have reached memory the address means the page, and a walk that begins then finds it. What goes on from a cache may find
+-- nothing still, and nothing else; after a shootdown that begins then it finds the page too. Statements: specs/Shown.antt.
 use Prim.Native.Nat.{ℕ, _+_, _*_, _%_, _<_, _≤_}
 use mathlib.Core.Bool.{Bool}
-use mathlib.Core.List.{List, [], _∷_, _++_, append-nil}
+use mathlib.Core.List.{List, [], _∷_, _++_}
 use mathlib.Core.Logic.{_⊎_, inl, inr}
 use mathlib.Core.Path.{_≡_, refl, sym, ap, _∙_, subst}
 use native.Mathlib.Omega.{arith}
@@ -11,19 +11,15 @@ use Rattle.entry.specs.declared.Rights.{Rights}
 use Rattle.walk.specs.Walk.{baseOf}
 use Rattle.walk.specs.declared.Found.{Found}
 use Rattle.walk.specs.declared.Found.the-variants.{Page, Nothing, Outside}
-use Rattle.world.specs.Events.{Event, after, among-all, All, all-map, all-both, all-append, all-last, all-rest, all-front}
-use Rattle.world.specs.Walker.{Gives}
-use Rattle.world.specs.Turns.{Turn, events, events-append, Idle, places, begun}
-use Rattle.world.specs.Walks.{At}
-use Rattle.world.specs.Reports.{Held}
+use Rattle.world.specs.Events.{Event, after, after-append, among-all, All, all-map, all-both, all-append, all-last}
+use Rattle.world.specs.Reports.{now}
+use Rattle.world.proofs.Reports.{last-ends}
 use Rattle.tables.specs.Roles.{Role}
 use Rattle.tables.specs.Near.{Near, near-range}
 use Rattle.tables.specs.Overlap.{aligned-base, nothing-mapped}
 use Rattle.tables.specs.Meaning.{never-outside}
-use Rattle.tables.specs.Discipline.{walkerOf}
 use Rattle.tables.specs.Clearing.{eventsOf, events-after}
 use Rattle.pool.specs.Book.{bookOf, ticketOf}
-use Rattle.pool.specs.Booked.{settingOf}
 use Rattle.pool.specs.declared.Space.{Space}
 use Rattle.plan.specs.Map as map
 use Rattle.plan.specs.Map.{Placed}
@@ -32,25 +28,23 @@ use Rattle.effect.specs.Whole.{Whole}
 use Rattle.effect.proofs.MapDone.{decided-done, mapped-inside}
 use Rattle.tablepath.specs.Answers.{mapSaid, mapAnswer, mapWrites}
 use Rattle.tablepath.specs.declared.Mapped.the-variants as mapped′
-use Rattle.tablepath.specs.Calls.{Call, Within, callWrites, Saw, Act, actWrites, wrote, Runs, UpTo, Reached}
+use Rattle.tablepath.specs.Calls.{means, Call, Within, callWrites, Saw, Act, actWrites, wrote, Runs, UpTo, Reached}
 use Rattle.tablepath.specs.Calls as calls
-use Rattle.tablepath.specs.Nights.{Night, history, lastBegan, lastSince, Some, uncovered, IsPage, untoldKept, Hit, Hits, Honest, Complete}
-use Rattle.tablepath.specs.Gone.{MapsTo}
+use Rattle.tablepath.specs.Nights.{Night, history, lastBegan, lastSince, Some, uncovered, IsPage, untoldKept, Hit, Hits, Honest, Complete, Exact}
+use Rattle.tablepath.specs.Gone.{MapsTo, pageOf}
+use Rattle.tablepath.specs.Shown.{MappedNow, FoundAtOnce, CachedAfterMap, KeptAfterReport}
 use Rattle.tablepath.proofs.Marking.{saw-back}
 use Rattle.tablepath.proofs.Serving.{IsBuilt}
-use Rattle.tablepath.proofs.Running.{act-served, act-whole, act-ticket, seen-whole, saw-ticket, Ran, run-ran, reached-ran, reached-saw, reached-whole, reached-all}
-use Rattle.tablepath.proofs.Beside.{means, each-walk-ends}
+use Rattle.tablepath.proofs.Running.{act-served, act-whole, act-ticket, seen-whole, Ran, run-ran, reached-ran, reached-saw, reached-all}
+use Rattle.tablepath.proofs.Beside.{every-answer}
 use Rattle.tablepath.proofs.Did.{Did, same, mapped, gone, changed, Stirs, saw-means, act-means, act-stirs}
 use Rattle.tablepath.proofs.Lasting.{Lasts, run-lasts}
 use Rattle.tablepath.proofs.Periods.{wrote-append, runs-front, runs-rest, upto-front, upto-rest}
 use Rattle.tablepath.proofs.Facts.{Facts}
-use Rattle.tablepath.proofs.Nights.{night-facts, night-answer}
+use Rattle.tablepath.proofs.Nights.{night-facts, night-answer, exact-complete}
+use Rattle.tablepath.proofs.Onward.{night-whole, honest-before, complete-before, onward-reached}
 
 module _ (h : ℕ → Bool) (sp : Space) where
-  -- the page that was asked
-  abbrev pub pageOf : Asked → Found
-  pageOf q = Page (q .base) (q .size) (q .frame) (q .rights)
-
   -- before it nothing was there, and after it the page
   map-turns : (m : ℕ → ℕ) (role : ℕ → Role) → Whole h sp m role → (q : Asked) (x : Placed) → map.decideOf h m sp q ≡ x → (k : ℕ) → mapSaid x ≡ mapped′.Done k
       → (va : ℕ) → q .base ≤ va → va < q .base + q .size → (means h sp m va ≡ Nothing) × (means h sp (word.after m (map.didOf sp x)) va ≡ pageOf q)
@@ -88,8 +82,8 @@ module _ (h : ℕ → Bool) (sp : Space) where
         go : (c : Call) → ¬ Hit h sp c (a .saw) va → Did h sp (a .saw) va c (means h sp m va) (means h sp (after m es) va) → means h sp (after m es) va ≡ o
         go c s (same d) = d ∙ e
         go c s (mapped k d x y) = absurd (unfold IsPage in subst IsPage (sym e ∙ x) page)
-        go c s (gone t x y) = absurd (s t)
-        go c s (changed t x y) = absurd (s t)
+        go c s (gone t x y) = absurd (s (inl t))
+        go c s (changed t x y) = absurd (s (inr t))
 
         moment : (x : ℕ → ℕ) → ((vb : ℕ) → means h sp x vb ≡ means h sp m vb) ⊎ ((vb : ℕ) → means h sp x vb ≡ means h sp (after m es) vb) → means h sp x va ≡ o
         moment x (inl q) = q va ∙ e
@@ -97,7 +91,7 @@ module _ (h : ℕ → Bool) (sp : Space) where
 
   -- A run that does not touch it
   run-keeps : (n : ℕ) (m : ℕ → ℕ) (role : ℕ → Role) (cs : List Act) → Whole h sp m role → n ≤ ticketOf (bookOf m sp) → Runs h sp m cs → UpTo n cs
-      → (va : ℕ) (o : Found) → IsPage o → ¬ Hits h sp cs va → means h sp m va ≡ o → All m (wrote h sp cs) (λ x. means h sp x va ≡ o)
+      → (va : ℕ) (o : Found) → IsPage o → ¬ Hits h sp (Hit h sp) cs va → means h sp m va ≡ o → All m (wrote h sp cs) (λ x. means h sp x va ≡ o)
   unfolding wrote Runs UpTo Some All
   run-keeps n m role [] w u r t va o page spares e = e
   run-keeps n m role (a ∷ cs) w u r t va o page spares e =
@@ -108,49 +102,10 @@ module _ (h : ℕ → Bool) (sp : Space) where
 
   -- what reaches memory of it
   reached-keeps : (n : ℕ) (m : ℕ → ℕ) (role : ℕ → Role) → Whole h sp m role → n ≤ ticketOf (bookOf m sp) → (cs : List Act) (gs : List (Event ℕ)) → Reached h sp n m cs gs
-      → (va : ℕ) (o : Found) → IsPage o → ¬ Hits h sp cs va → means h sp m va ≡ o → All m gs (λ x. means h sp x va ≡ o)
+      → (va : ℕ) (o : Found) → IsPage o → ¬ Hits h sp (Hit h sp) cs va → means h sp m va ≡ o → All m gs (λ x. means h sp x va ≡ o)
   reached-keeps n m role w u cs gs r va o page spares e =
       reached-all h sp n m role w u cs gs r (λ x. IsBuilt h sp x × (means h sp x va ≡ o)) (λ x. means h sp x va ≡ o) (λ x y s b. saw-means h sp x y s (b .0) va ∙ b .1)
       (all-both (wrote h sp cs) m (IsBuilt h sp) _ (reached-ran h sp n m role w u cs gs r .built) (run-keeps n m role cs w u (r .runs) (r .upto) va o page spares e))
-
-  -- WITHOUT A CACHE. Map was called, and all that it wrote has reached memory; then calls cs are made, none of which touches va. Each walk of va that
-  -- begins then ends with the page.
-  pub found-after-map : (n : ℕ) (m : ℕ → ℕ) (role : ℕ → Role) → Whole h sp m role → n ≤ ticketOf (bookOf m sp) → (a : Act) (es : List (Event ℕ)) (r : Reached h sp n m (a ∷ []) es)
-      → r .waiting ≡ [] → (q : Asked) (va : ℕ) → MapsTo h sp q va a → (cs : List Act) → ¬ Hits h sp cs va
-      → (who : ℕ → ℕ) (earlier during later : List (Turn ℕ)) → Reached h sp n (after m es) cs (events (earlier ++ (during ++ later))) → (i : ℕ) → who i ≡ va → Idle i earlier → Idle i later
-      → (o : Found) → Gives (walkerOf (settingOf h sp)) (who i) (places (walkerOf (settingOf h sp)) who (after m es) (begun (walkerOf (settingOf h sp)) who) (earlier ++ (during ++ later)) i) o
-      → o ≡ pageOf q
-  found-after-map n m role w u a es r all q va k cs spares who earlier during later r' i e d d' o g =
-      let t = among-all (events during) (after (after m es) (events earlier)) (λ x. means h sp x va ≡ pageOf q) (λ x. means h sp x (who i) ≡ o) middle
-      (each-walk-ends h sp n (after m es) (one .role) whole ticket cs who earlier during later r' i d d' o g) in
-      sym (t .2) ∙ ap (means h sp (t .0)) e ∙ t .1
-    where
-      one : Ran h sp n m (a ∷ [])
-      one = reached-ran h sp n m role w u (a ∷ []) es r
-
-      whole : Whole h sp (after m es) (one .role)
-      whole = reached-whole h sp n m role w u (a ∷ []) es r all
-
-      same : Saw sp (after m (wrote h sp (a ∷ []))) (after m es)
-      same = reached-saw h sp n m role w u (a ∷ []) es r all
-
-      ticket : n ≤ ticketOf (bookOf (after m es) sp)
-      ticket = omega (arith, one .ticket, saw-ticket h sp (one .whole) same)
-
-      now : means h sp (after m es) va ≡ pageOf q
-      now =
-          let alone : wrote h sp (a ∷ []) ≡ actWrites h sp a = unfold wrote in append-nil (actWrites h sp a) in
-          let saw : Saw sp m (a .saw) = unfold Runs in r .runs .0 in
-          let within : Within n (a .call) = unfold UpTo in r .upto .0 in
-          saw-means h sp _ _ same (one .role, one .whole .sound .built) va ∙ ap (λ l. means h sp (after m l) va) alone ∙ maps-turns n m role w u a saw within q va k .1
-
-      moments : All (after m es) (events (earlier ++ (during ++ later))) (λ x. means h sp x va ≡ pageOf q)
-      moments = reached-keeps n (after m es) (one .role) whole ticket cs (events (earlier ++ (during ++ later))) r' va (pageOf q) (unfold IsPage in tt) spares now
-
-      middle : All (after (after m es) (events earlier)) (events during) (λ x. means h sp x va ≡ pageOf q)
-      middle = all-front (events during) (events later) _ _
-          (subst (λ l. All (after (after m es) (events earlier)) l (λ x. means h sp x va ≡ pageOf q)) (events-append during later)
-          (all-rest (events earlier) (events (during ++ later)) (after m es) _ (subst (λ l. All (after m es) l (λ x. means h sp x va ≡ pageOf q)) (events-append earlier (during ++ later)) moments)))
 
   -- va has some page
   page-stays : (n va : ℕ) → Lasts h sp n (λ x. IsPage (means h sp x va)) (λ a. Hit h sp (a .call) (a .saw) va)
@@ -164,8 +119,8 @@ module _ (h : ℕ → Bool) (sp : Space) where
           → IsPage (means h sp (after m (actWrites h sp a)) va) ⊎ Hit h sp c (a .saw) va
       go c k (same f) = inl (subst IsPage (sym f) k)
       go c k (mapped j d f g) = inl (subst IsPage (sym g) tt)
-      go c k (gone t f g) = inr t
-      go c k (changed t f g) = inr t
+      go c k (gone t f g) = inr (inl t)
+      go c k (changed t f g) = inr (inr t)
 
       moment : (y : ℕ → ℕ) → ((vb : ℕ) → means h sp y vb ≡ means h sp m vb) ⊎ ((vb : ℕ) → means h sp y vb ≡ means h sp (after m (actWrites h sp a)) vb)
           → IsPage (means h sp y va) → IsPage (means h sp (after m (actWrites h sp a)) va) ⊎ Hit h sp (a .call) (a .saw) va
@@ -183,12 +138,12 @@ module _ (h : ℕ → Bool) (sp : Space) where
       go (Page base size frame r) e k = absurd (k tt)
 
   -- the page, or nothing yet
-  abbrev pub PageOrNothing : Asked → ℕ → (ℕ → ℕ) → Type 0
+  abbrev PageOrNothing : Asked → ℕ → (ℕ → ℕ) → Type 0
   PageOrNothing q va x = (means h sp x va ≡ Nothing) ⊎ (means h sp x va ≡ pageOf q)
 
   -- calls bs that do not touch va, a map of it, and calls cs that do not touch it
   around-map : (n : ℕ) (m : ℕ → ℕ) (role : ℕ → Role) (bs cs : List Act) (a : Act) → Whole h sp m role → n ≤ ticketOf (bookOf m sp) → Runs h sp m (bs ++ (a ∷ cs)) → UpTo n (bs ++ (a ∷ cs))
-      → (q : Asked) (va : ℕ) → MapsTo h sp q va a → ¬ Hits h sp bs va → ¬ Hits h sp cs va → All m (wrote h sp (bs ++ (a ∷ cs))) (PageOrNothing q va)
+      → (q : Asked) (va : ℕ) → MapsTo h sp q va a → ¬ Hits h sp (Hit h sp) bs va → ¬ Hits h sp (Hit h sp) cs va → All m (wrote h sp (bs ++ (a ∷ cs))) (PageOrNothing q va)
   around-map n m role bs cs a w u r t q va k before behind =
       subst (λ l. All m l (PageOrNothing q va)) (sym (wrote-append h sp bs (a ∷ cs)))
       (all-append (wrote h sp bs) (wrote h sp (a ∷ cs)) m (PageOrNothing q va)
@@ -220,32 +175,86 @@ module _ (h : ℕ → Bool) (sp : Space) where
           (act-whole h sp n next (ran .role) (ran .whole) (ran .ticket) a (then .0) (upto .0)) (act-ticket h sp n next (ran .role) (ran .whole) (ran .ticket) a (then .0) (upto .0)) (then .1) (upto .1)
           va (pageOf q) (unfold IsPage in tt) behind (turns .1)))
 
-  module _ (N : Night) (honest : Honest h sp untoldKept N) (complete : Complete h sp N) where
-    f : Facts h sp N
-    f = night-facts h sp N honest complete
+  -- calls bs, a map of va, and calls cs that do not touch it: then va has the page
+  map-ends : (n : ℕ) (m : ℕ → ℕ) (role : ℕ → Role) (bs cs : List Act) (a : Act) → Whole h sp m role → n ≤ ticketOf (bookOf m sp) → Runs h sp m (bs ++ (a ∷ cs)) → UpTo n (bs ++ (a ∷ cs))
+      → (q : Asked) (va : ℕ) → MapsTo h sp q va a → ¬ Hits h sp (Hit h sp) cs va → means h sp (after m (wrote h sp (bs ++ (a ∷ cs)))) va ≡ pageOf q
+  map-ends n m role bs cs a w u r t q va k spares = ap (λ x. means h sp x va) list ∙ all-last (wrote h sp cs) end _ kept
+    where
+      ran : Ran h sp n m bs
+      ran = run-ran h sp n m role bs w u (runs-front h sp bs (a ∷ cs) m r) (upto-front n bs (a ∷ cs) t)
 
-    -- WITH CACHES. Since the last period began va was mapped, and not touched before and after: whatever is given for it is the page, or nothing still.
-    pub cached-after-map : (bs cs : List Act) (a : Act) → uncovered N ≡ bs ++ (a ∷ cs) → (q : Asked) (va : ℕ) → MapsTo h sp q va a → ¬ Hits h sp bs va → ¬ Hits h sp cs va
-        → (p : At) (o : Found) → Held (walkerOf (settingOf h sp)) untoldKept (history N) va p → Gives (walkerOf (settingOf h sp)) va p o → (o ≡ Nothing) ⊎ (o ≡ pageOf q)
-    cached-after-map bs cs a e q va k before behind p o held gives =
+      next : ℕ → ℕ
+      next = after m (wrote h sp bs)
+
+      end : ℕ → ℕ
+      end = after next (actWrites h sp a)
+
+      list : after m (wrote h sp (bs ++ (a ∷ cs))) ≡ after end (wrote h sp cs)
+      list = unfold wrote in ap (after m) (wrote-append h sp bs (a ∷ cs)) ∙ after-append (wrote h sp bs) (actWrites h sp a ++ wrote h sp cs) m
+          ∙ after-append (actWrites h sp a) (wrote h sp cs) next
+
+      kept : All end (wrote h sp cs) (λ x. means h sp x va ≡ pageOf q)
+      kept = unfold Runs UpTo in
+          let then : Runs h sp next (a ∷ cs) = runs-rest h sp bs (a ∷ cs) m r in
+          let upto : UpTo n (a ∷ cs) = upto-rest n bs (a ∷ cs) t in
+          run-keeps n end (act-served h sp n next (ran .role) (ran .whole) (ran .ticket) a (then .0) (upto .0) .role) cs
+          (act-whole h sp n next (ran .role) (ran .whole) (ran .ticket) a (then .0) (upto .0)) (act-ticket h sp n next (ran .role) (ran .whole) (ran .ticket) a (then .0) (upto .0)) (then .1) (upto .1)
+          va (pageOf q) (unfold IsPage in tt) spares (maps-turns n next (ran .role) (ran .whole) (ran .ticket) a (then .0) (upto .0) q va k .1)
+
+  pub mapped-now : (N : Night) → Honest h sp untoldKept N → Complete h sp N → MappedNow h sp N
+  mapped-now N honest complete q va k empty =
+      ap (λ x. means h sp x va) (sym (last-ends (history N))) ∙ saw-means h sp _ _ same (ran .role, ran .whole .sound .built) va ∙ end
+    where
+      f : Facts h sp N
+      f = night-facts h sp N honest complete
+
+      n : ℕ
+      n = ticketOf (bookOf (lastBegan N) sp)
+
+      ran : Ran h sp n (lastBegan N) (uncovered N)
+      ran = reached-ran h sp n (lastBegan N) (f .role) (f .whole) (omega arith) (uncovered N) (lastSince N) (f .reached .0)
+
+      same : Saw sp (after (lastBegan N) (wrote h sp (uncovered N))) (after (lastBegan N) (lastSince N))
+      same = reached-saw h sp n (lastBegan N) (f .role) (f .whole) (omega arith) (uncovered N) (lastSince N) (f .reached .0) (f .reached .1 ∙ empty)
+
+      end : means h sp (after (lastBegan N) (wrote h sp (uncovered N))) va ≡ pageOf q
+      end = ap (λ l. means h sp (after (lastBegan N) (wrote h sp l)) va) (k .are)
+          ∙ map-ends n (lastBegan N) (f .role) (k .earlier) (k .later) (k .mapping) (f .whole) (omega arith) (subst (Runs h sp (lastBegan N)) (k .are) (f .reached .0 .runs))
+          (subst (UpTo n) (k .are) (f .reached .0 .upto)) q va (k .maps) (k .spares)
+
+  pub found-at-once : (N M : Night) → Honest h sp untoldKept M → Complete h sp M → FoundAtOnce h sp N M
+  found-at-once N M honest complete cs gs o empty upto va page e is-page spares p page' held gives =
+      let w = night-whole h sp N (honest-before h sp o honest) (complete-before h sp o complete) empty in
+      let n = ticketOf (bookOf (now (history N)) sp) in
+      let r = onward-reached h sp n o honest complete empty upto .0 in
+      let t = among-all gs (now (history N)) (λ x. means h sp x va ≡ page) (λ x. means h sp x va ≡ page')
+      (reached-keeps n (now (history N)) (w .0) (w .1) (omega arith) cs gs r va page is-page spares e)
+      (every-answer h sp n (now (history N)) (w .0) (w .1) (omega arith) cs gs r va p page' held gives) in
+      sym (t .2) ∙ t .1
+
+  module _ (N : Night) (honest : Honest h sp untoldKept N) (exact : Exact h sp N) where
+    f : Facts h sp N
+    f = night-facts h sp N honest (exact-complete h sp N exact)
+
+    pub cached-after-map : CachedAfterMap h sp N
+    cached-after-map q va k before o gets =
         let n = ticketOf (bookOf (lastBegan N) sp) in
         let ran = reached-ran h sp n (lastBegan N) (f .role) (f .whole) (omega arith) (uncovered N) (lastSince N) (f .reached .0) in
-        let along : All (lastBegan N) (wrote h sp (uncovered N)) (PageOrNothing q va) = subst (λ l. All (lastBegan N) (wrote h sp l) (PageOrNothing q va)) (sym e)
-        (around-map n (lastBegan N) (f .role) bs cs a (f .whole) (omega arith) (subst (Runs h sp (lastBegan N)) e (f .reached .0 .runs)) (subst (UpTo n) e (f .reached .0 .upto)) q va k before behind) in
+        let along : All (lastBegan N) (wrote h sp (uncovered N)) (PageOrNothing q va) = subst (λ l. All (lastBegan N) (wrote h sp l) (PageOrNothing q va)) (sym (k .are))
+        (around-map n (lastBegan N) (f .role) (k .earlier) (k .later) (k .mapping) (f .whole) (omega arith) (subst (Runs h sp (lastBegan N)) (k .are) (f .reached .0 .runs))
+        (subst (UpTo n) (k .are) (f .reached .0 .upto)) q va (k .maps) before (k .spares)) in
         let all = reached-all h sp n (lastBegan N) (f .role) (f .whole) (omega arith) (uncovered N) (lastSince N) (f .reached .0) (λ x. IsBuilt h sp x × PageOrNothing q va x) (PageOrNothing q va) blind
         (all-both (wrote h sp (uncovered N)) (lastBegan N) (IsBuilt h sp) (PageOrNothing q va) (ran .built) along) in
-        let t = among-all (lastSince N) (lastBegan N) (PageOrNothing q va) (λ x. means h sp x va ≡ o) all (night-answer h sp N honest complete va p o held gives) in
+        let t = among-all (lastSince N) (lastBegan N) (PageOrNothing q va) (λ x. means h sp x va ≡ o) all (night-answer h sp N honest exact va o gets) in
         elim (t .1) [ inl x ↦ inl (sym (t .2) ∙ x) | inr x ↦ inr (sym (t .2) ∙ x) ]
       where
         blind : (x y : ℕ → ℕ) → Saw sp x y → IsBuilt h sp x × PageOrNothing q va x → PageOrNothing q va y
         blind x y s (b, inl c) = inl (saw-means h sp x y s b va ∙ c)
         blind x y s (b, inr c) = inr (saw-means h sp x y s b va ∙ c)
 
-    -- AFTER A SHOOTDOWN that began when va had the page, and where no call has touched va since: the page, and nothing else.
-    pub kept-after-report : (va : ℕ) (o : Found) → IsPage o → means h sp (lastBegan N) va ≡ o → ¬ Hits h sp (uncovered N) va
-        → (p : At) (o' : Found) → Held (walkerOf (settingOf h sp)) untoldKept (history N) va p → Gives (walkerOf (settingOf h sp)) va p o' → o' ≡ o
-    kept-after-report va o page e spares p o' held gives =
+    pub kept-after-report : KeptAfterReport h sp N
+    kept-after-report va o page e spares o' gets =
         let n = ticketOf (bookOf (lastBegan N) sp) in
         let t = among-all (lastSince N) (lastBegan N) (λ x. means h sp x va ≡ o) (λ x. means h sp x va ≡ o')
-        (reached-keeps n (lastBegan N) (f .role) (f .whole) (omega arith) (uncovered N) (lastSince N) (f .reached .0) va o page spares e) (night-answer h sp N honest complete va p o' held gives) in
+        (reached-keeps n (lastBegan N) (f .role) (f .whole) (omega arith) (uncovered N) (lastSince N) (f .reached .0) va o page spares e) (night-answer h sp N honest exact va o' gets) in
         sym (t .2) ∙ t .1

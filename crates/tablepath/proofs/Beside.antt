@@ -10,7 +10,6 @@ use native.Mathlib.Decide.{ℕ-discrete}
 use Rattle.word.specs.Memory.{set, at}
 use Rattle.word.proofs.Set.{set-at, set-other}
 use Rattle.word.proofs.Writes.{page-of}
-use Rattle.walk.specs.Walk.{walk}
 use Rattle.walk.specs.declared.Found.{Found}
 use Rattle.world.specs.Events.{Event, write, mark, store, happen, after, Among, among-map, All, all-map}
 use Rattle.world.specs.Walker.{Gives}
@@ -27,13 +26,9 @@ use Rattle.pool.specs.Book.{bookOf, ticketOf}
 use Rattle.pool.specs.Booked.{settingOf, Numbered}
 use Rattle.pool.specs.declared.Space.{Space}
 use Rattle.effect.specs.Whole.{Whole}
-use Rattle.tablepath.specs.Calls.{Remarked, Act, Others, Reached, From}
+use Rattle.tablepath.specs.Calls.{means, Remarked, Act, Others, Reached, From}
 use Rattle.tablepath.proofs.Marking.{remarked-then, others-rest}
 use Rattle.tablepath.proofs.Running.{reached-ran, reached-safe, reached-thawed, reached-whole}
-
--- what an address means to a walk of this space
-abbrev pub means : (ℕ → Bool) → Space → (ℕ → ℕ) → ℕ → Found
-means h sp x va = walk h x (4096 * sp .root) va
 
 -- A frozen word stays as it is, but for marks.
 frozen-stays : (h : ℕ → Bool) (sp : Space) (gs : List (Event ℕ)) (F : ℕ → Type 0) (m n : ℕ → ℕ) (x : ℕ) → Safe (walkerOf (settingOf h sp)) F n gs → Others sp n gs → F x

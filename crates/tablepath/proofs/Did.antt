@@ -46,22 +46,21 @@ use Rattle.effect.proofs.ToldDone as effect
 use Rattle.effect.proofs.Wholes.{book-opens}
 use Rattle.tablepath.specs.declared.Mapped.the-variants as mapped′
 use Rattle.tablepath.specs.Answers.{mapSaid, mapAnswer, mapWrites, goneOf, unmapSaid, unmapAnswer, unmapWrites, protectSaid, protectAnswer, protectWrites, toldWrites, toldDid, dueDid}
-use Rattle.tablepath.specs.Calls.{Call, Within, callWrites, Saw, Act, actWrites}
+use Rattle.tablepath.specs.Calls.{means, Call, Within, callWrites, Saw, Act, actWrites}
 use Rattle.tablepath.specs.Calls as calls
-use Rattle.tablepath.specs.Nights.{Hit}
+use Rattle.tablepath.specs.Nights.{Unmaps, Protects}
 use Rattle.tablepath.proofs.Marking.{planned-writes, planned-others, saw-back, others-all, saw-alike}
 use Rattle.tablepath.proofs.Serving.{IsBuilt, Served}
 use Rattle.tablepath.proofs.Running.{act-served, seen-whole, saw-act}
-use Rattle.tablepath.proofs.Beside.{means}
 
 -- what a call that saw the memory s does to an address that meant the one, and means the other
 pub data Did (h : ℕ → Bool) (sp : Space) (s : ℕ → ℕ) (va : ℕ) : Call → Found → Found → Type 0 where
   same : {c : Call} {o o' : Found} → o' ≡ o → Did h sp s va c o o'
   mapped : {q : Asked} {o o' : Found} (k : ℕ) → mapAnswer h s sp q ≡ mapped′.Done k → o ≡ Nothing → o' ≡ Page (q .base) (q .size) (q .frame) (q .rights)
       → Did h sp s va (calls.map q) o o'
-  gone : {base size frame : ℕ} {had : Rights} {o o' : Found} → Hit h sp (calls.unmap base) s va → o ≡ Page base size frame had → o' ≡ Nothing
+  gone : {base size frame : ℕ} {had : Rights} {o o' : Found} → Unmaps h sp (calls.unmap base) s va → o ≡ Page base size frame had → o' ≡ Nothing
       → Did h sp s va (calls.unmap base) o o'
-  changed : {base size frame : ℕ} {had now : Rights} {o o' : Found} → Hit h sp (calls.protect base now) s va → o ≡ Page base size frame had
+  changed : {base size frame : ℕ} {had now : Rights} {o o' : Found} → Protects h sp (calls.protect base now) s va → o ≡ Page base size frame had
       → o' ≡ Page base size frame now → Did h sp s va (calls.protect base now) o o'
 
 module _ (h : ℕ → Bool) (sp : Space) where
@@ -115,7 +114,7 @@ module _ (h : ℕ → Bool) (sp : Space) where
         (λ vb n. mapped (p .fresh .need) (rw e) (nothing-mapped (w .sound .built) vb (omega arith) (d .missing .comes) (d .missing .nothing) n) refl)
 
     unmap-stirs : (va : ℕ) (x : Removing) → unmap.decideOf h m sp va ≡ x → Stirs (calls.unmap va) m m (eventsOf (unmap.didOf sp va x))
-    unfolding unmap.didOf unmapAnswer unmapSaid goneOf Hit
+    unfolding unmap.didOf unmapAnswer unmapSaid goneOf Unmaps
     unmap-stirs va (removing.Refused y) e = stirs-none (calls.unmap va) m
     unmap-stirs va (removing.Go r) e =
         let d = unmapped w va r e in
@@ -126,7 +125,7 @@ module _ (h : ℕ → Bool) (sp : Space) where
         (near-page va (r .spot .way .level) (r .spot .size) (r .spot .frame) (d .had) (d .size-is) (d .aligned) (d .before) vb n) refl)
 
     protect-stirs : (va : ℕ) (g : Rights) (x : Changing) → protect.decideOf h m sp va g ≡ x → Stirs (calls.protect va g) m m (eventsOf (protect.didOf x))
-    unfolding protect.didOf protectAnswer protectSaid Hit
+    unfolding protect.didOf protectAnswer protectSaid Protects
     protect-stirs va g (changing.Refused y) e = stirs-none (calls.protect va g) m
     protect-stirs va g (changing.Go c) e =
         let d = protected w va g c e in

@@ -18,59 +18,75 @@ use Rattle.tablepath.proofs.Marking.{writes-append, saw-self, saw-then,
 use Rattle.tablepath.proofs.Periods.{joined-append, wrote-append, runs-more, saw-same, upto-more, Later, Chain, chain-longer, chain-begins, later-whole, later-reached, later-waits}
 
 module _ (h : ℕ → Bool) (sp : Space) where
-  -- a run of which this waits still
-  abbrev pub Reaching : (ℕ → ℕ) → List Act → List (Event ℕ) → List (Event ℕ) → Type 0
-  Reaching m cs gs w = (r : Reached h sp (ticketOf (bookOf m sp)) m cs gs) × (r .waiting ≡ w)
+  -- a run of which this waits still, where reports go no further than the ticket n
+  abbrev pub Reaching : ℕ → (ℕ → ℕ) → List Act → List (Event ℕ) → List (Event ℕ) → Type 0
+  Reaching n m cs gs w = (r : Reached h sp n m cs gs) × (r .waiting ≡ w)
+
+  pub reach-none : (n : ℕ) (m : ℕ → ℕ) → Reaching n m [] [] []
+  unfolding wrote Runs UpTo Others writes
+  reach-none n m = (record { runs = tt; upto = tt; waiting = []; in-order = refl; others = tt }, refl)
+
+  module _ (n : ℕ) (m : ℕ → ℕ) (cs : List Act) (gs w : List (Event ℕ)) (r : Reaching n m cs gs w) (x : ℕ → ℕ) (ends : after m gs ≡ x) where
+    -- what the code sees is what its writes make of memory, but for marks
+    reach-saw : Saw sp (after m (wrote h sp cs)) (after x w)
+    reach-saw =
+        subst (λ l. Saw sp (after m l) (after x w)) (r .0 .in-order)
+        (subst (λ y. Saw sp y (after x w)) (sym (after-append (writes gs) (r .0 .waiting) m))
+        (subst (λ l. Saw sp (after (after m (writes gs)) l) (after x w)) (sym (r .1))
+        (subst (λ y. Saw sp (after (after m (writes gs)) w) (after y w)) ends
+        (saw-same h sp w _ _ (others-saw sp gs m m (r .0 .others) (saw-self sp m))))))
+
+    -- one call more
+    pub reach-calls : (a : Act) → Saw sp (after x w) (a .saw) → Within n (a .call) → Reaching n m (cs ++ (a ∷ [])) gs (w ++ actWrites h sp a)
+    reach-calls a saw within = (
+      record {
+        runs = runs-more h sp cs a m (r .0 .runs) (saw-then sp reach-saw saw);
+        upto = upto-more n cs a (r .0 .upto) within;
+        waiting = r .0 .waiting ++ actWrites h sp a;
+        in-order = sym (append-assoc (writes gs) (r .0 .waiting) (actWrites h sp a)) ∙ ap (λ l. l ++ actWrites h sp a) (r .0 .in-order)
+            ∙ sym (wrote-append h sp cs (a ∷ []) ∙ ap (λ l. wrote h sp cs ++ l) one);
+        others = r .0 .others;
+      },
+      ap (λ l. l ++ actWrites h sp a) (r .1),
+    )
+      where
+        one : wrote h sp (a ∷ []) ≡ actWrites h sp a
+        one = unfold wrote in append-nil (actWrites h sp a)
+
+    -- one event more, of which these writes are ours
+    pub reach-event : (e : Event ℕ) (rest : List (Event ℕ)) → writes (e ∷ []) ++ rest ≡ w → Others sp x (e ∷ []) → Reaching n m cs (gs ++ (e ∷ [])) rest
+    reach-event e rest order others = (
+      record {
+        runs = r .0 .runs;
+        upto = r .0 .upto;
+        waiting = rest;
+        in-order = ap (λ l. l ++ rest) (writes-append gs (e ∷ [])) ∙ append-assoc (writes gs) (writes (e ∷ [])) rest ∙ ap (λ l. writes gs ++ l) (order ∙ sym (r .1)) ∙ r .0 .in-order;
+        others = others-append sp gs (e ∷ []) m (r .0 .others) (subst (λ y. Others sp y (e ∷ [])) (sym ends) others);
+      },
+      refl,
+    )
 
   -- so many calls were made since the last period began, and this has happened; the shootdowns under way began in it, one after the other
   pub record Facts (N : Night) : Type 0 where
     pub role : ℕ → Role
     pub whole : Whole h sp (lastBegan N) role
-    pub reached : Reaching (lastBegan N) (uncovered N) (lastSince N) (waiting h sp N)
+    pub reached : Reaching (ticketOf (bookOf (lastBegan N) sp)) (lastBegan N) (uncovered N) (lastSince N) (waiting h sp N)
     pub chain : Chain h sp (last (history N)) (underway (history N)) (due N)
 
   pub facts-dusk : (m : ℕ → ℕ) (role : ℕ → Role) → Whole h sp m role → Facts (dusk m)
-  unfolding history last underway lately due waiting wrote Runs UpTo Others writes Chain
-  facts-dusk m role w = record {
-    role = role;
-    whole = w;
-    reached = (record { runs = tt; upto = tt; waiting = []; in-order = refl; others = tt }, refl);
-    chain = tt;
-  }
-
-  -- what the code sees is what its writes make of memory, but for marks
-  seen-saw : (N : Night) (f : Facts N) → Saw sp (after (lastBegan N) (wrote h sp (uncovered N))) (seen h sp N)
-  seen-saw N f =
-      subst (λ l. Saw sp (after (lastBegan N) l) (seen h sp N)) (f .reached .0 .in-order)
-      (subst (λ x. Saw sp x (seen h sp N)) (sym (after-append (writes (lastSince N)) (f .reached .0 .waiting) (lastBegan N)))
-      (subst (λ l. Saw sp (after (after (lastBegan N) (writes (lastSince N))) l) (seen h sp N)) (sym (f .reached .1))
-      (subst (λ x. Saw sp (after (after (lastBegan N) (writes (lastSince N))) (waiting h sp N)) (after x (waiting h sp N))) (last-ends (history N))
-      (saw-same h sp (waiting h sp N) _ _ (others-saw sp (lastSince N) (lastBegan N) (lastBegan N) (f .reached .0 .others) (saw-self sp (lastBegan N)))))))
+  unfolding history last underway lately due waiting Chain
+  facts-dusk m role w = record { role = role; whole = w; reached = reach-none (ticketOf (bookOf m sp)) m; chain = tt }
 
   pub facts-calls : (N : Night) (a : Act) → Facts N → Saw sp (seen h sp N) (a .saw) → Within (ticketOf (bookOf (lastBegan N) sp)) (a .call) → Facts (calls N a)
   unfolding history lately due waiting
   facts-calls N a f saw within = record {
     role = f .role;
     whole = f .whole;
-    reached = (
-      record {
-        runs = subst (Runs h sp (lastBegan N)) list (runs-more h sp (uncovered N) a (lastBegan N) (f .reached .0 .runs) (saw-then sp (seen-saw N f) saw));
-        upto = subst (UpTo (ticketOf (bookOf (lastBegan N) sp))) list (upto-more (ticketOf (bookOf (lastBegan N) sp)) (uncovered N) a (f .reached .0 .upto) within);
-        waiting = f .reached .0 .waiting ++ actWrites h sp a;
-        in-order = sym (append-assoc (writes (lastSince N)) (f .reached .0 .waiting) (actWrites h sp a)) ∙ ap (λ l. l ++ actWrites h sp a) (f .reached .0 .in-order)
-            ∙ sym (wrote-append h sp (uncovered N) (a ∷ []) ∙ ap (λ l. wrote h sp (uncovered N) ++ l) one) ∙ ap (wrote h sp) list;
-        others = f .reached .0 .others;
-      },
-      ap (λ l. l ++ actWrites h sp a) (f .reached .1),
-    );
+    reached = subst (λ l. Reaching (ticketOf (bookOf (lastBegan N) sp)) (lastBegan N) l (lastSince N) (waiting h sp N ++ actWrites h sp a))
+        (append-assoc (joined (due N)) (lately N) (a ∷ []))
+        (reach-calls (ticketOf (bookOf (lastBegan N) sp)) (lastBegan N) (uncovered N) (lastSince N) (waiting h sp N) (f .reached) (now (history N)) (last-ends (history N)) a saw within);
     chain = f .chain;
   }
-    where
-      list : uncovered N ++ (a ∷ []) ≡ joined (due N) ++ (lately N ++ (a ∷ []))
-      list = append-assoc (joined (due N)) (lately N) (a ∷ [])
-
-      one : wrote h sp (a ∷ []) ≡ actWrites h sp a
-      one = unfold wrote in append-nil (actWrites h sp a)
 
   -- an event, of which these writes are ours
   pub facts-event : (N : Night) (e : Event ℕ) (rest : List (Event ℕ)) → Facts N → writes (e ∷ []) ++ rest ≡ waiting h sp N → waiting h sp (happens N e) ≡ rest
@@ -79,17 +95,8 @@ module _ (h : ℕ → Bool) (sp : Space) where
   facts-event N e rest f order left-over others = record {
     role = f .role;
     whole = f .whole;
-    reached = (
-      record {
-        runs = f .reached .0 .runs;
-        upto = f .reached .0 .upto;
-        waiting = rest;
-        in-order = ap (λ l. l ++ rest) (writes-append (lastSince N) (e ∷ [])) ∙ append-assoc (writes (lastSince N)) (writes (e ∷ [])) rest
-            ∙ ap (λ l. writes (lastSince N) ++ l) (order ∙ sym (f .reached .1)) ∙ f .reached .0 .in-order;
-        others = others-append sp (lastSince N) (e ∷ []) (lastBegan N) (f .reached .0 .others) (subst (λ x. Others sp x (e ∷ [])) (sym (last-ends (history N))) others);
-      },
-      sym left-over,
-    );
+    reached = subst (λ l. Reaching (ticketOf (bookOf (lastBegan N) sp)) (lastBegan N) (uncovered N) (lastSince N ++ (e ∷ [])) l) (sym left-over)
+        (reach-event (ticketOf (bookOf (lastBegan N) sp)) (lastBegan N) (uncovered N) (lastSince N) (waiting h sp N) (f .reached) (now (history N)) (last-ends (history N)) e rest order others);
     chain = chain-longer h sp e (last (history N)) (underway (history N)) (due N) (f .chain);
   }
 
@@ -98,16 +105,7 @@ module _ (h : ℕ → Bool) (sp : Space) where
   facts-begins N f empty = record {
     role = f .role;
     whole = f .whole;
-    reached = (
-      record {
-        runs = subst (Runs h sp (lastBegan N)) list (f .reached .0 .runs);
-        upto = subst (UpTo (ticketOf (bookOf (lastBegan N) sp))) list (f .reached .0 .upto);
-        waiting = f .reached .0 .waiting;
-        in-order = f .reached .0 .in-order ∙ ap (wrote h sp) list;
-        others = f .reached .0 .others;
-      },
-      f .reached .1,
-    );
+    reached = subst (λ l. Reaching (ticketOf (bookOf (lastBegan N) sp)) (lastBegan N) l (lastSince N) (waiting h sp N)) list (f .reached);
     chain = chain-begins h sp (now (history N)) (last (history N)) (underway (history N)) (due N) (lately N) (f .chain) (last-ends (history N))
         (ap (λ l. writes (lastSince N) ++ l) (sym (f .reached .1 ∙ empty)) ∙ f .reached .0 .in-order);
   }
@@ -132,8 +130,8 @@ module _ (h : ℕ → Bool) (sp : Space) where
 
   module _ (N : Night) (T : ℕ → Type 0) (D : List Act) (Ds : List (List Act)) (e : due N ≡ D ∷ Ds) (f : Facts N) where
     -- the calls that it covers come first
-    pub split-calls : Reaching (lastBegan N) (D ++ (joined Ds ++ lately N)) (lastSince N) (waiting h sp N)
-    split-calls = subst (λ l. Reaching (lastBegan N) l (lastSince N) (waiting h sp N)) (ap (λ l. joined l ++ lately N) e ∙ append-assoc D (joined Ds) (lately N)) (f .reached)
+    pub split-calls : Reaching (ticketOf (bookOf (lastBegan N) sp)) (lastBegan N) (D ++ (joined Ds ++ lately N)) (lastSince N) (waiting h sp N)
+    split-calls = subst (λ l. Reaching (ticketOf (bookOf (lastBegan N) sp)) (lastBegan N) l (lastSince N) (waiting h sp N)) (ap (λ l. joined l ++ lately N) e ∙ append-assoc D (joined Ds) (lately N)) (f .reached)
 
     abbrev c : Coming N D Ds
     c = coming N D Ds e f
@@ -143,7 +141,7 @@ module _ (h : ℕ → Bool) (sp : Space) where
     facts-done = record {
       role = _;
       whole = later-whole h sp (last (history N)) (next (history N)) D (joined Ds ++ lately N) (c .later) (f .role) (f .whole) (split-calls .0);
-      reached = subst (λ l. Reaching (next (history N) .began) (joined (behind l) ++ lately N) (next (history N) .since) (waiting h sp N)) (sym e) (
+      reached = subst (λ l. Reaching (ticketOf (bookOf (next (history N) .began) sp)) (next (history N) .began) (joined (behind l) ++ lately N) (next (history N) .since) (waiting h sp N)) (sym e) (
         later-reached h sp (last (history N)) (next (history N)) D (joined Ds ++ lately N) (c .later) (f .role) (f .whole) (split-calls .0),
         later-waits h sp (last (history N)) (next (history N)) D (joined Ds ++ lately N) (c .later) (f .role) (f .whole) (split-calls .0) ∙ split-calls .1,
       );

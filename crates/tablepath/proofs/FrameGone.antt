@@ -1,5 +1,5 @@
 -- A FRAME IS GONE when every page that meets it was unmapped, and a shootdown that began then is done: no walk and no cache, for any address, gives
--- a page that meets it, until a call maps one.
+-- a page that meets it, until a call maps one. Statement: specs/Shown.antt, FrameGone.
 use Prim.Native.Nat.{ℕ, _+_, _*_, _/_, _%_, _<_, _≤_}
 use mathlib.Core.Bool.{Bool}
 use mathlib.Core.List.{List, [], _∷_, _++_}
@@ -12,16 +12,13 @@ use Rattle.entry.specs.Entry.{sizeOf}
 use Rattle.entry.specs.declared.Rights.{Rights}
 use Rattle.walk.specs.Walk.{baseOf}
 use Rattle.walk.specs.declared.Found.{Found}
-use Rattle.walk.specs.declared.Found.the-variants.{Page, Nothing}
+use Rattle.walk.specs.declared.Found.the-variants.{Page, Nothing, Outside}
 use Rattle.walk.proofs.Ranges.{page-covers}
 use Rattle.world.specs.Events.{Event, after, after-append, All, all-map, all-both, all-append, all-last, among-all}
-use Rattle.world.specs.Walker.{Gives}
-use Rattle.world.specs.Walks.{At}
-use Rattle.world.specs.Reports.{last, next, Held}
+use Rattle.world.specs.Reports.{last, next}
 use Rattle.tables.specs.Roles.{Role}
 use Rattle.tables.specs.Near.{Near, near-range}
 use Rattle.tables.specs.Overlap.{aligned-base}
-use Rattle.tables.specs.Discipline.{walkerOf}
 use Rattle.tables.specs.Clearing.{eventsOf, events-after}
 use Rattle.pool.specs.Book.{bookOf, ticketOf}
 use Rattle.pool.specs.Booked.{settingOf}
@@ -33,18 +30,18 @@ use Rattle.effect.specs.Whole.{Whole}
 use Rattle.effect.proofs.UnmapDone.{unmapped}
 use Rattle.effect.proofs.Exactly.{unmap-exactly}
 use Rattle.tablepath.specs.Answers.{unmapWrites}
-use Rattle.tablepath.specs.Calls.{Call, Within, callWrites, Saw, Act, actWrites, wrote, Runs, UpTo, Reached}
+use Rattle.tablepath.specs.Calls.{means, Call, Within, callWrites, Saw, Act, actWrites, wrote, Runs, UpTo, Reached}
 use Rattle.tablepath.specs.Calls as calls
-use Rattle.tablepath.specs.Nights.{Night, history, lastBegan, lastSince, joined, Some, lately, due, covered, uncovered, untoldKept, Honest, Complete}
+use Rattle.tablepath.specs.Nights.{Night, history, lastBegan, lastSince, joined, Some, lately, due, covered, uncovered, butRights, untoldKept, Gets, Honest, Telling, Complete}
 use Rattle.tablepath.specs.Nights as night
 use Rattle.tablepath.specs.Gone.{dawn, Avoids, MappedAt, Maps, Mapped}
+use Rattle.tablepath.specs.Shown.{FrameGone}
 use Rattle.tablepath.proofs.Serving.{IsBuilt}
 use Rattle.tablepath.proofs.Running.{act-served, act-whole, act-ticket, seen-whole, Ran, reached-ran, reached-all}
-use Rattle.tablepath.proofs.Beside.{means}
 use Rattle.tablepath.proofs.Did.{Did, same, mapped, gone, changed, Stirs, saw-means, act-means, act-stirs}
 use Rattle.tablepath.proofs.Periods.{runs-front, upto-front, later-ran, saw-later}
 use Rattle.tablepath.proofs.Facts.{Facts, coming, split-calls}
-use Rattle.tablepath.proofs.Nights.{night-facts, night-answer}
+use Rattle.tablepath.proofs.Nights.{night-facts, night-page}
 
 module _ (h : ℕ → Bool) (sp : Space) where
   -- AFTER UNMAP OF b, whatever it answers, no address has a page that starts at b.
@@ -163,9 +160,9 @@ module _ (h : ℕ → Bool) (sp : Space) where
 
     -- what the calls say that a shootdown covers: when it began, no page met the frame but those that were not unmapped
     night-has : (N : Night) → Honest h sp untoldKept N → Complete h sp N → Has (Mapped h sp f s (MappedAt h sp f s (dawn N)) (covered N)) (lastBegan N)
-    unfolding Honest Complete dawn covered history last
+    unfolding Honest Telling dawn covered history last
     night-has (night.dusk m) k c = λ va base size frame r e below above.
-        unfold Mapped in record { address = va; size = size; frame = frame; rights = r; means = e; begins-before = below; ends-behind = above }
+        unfold Mapped in record { address = va; size = size; frame = frame; rights = r; meant = e; begins-before = below; ends-behind = above }
     night-has (night.calls N a) k c = night-has N (k .0) c
     night-has (night.happens N x) k c = night-has N (k .0) c
     night-has (night.begins N) k c = night-has N (k .0) c
@@ -186,11 +183,23 @@ module _ (h : ℕ → Bool) (sp : Space) where
         built : Ran h sp (ticketOf (bookOf (lastBegan N) sp)) (lastBegan N) D
         built = later-ran h sp (last (history N)) (next (history N)) D (joined Ds ++ lately N) (coming h sp N D Ds e fs .later) (fs .role) (fs .whole) r1
 
-    -- THE FRAME IS GONE.
-    pub frame-gone : (N : Night) → Honest h sp untoldKept N → Complete h sp N
+    -- the frame is avoided, whatever the rights
+    but-avoids : (o o' : Found) → butRights o ≡ butRights o' → Avoids f s o → Avoids f s o'
+    unfolding butRights
+    but-avoids (Page base size frame r) (Page base' size' frame' r') e k b z g q i =
+        let page : Page base' size' frame' r' ≡ Page b z g q = i in
+        let sizes : size ≡ z = cc in
+        let frames : frame ≡ g = cc in
+        elim (k base size frame r refl) [ inl u ↦ inl (omega arith) | inr u ↦ inr (omega arith) ]
+    but-avoids Nothing (Page base' size' frame' r') e k b z g q i = let x : _≡_ {A = ℕ} 0 1 = cc in absurd (omega arith)
+    but-avoids Outside (Page base' size' frame' r') e k b z g q i = let x : _≡_ {A = ℕ} 0 1 = cc in absurd (omega arith)
+    but-avoids o Nothing e k b z g q i = let x : _≡_ {A = ℕ} 0 1 = cc in absurd (omega arith)
+    but-avoids o Outside e k b z g q i = let x : _≡_ {A = ℕ} 0 1 = cc in absurd (omega arith)
+
+    gone-now : (N : Night) → Honest h sp untoldKept N → Complete h sp N
         → ((b : ℕ) → ¬ Mapped h sp f s (MappedAt h sp f s (dawn N)) (covered N) b) → ((b : ℕ) → ¬ Some (Maps h sp f s b) (uncovered N))
-        → (va : ℕ) (p : At) (o : Found) → Held (walkerOf (settingOf h sp)) untoldKept (history N) va p → Gives (walkerOf (settingOf h sp)) va p o → Avoids f s o
-    frame-gone N k c unmapped-all spares va p o held gives =
+        → (va : ℕ) (o : Found) → Gets h sp untoldKept N va o → Avoids f s o
+    gone-now N k c unmapped-all spares va o gets =
         let fs = night-facts h sp N k c in
         let n = ticketOf (bookOf (lastBegan N) sp) in
         let ran = reached-ran h sp n (lastBegan N) (fs .role) (fs .whole) (omega arith) (uncovered N) (lastSince N) (fs .reached .0) in
@@ -199,5 +208,9 @@ module _ (h : ℕ → Bool) (sp : Space) where
         let all : All (lastBegan N) (lastSince N) Clear = reached-all h sp n (lastBegan N) (fs .role) (fs .whole) (omega arith) (uncovered N) (lastSince N) (fs .reached .0) (λ x. IsBuilt h sp x × Clear x) Clear
         (λ x y s b vb base size frame r e. b .1 vb base size frame r (sym (saw-means h sp x y s (b .0) vb) ∙ e))
         (all-both (wrote h sp (uncovered N)) (lastBegan N) (IsBuilt h sp) Clear (ran .built) clear) in
-        let t = among-all (lastSince N) (lastBegan N) Clear (λ x. means h sp x va ≡ o) all (night-answer h sp N k c va p o held gives) in
-        λ base size frame r e. t .1 va base size frame r (t .2 ∙ e)
+        let t = among-all (lastSince N) (lastBegan N) Clear (λ x. butRights (means h sp x va) ≡ butRights o) all (night-page h sp N k c va o gets) in
+        but-avoids (means h sp (t .0) va) o (t .2) (t .1 va)
+
+  -- THE FRAME IS GONE.
+  pub frame-gone : (N : Night) → Honest h sp untoldKept N → Complete h sp N → FrameGone h sp N
+  frame-gone N k c f s = gone-now f s N k c

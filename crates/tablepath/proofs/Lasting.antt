@@ -6,8 +6,9 @@ use mathlib.Core.List.{List, [], _∷_, _++_}
 use mathlib.Core.Logic.{_⊎_, inl, inr}
 use mathlib.Core.Path.{_≡_, refl, sym, ap, _∙_, subst}
 use native.Mathlib.Omega.{arith}
+use Rattle.entry.specs.declared.Rights.{Rights}
 use Rattle.walk.specs.declared.Found.{Found}
-use Rattle.walk.specs.declared.Found.the-variants.{Nothing}
+use Rattle.walk.specs.declared.Found.the-variants.{Page, Nothing, Outside}
 use Rattle.world.specs.Events.{Event, after, after-append, All, all-first, all-map, all-append}
 use Rattle.tables.specs.Roles.{Role}
 use Rattle.tables.specs.Near.{Near}
@@ -16,10 +17,9 @@ use Rattle.pool.specs.Book.{bookOf, ticketOf}
 use Rattle.pool.specs.Booked.{settingOf}
 use Rattle.pool.specs.declared.Space.{Space}
 use Rattle.effect.specs.Whole.{Whole}
-use Rattle.tablepath.specs.Calls.{Call, Within, Saw, Act, actWrites, wrote, Runs, UpTo}
-use Rattle.tablepath.specs.Nights.{Some, Hit, Hits, IsPage}
+use Rattle.tablepath.specs.Calls.{means, Call, Within, Saw, Act, actWrites, wrote, Runs, UpTo}
+use Rattle.tablepath.specs.Nights.{Some, Unmaps, Protects, Hit, Hits, IsPage, butRights}
 use Rattle.tablepath.proofs.Running.{act-served, act-whole, act-ticket}
-use Rattle.tablepath.proofs.Beside.{means}
 use Rattle.tablepath.proofs.Did.{Did, same, mapped, gone, changed, Stirs, act-stirs}
 use Rattle.tablepath.proofs.Ways.{Beneath, act-ways}
 
@@ -54,35 +54,56 @@ module _ (h : ℕ → Bool) (sp : Space) where
       early (inl p) g = late (g p)
       early (inr e) g = inr (inl e)
 
-  -- THE PAGE THAT AN ADDRESS HAS, it has on, or a call touched it.
-  pub page-lasts : (n va : ℕ) (o : Found) → IsPage o → Lasts n (λ x. means h sp x va ≡ o) (λ a. Hit h sp (a .call) (a .saw) va)
+  -- WHICH CALLS TO LOOK AT, if pages of one kind are as good as one another: unmap, and protect where it changes the kind
+  pub record Tracks (kind : Found → Found) (H : Call → (ℕ → ℕ) → ℕ → Type 0) : Type 0 where
+    pub unmaps : (c : Call) (s : ℕ → ℕ) (va : ℕ) → Unmaps h sp c s va → H c s va
+    pub protects : (c : Call) (s : ℕ → ℕ) (va : ℕ) → Protects h sp c s va → H c s va ⊎ ((base size frame : ℕ) (r r' : Rights) → kind (Page base size frame r) ≡ kind (Page base size frame r'))
+    pub pages : (o : Found) → IsPage o → ¬ (kind Nothing ≡ kind o)
+
+  pub exactly : Tracks (λ o. o) (Hit h sp)
   unfolding IsPage
-  page-lasts n va o page m role w u a saw within =
-      all-map (actWrites h sp a) m _ _ (λ y q e. moment y q e) (s .moments)
+  exactly = record { unmaps = λ c s va t. inl t; protects = λ c s va t. inl (inr t); pages = λ o page e. subst IsPage (sym e) page }
+
+  pub but-rights : Tracks butRights (Unmaps h sp)
+  unfolding butRights
+  but-rights = record { unmaps = λ c s va t. t; protects = λ c s va t. inr (λ base size frame r r'. refl); pages = no-page }
     where
-      s : Stirs h sp (a .call) (a .saw) m (actWrites h sp a)
-      s = act-stirs h sp n m role w u a saw within
+      no-page : (o : Found) → IsPage o → ¬ (butRights Nothing ≡ butRights o)
+      no-page (Page base size frame r) page e = let z : _≡_ {A = ℕ} 0 1 = unfold butRights in cc in omega arith
+      no-page Nothing page e = unfold IsPage in page
+      no-page Outside page e = unfold IsPage in page
 
-      End : Type 0
-      End = (means h sp (after m (actWrites h sp a)) va ≡ o) ⊎ Hit h sp (a .call) (a .saw) va
+  -- THE PAGE THAT AN ADDRESS HAS, it has on, or a call touched it.
+  module _ (kind : Found → Found) (H : Call → (ℕ → ℕ) → ℕ → Type 0) (tracks : Tracks kind H) where
+    pub page-lasts : (n va : ℕ) (o : Found) → IsPage o → Lasts n (λ x. kind (means h sp x va) ≡ kind o) (λ a. H (a .call) (a .saw) va)
+    page-lasts n va o page m role w u a saw within = all-map (actWrites h sp a) m _ _ (λ y q e. moment y q e) (s .moments)
+      where
+        s : Stirs h sp (a .call) (a .saw) m (actWrites h sp a)
+        s = act-stirs h sp n m role w u a saw within
 
-      go : (c : Call) → means h sp m va ≡ o → Did h sp (a .saw) va c (means h sp m va) (means h sp (after m (actWrites h sp a)) va)
-          → (means h sp (after m (actWrites h sp a)) va ≡ o) ⊎ Hit h sp c (a .saw) va
-      go c e (same f) = inl (f ∙ e)
-      go c e (mapped k d f g) = absurd (subst IsPage (sym e ∙ f) page)
-      go c e (gone t f g) = inr t
-      go c e (changed t f g) = inr t
+        End : Type 0
+        End = (kind (means h sp (after m (actWrites h sp a)) va) ≡ kind o) ⊎ H (a .call) (a .saw) va
 
-      moment : (y : ℕ → ℕ) → ((vb : ℕ) → means h sp y vb ≡ means h sp m vb) ⊎ ((vb : ℕ) → means h sp y vb ≡ means h sp (after m (actWrites h sp a)) vb)
-          → means h sp y va ≡ o → End
-      moment y (inl q) e = go (a .call) (sym (q va) ∙ e) (s .did va)
-      moment y (inr q) e = inl (sym (q va) ∙ e)
+        go : (c : Call) → kind (means h sp m va) ≡ kind o → Did h sp (a .saw) va c (means h sp m va) (means h sp (after m (actWrites h sp a)) va)
+            → (kind (means h sp (after m (actWrites h sp a)) va) ≡ kind o) ⊎ H c (a .saw) va
+        go c e (same f) = inl (ap kind f ∙ e)
+        go c e (mapped k d f g) = absurd (tracks .pages o page (sym (ap kind f) ∙ e))
+        go c e (gone t f g) = inr (tracks .unmaps c (a .saw) va t)
+        go c e (changed {base = base} {size} {frame} {had} {now} t f g) = elim (tracks .protects c (a .saw) va t) [
+          | inl x ↦ inr x
+          | inr x ↦ inl (ap kind g ∙ x base size frame now had ∙ sym (ap kind f) ∙ e)
+        ]
 
-  -- THE TABLE THAT A WALK COMES TO, it comes to on, or a call touched an address of the walk's prefix.
+        moment : (y : ℕ → ℕ) → ((vb : ℕ) → means h sp y vb ≡ means h sp m vb) ⊎ ((vb : ℕ) → means h sp y vb ≡ means h sp (after m (actWrites h sp a)) vb)
+            → kind (means h sp y va) ≡ kind o → End
+        moment y (inl q) e = go (a .call) (sym (ap kind (q va)) ∙ e) (s .did va)
+        moment y (inr q) e = inl (sym (ap kind (q va)) ∙ e)
+
+  -- THE TABLE THAT A WALK COMES TO, it comes to on, or a call unmapped an address of the walk's prefix.
   pub way-lasts : (n va j t : ℕ) → Lasts n (λ x. Comes (settingOf h sp) x va j t) (λ a. Beneath h sp (a .call) (a .saw) j va)
   way-lasts n va j t m role w u a saw within = all-map (actWrites h sp a) m _ _ (λ y f c. f va j t c) (act-ways h sp n m role w u a saw within)
 
-  pub some-beneath : (cs : List Act) (j va : ℕ) → Some (λ a. Beneath h sp (a .call) (a .saw) j va) cs → (vb : ℕ) × Hits h sp cs vb × Near j va vb
+  pub some-beneath : (cs : List Act) (j va : ℕ) → Some (λ a. Beneath h sp (a .call) (a .saw) j va) cs → (vb : ℕ) × Hits h sp (Unmaps h sp) cs vb × Near j va vb
   unfolding Some
   some-beneath [] j va s = absurd s
   some-beneath (a ∷ cs) j va (inl b) = (b .0, inl (b .1), b .2)

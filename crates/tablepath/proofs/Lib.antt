@@ -12,6 +12,7 @@ pub mod OnTables
 pub mod Caching
 pub mod Facts
 pub mod Nights
+pub mod Onward
 pub mod FrameGone
 pub mod TableGone
 pub mod AfterMap

@@ -43,7 +43,7 @@ use Rattle.tablepath.specs.declared.Gone.{Gone}
 use Rattle.tablepath.specs.declared.Unmapped.the-variants as unmapped′
 use Rattle.tablepath.specs.Calls.{Call, Within, callWrites, Act, actWrites}
 use Rattle.tablepath.specs.Calls as calls
-use Rattle.tablepath.specs.Nights.{Night, history, lastBegan, behind, front, lately, due, Some, untoldKept, waiting, seen, Hit, Hits, Allowed, Honest, Complete}
+use Rattle.tablepath.specs.Nights.{Night, history, lastBegan, behind, front, lately, due, Some, untoldKept, waiting, seen, Unmaps, Protects, Hit, Hits, Allowed, Honest, Telling, Exact}
 use Rattle.tablepath.specs.Nights as night
 use Rattle.tablepath.proofs.Marking.{saw-self}
 use Rattle.tablepath.proofs.Says.{unmap-says}
@@ -76,10 +76,10 @@ module _ (h : ℕ → Bool) (sp : Space) where
     dues : due M ≡ due N
     recent : lately M ≡ lately N
     none : underway (history N) ≡ [] → underway (history M) ≡ []
-    told : Complete h sp N → Complete h sp M
+    told : Exact h sp N → Exact h sp M
 
   arrive-same : (ws : List Write) (N : Night) → Same N (arrive N ws)
-  unfolding arrive history last underway eachLonger due lately Complete
+  unfolding arrive history last underway eachLonger due lately Telling
   arrive-same [] N = record { began = refl; dues = refl; recent = refl; none = λ u. u; told = λ c. c }
   arrive-same (w ∷ ws) N =
       let s = arrive-same ws (night.happens N (write (at (w .page) (w .index)) (w .word))) in
@@ -237,11 +237,11 @@ module _ (s : List ℕ) (e : length s ≡ 20480) where
   unfolding history last underway oldest now
   began₃ = ap (λ l. oldest (now (history gone)) (l ++ (fromNow (now (history gone)) ∷ [])) .began) none-underway ∙ now₂
 
-  complete₃ : Complete h five shot
-  unfolding Complete due
+  complete₃ : Exact h five shot
+  unfolding Telling due
   complete₃ = (
     calm-same h five mapped (calls.unmap 0) .told (calm-same h five (night.dusk m) (calls.map page) .told tt),
-    λ va k. hits va (subst (λ l. Hits h five l va) made (subst (λ l. Hits h five (front (l ++ (lately gone ∷ []))) va) none-due k)),
+    λ va k. hits va (subst (λ l. Hits h five (Hit h five) l va) made (subst (λ l. Hits h five (Hit h five) (front (l ++ (lately gone ∷ []))) va) none-due k)),
   )
     where
       answered : (g : Gone) → unmapAnswer h (seen h five mapped) five 0 ≡ unmapped′.Done g → g .size ≡ 4096
@@ -250,12 +250,18 @@ module _ (s : List ℕ) (e : length s ≡ 20480) where
           let p : found.Page 0 (g .size) (g .frame) _ ≡ found.Page 0 4096 1048576 everything = sym (unmap-says whole₁ 0 .gone g there .before) ∙ means₁ in
           cc
 
-      hits : (va : ℕ) → Hits h five (act h five (night.dusk m) (calls.map page) ∷ (act h five mapped (calls.unmap 0) ∷ [])) va → va < 4096
-      hits va k = unfold Some Hit act in elim k [ inl x ↦ absurd x | inr (inl x) ↦ omega (arith, x .3, answered (x .0) (x .1)) | inr (inr x) ↦ absurd x ]
+      hits : (va : ℕ) → Hits h five (Hit h five) (act h five (night.dusk m) (calls.map page) ∷ (act h five mapped (calls.unmap 0) ∷ [])) va → va < 4096
+      hits va k = unfold Some Unmaps Protects act in elim k [
+        | inl (inl x) ↦ absurd x
+        | inl (inr x) ↦ absurd x
+        | inr (inl (inl x)) ↦ omega (arith, x .3, answered (x .0) (x .1))
+        | inr (inl (inr x)) ↦ absurd x
+        | inr (inr x) ↦ absurd x
+      ]
 
   -- THE WITNESS
-  pub night-witness : Honest h five untoldKept reported × Complete h five reported × ((j : ℕ) → j < 3 → (k : ℕ) × Numbered (lastBegan reported) five (pageAt m five j) k)
-  unfolding Complete history
+  pub night-witness : Honest h five untoldKept reported × Exact h five reported × ((j : ℕ) → j < 3 → (k : ℕ) × Numbered (lastBegan reported) five (pageAt m five j) k)
+  unfolding Telling history
   night-witness =
       let after-told = calm-same h five shot (calls.told (ticketOf (bookOf (lastBegan shot) five))) in (
         calm-honest h five untoldKept shot honest₃ (unfold waiting in honest₂ .1) (calls.told (ticketOf (bookOf (lastBegan shot) five))) (omega arith) .0,

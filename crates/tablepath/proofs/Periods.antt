@@ -84,13 +84,13 @@ unfolding UpTo
 upto-rest n [] ds t = t
 upto-rest n (c ∷ cs) ds t = upto-rest n cs ds (t .1)
 
-within-less : (n k : ℕ) (c : Call) → n ≤ k → Within n c → Within k c
+pub within-less : (n k : ℕ) (c : Call) → n ≤ k → Within n c → Within k c
 within-less n k (calls.map q) u w = tt
 within-less n k (calls.unmap va) u w = tt
 within-less n k (calls.protect va r) u w = tt
 within-less n k (calls.told t) u w = omega arith
 
-upto-less : (n k : ℕ) (cs : List Act) → n ≤ k → UpTo n cs → UpTo k cs
+pub upto-less : (n k : ℕ) (cs : List Act) → n ≤ k → UpTo n cs → UpTo k cs
 unfolding UpTo
 upto-less n k [] u t = tt
 upto-less n k (c ∷ cs) u t = (within-less n k (c .call) u (t .0), upto-less n k cs u (t .1))

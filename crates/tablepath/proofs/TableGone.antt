@@ -1,5 +1,5 @@
 -- A TABLE IS GONE when it was set aside, and a shootdown that began then is done: no walk and no cache, for any address, reads a word of its page,
--- until a call links it.
+-- until a call links it. Statement: specs/Shown.antt, TableGone.
 use Prim.Native.Nat.{ℕ, _+_, _-_, _*_, _/_, _<_, _≤_}
 use mathlib.Core.Bool.{Bool}
 use mathlib.Core.List.{List, [], _∷_, _++_}
@@ -16,8 +16,6 @@ use Rattle.walk.specs.declared.Found.{Found}
 use Rattle.world.specs.Events.{Event, after, All, all-map, all-both, all-append}
 use Rattle.world.specs.Walker.{Reads}
 use Rattle.world.specs.Ways.{follows-agree}
-use Rattle.world.specs.Walks.{At}
-use Rattle.world.specs.Reports.{now, Held}
 use Rattle.tables.specs.Roles.{Role, free, aside, table, left, Built}
 use Rattle.tables.specs.Discipline.{walkerOf, unread}
 use Rattle.tables.specs.Clearing.{eventsOf, events-after, spare-untouched}
@@ -50,8 +48,9 @@ use Rattle.tablepath.specs.declared.Mapped.the-variants as mapped
 use Rattle.tablepath.specs.Answers.{mapSaid, mapAnswer, mapWrites, unmapWrites, protectWrites, toldWrites, toldDid, dueDid}
 use Rattle.tablepath.specs.Calls.{Call, Within, callWrites, Saw, Act, actWrites, wrote, Runs, UpTo}
 use Rattle.tablepath.specs.Calls as calls
-use Rattle.tablepath.specs.Nights.{Night, history, lastBegan, lastSince, Some, uncovered, untoldKept, Honest, Complete}
+use Rattle.tablepath.specs.Nights.{Night, lastBegan, lastSince, Some, uncovered, untoldKept, MayRead, Honest, Complete}
 use Rattle.tablepath.specs.Gone.{Listed, Links}
+use Rattle.tablepath.specs.Shown.{TableGone}
 use Rattle.tablepath.proofs.Marking.{planned-writes, planned-others, saw-back, others-all, saw-agree, saw-whole}
 use Rattle.tablepath.proofs.Serving.{IsBuilt, Served}
 use Rattle.tablepath.proofs.Serves.{release-spare}
@@ -176,24 +175,28 @@ module _ (h : ℕ → Bool) (sp : Space) (t : ℕ) where
       (saw-whole h sp (subst (λ x. Saw sp x (after m (actWrites h sp a))) (events-after (a .saw) ws) (saw-act h sp n m role w u a (r .0) (k .0))) (one .whole))
       (act-ticket h sp n m role w u a (r .0) (k .0)) (r .1) (k .1) (one .spare) (λ x. spares (inr x)))
 
-  -- THE TABLE IS GONE.
-  pub table-gone : (N : Night) → Honest h sp untoldKept N → Complete h sp N → Listed sp (lastBegan N) t → ¬ Some (Links h sp t) (uncovered N)
-      → (va : ℕ) (p : At) → Held (walkerOf (settingOf h sp)) untoldKept (history N) va p
-      → (i : ℕ) → i < 512 → ¬ Reads (walkerOf (settingOf h sp)) (now (history N)) va p (at t i)
-  table-gone N k c (j, u, e) spares va p held i v =
+  -- what is no table when the last period begins, and is not linked since, is read from nothing that is held
+  pub spare-unread : (N : Night) (k : Honest h sp untoldKept N) (c : Complete h sp N) → Spare (night-facts h sp N k c .role) → ¬ Some (Links h sp t) (uncovered N)
+      → (va i : ℕ) → i < 512 → ¬ MayRead h sp untoldKept N va (at t i)
+  spare-unread N k c spare spares va i v =
+      let f = night-facts h sp N k c in
       let n = ticketOf (bookOf (lastBegan N) sp) in
       let ran = reached-ran h sp n (lastBegan N) (f .role) (f .whole) (omega arith) (uncovered N) (lastSince N) (f .reached .0) in
       night-reads h sp N k c va (at t i)
       (all-map (lastSince N) (lastBegan N) Unreads _ (λ y g. g i v va)
       (reached-all h sp n (lastBegan N) (f .role) (f .whole) (omega arith) (uncovered N) (lastSince N) (f .reached .0) (λ x. IsBuilt h sp x × Unreads x) Unreads saw-unreads
       (all-both (wrote h sp (uncovered N)) (lastBegan N) (IsBuilt h sp) Unreads (ran .built)
-      (run-leaves n (lastBegan N) (f .role) (uncovered N) (f .whole) (omega arith) (f .reached .0 .runs) (f .reached .0 .upto) (listed (decLt j (bookOf (lastBegan N) sp .free))) spares)))) p held
-    where
-      f : Facts h sp N
-      f = night-facts h sp N k c
+      (run-leaves n (lastBegan N) (f .role) (uncovered N) (f .whole) (omega arith) (f .reached .0 .runs) (f .reached .0 .upto) spare spares))))
 
-      listed : Dec (j < bookOf (lastBegan N) sp .free) → Spare (f .role)
-      listed (yes x) = inl (ap (f .role) (sym e) ∙ f .whole .booked .lists .frees j x)
-      listed (no x) =
-          let place : bookOf (lastBegan N) sp .free + (j - bookOf (lastBegan N) sp .free) ≡ j = omega arith in
-          inr (ap (f .role) (sym (ap (pageAt (lastBegan N) sp) place ∙ e)) ∙ f .whole .booked .lists .asides (j - bookOf (lastBegan N) sp .free) (omega arith))
+  listed-spare : (m : ℕ → ℕ) (role : ℕ → Role) → Whole h sp m role → Listed sp m t → Spare role
+  listed-spare m role w (j, u, e) = go (decLt j (bookOf m sp .free))
+    where
+      go : Dec (j < bookOf m sp .free) → Spare role
+      go (yes x) = inl (ap role (sym e) ∙ w .booked .lists .frees j x)
+      go (no x) =
+          let place : bookOf m sp .free + (j - bookOf m sp .free) ≡ j = omega arith in
+          inr (ap role (sym (ap (pageAt m sp) place ∙ e)) ∙ w .booked .lists .asides (j - bookOf m sp .free) (omega arith))
+
+-- THE TABLE IS GONE.
+pub table-gone : (h : ℕ → Bool) (sp : Space) (N : Night) → Honest h sp untoldKept N → Complete h sp N → TableGone h sp N
+table-gone h sp N k c t listed = spare-unread h sp t N k c (listed-spare h sp t (lastBegan N) _ (night-facts h sp N k c .whole) listed)

@@ -48,7 +48,7 @@ use Rattle.effect.proofs.Wholes.{book-opens}
 use Rattle.tablepath.specs.Answers.{mapWrites, goneOf, unmapSaid, unmapAnswer, unmapWrites, protectWrites, toldWrites, toldDid, dueDid}
 use Rattle.tablepath.specs.Calls.{Call, Within, callWrites, Saw, Act, actWrites}
 use Rattle.tablepath.specs.Calls as calls
-use Rattle.tablepath.specs.Nights.{Hit}
+use Rattle.tablepath.specs.Nights.{Unmaps}
 use Rattle.tablepath.proofs.Marking.{planned-writes, planned-others, saw-back, others-all, saw-alike}
 use Rattle.tablepath.proofs.Serving.{IsBuilt, Served}
 use Rattle.tablepath.proofs.Serves.{release-spare}
@@ -71,9 +71,9 @@ module _ {σ : Setting} {x y : ℕ → ℕ} {rx ry : ℕ → Role} (bx : Built �
       onto s everything (table-stays c (λ z. omega (arith, up .0))) (up .2)
 
 module _ (h : ℕ → Bool) (sp : Space) where
-  -- the call touched an address that shares the prefix of va, as far as a walk uses it that has n steps left
+  -- the call unmapped an address that shares the prefix of va, as far as a walk uses it that has n steps left
   abbrev pub Beneath : Call → (ℕ → ℕ) → ℕ → ℕ → Type 0
-  Beneath c s n va = (vb : ℕ) × Hit h sp c s vb × Near n va vb
+  Beneath c s n va = (vb : ℕ) × Unmaps h sp c s vb × Near n va vb
 
   -- what the walks of the moment x come to, they come to in y
   abbrev pub WaysTo : Call → (s y x : ℕ → ℕ) → Type 0
@@ -84,9 +84,9 @@ module _ (h : ℕ → Bool) (sp : Space) where
   ways-none c m va n t k = inl k
 
   module _ (m : ℕ → ℕ) (role : ℕ → Role) (w : Whole h sp m role) where
-    -- an operation after which each table is what it was, or was set aside on the way of an address that it touched
+    -- an operation after which each table is what it was, or was set aside on the way of an address that it unmapped
     changed-ways : (c : Call) (va l : ℕ) {o : Found} (role' : ℕ → Role) (ws : List Write) → Changed (settingOf h sp) m role va l o ws (word.after m ws) role'
-        → ((p : ℕ) → left (role p) ≢ 0 → (role' p ≡ role p) ⊎ ((left (role' p) ≡ 0) × Hit h sp c m va × Comes (settingOf h sp) m va (left (role p)) p))
+        → ((p : ℕ) → left (role p) ≢ 0 → (role' p ≡ role p) ⊎ ((left (role' p) ≡ 0) × Unmaps h sp c m va × Comes (settingOf h sp) m va (left (role p)) p))
         → All m (eventsOf ws) (WaysTo c m (after m (eventsOf ws)))
     changed-ways c va l role' ws k fate =
         all-map (eventsOf ws) m (Moment (settingOf h sp) role role') (WaysTo c m (after m (eventsOf ws)))
@@ -132,17 +132,17 @@ module _ (h : ℕ → Bool) (sp : Space) where
 
     unmap-ways : (va : ℕ) (x : Removing) → unmap.decideOf h m sp va ≡ x
         → All m (eventsOf (unmap.didOf sp va x)) (WaysTo (calls.unmap va) m (after m (eventsOf (unmap.didOf sp va x))))
-    unfolding unmap.didOf unmapAnswer unmapSaid goneOf Hit
+    unfolding unmap.didOf unmapAnswer unmapSaid goneOf Unmaps
     unmap-ways va (removing.Refused y) e = ways-none (calls.unmap va) m
     unmap-ways va (removing.Go r) e =
         let d = unmapped w va r e in
-        let hit : Hit h sp (calls.unmap va) m va = (goneOf sp r, rw e, omega arith, omega (arith, d .size-is, size-pos (r .spot .way .level))) in
+        let hit : Unmaps h sp (calls.unmap va) m va = (goneOf sp r, rw e, omega arith, omega (arith, d .size-is, size-pos (r .spot .way .level))) in
         changed-ways (calls.unmap va) va (r .spot .way .level) (d .role') (unmap.writesOf sp va r) (d .changed) (λ p live. go d hit p live (d .fate p) (d .on-way p))
       where
-        go : (d : UnmapDone h sp m role va r) → Hit h sp (calls.unmap va) m va → (p : ℕ) → left (role p) ≢ 0
+        go : (d : UnmapDone h sp m role va r) → Unmaps h sp (calls.unmap va) m va → (p : ℕ) → left (role p) ≢ 0
             → (d .role' p ≡ role p) ⊎ SetAside sp role (d .role') (word.after m (unmap.writesOf sp va r)) (ticketOf (bookOf m sp)) (ticketOf (unmap.bookAfter sp r)) p
             → (d .role' p ≡ role p) ⊎ Comes (settingOf h sp) m va (left (role p)) p
-            → (d .role' p ≡ role p) ⊎ ((left (d .role' p) ≡ 0) × Hit h sp (calls.unmap va) m va × Comes (settingOf h sp) m va (left (role p)) p)
+            → (d .role' p ≡ role p) ⊎ ((left (d .role' p) ≡ 0) × Unmaps h sp (calls.unmap va) m va × Comes (settingOf h sp) m va (left (role p)) p)
         go d hit p live (inl f) way = inl f
         go d hit p live (inr f) (inl g) = inl g
         go d hit p live (inr f) (inr g) = inr (ap left (f .is), hit, g)

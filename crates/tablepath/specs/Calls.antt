@@ -1,5 +1,5 @@
 -- Calls of the operations, one after the other: what each saw of memory, and what they write.
-use Prim.Native.Nat.{ℕ, _+_, _/_, _%_, _<_, _≤_}
+use Prim.Native.Nat.{ℕ, _+_, _*_, _/_, _%_, _<_, _≤_}
 use mathlib.Core.Bool.{Bool}
 use mathlib.Core.List.{List, [], _∷_, _++_}
 use mathlib.Core.Logic.{_⊎_}
@@ -8,6 +8,8 @@ use Rattle.word.specs.Memory.{set}
 use Rattle.word.specs.Writes.{Write}
 use Rattle.entry.specs.Marks.{Marked}
 use Rattle.entry.specs.declared.Rights.{Rights}
+use Rattle.walk.specs.Walk.{walk}
+use Rattle.walk.specs.declared.Found.{Found}
 use Rattle.world.specs.Events.{Event, write, mark, store, after}
 use Rattle.world.specs.Marks.{writes}
 use Rattle.tables.specs.Clearing.{eventsOf}
@@ -17,6 +19,10 @@ use Rattle.pool.specs.declared.Space.{Space}
 use Rattle.plan.specs.declared.maps.Asked.{Asked}
 use Rattle.effect.specs.OfPool.{OfPool}
 use Rattle.tablepath.specs.Answers.{mapWrites, unmapWrites, protectWrites, toldWrites}
+
+-- what an address means to a walk of this space
+abbrev pub means : (ℕ → Bool) → Space → (ℕ → ℕ) → ℕ → Found
+means h sp x va = walk h x (4096 * sp .root) va
 
 -- a call of an operation that writes
 pub data Call : Type 0 where

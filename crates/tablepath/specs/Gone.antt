@@ -1,11 +1,10 @@
 -- WHAT THE CALLS OF A NIGHT SAY, by their own answers, of a frame, of an address, and of a table's page.
 use Prim.Native.Nat.{ℕ, _+_, _*_, _<_, _≤_}
 use mathlib.Core.Bool.{Bool}
-use mathlib.Core.List.{List, [], _∷_}
+use mathlib.Core.List.{List, [], _∷_, _++_}
 use mathlib.Core.Logic.{_⊎_}
 use mathlib.Core.Path.{_≡_}
 use Rattle.entry.specs.declared.Rights.{Rights}
-use Rattle.walk.specs.Walk.{walk}
 use Rattle.walk.specs.declared.Found.{Found}
 use Rattle.walk.specs.declared.Found.the-variants.{Page}
 use Rattle.pool.specs.Book.{bookOf, pageAt}
@@ -13,8 +12,8 @@ use Rattle.pool.specs.declared.Space.{Space}
 use Rattle.plan.specs.declared.maps.Asked.{Asked}
 use Rattle.tablepath.specs.Answers.{mapAnswer}
 use Rattle.tablepath.specs.declared.Mapped.the-variants as mapped
-use Rattle.tablepath.specs.Calls.{map, unmap, Act}
-use Rattle.tablepath.specs.Nights.{Night, dusk, calls, happens, begins, done}
+use Rattle.tablepath.specs.Calls.{means, map, unmap, Act}
+use Rattle.tablepath.specs.Nights.{Night, dusk, calls, happens, begins, done, uncovered, Hit, Hits}
 
 -- the first memory of the night
 unfoldable pub dawn : Night → ℕ → ℕ
@@ -37,7 +36,7 @@ module _ (h : ℕ → Bool) (sp : Space) (f s : ℕ) where
     pub size : ℕ
     pub frame : ℕ
     pub rights : Rights
-    pub means : walk h m (4096 * sp .root) address ≡ Page b size frame rights
+    pub meant : means h sp m address ≡ Page b size frame rights
     pub begins-before : frame < f + s
     pub ends-behind : f < frame + size
 
@@ -65,6 +64,19 @@ pub record MapsTo (h : ℕ → Bool) (sp : Space) (q : Asked) (va : ℕ) (a : Ac
   pub is-done : mapAnswer h (a .saw) sp q ≡ mapped.Done tables
   pub from : q .base ≤ va
   pub upto : va < q .base + q .size
+
+-- the page that q asks for
+abbrev pub pageOf : Asked → Found
+pageOf q = Page (q .base) (q .size) (q .frame) (q .rights)
+
+-- since the last period began va was mapped as q asks, and no call has touched it since
+pub record MappedSince (h : ℕ → Bool) (sp : Space) (N : Night) (q : Asked) (va : ℕ) : Type 0 where
+  pub earlier : List Act
+  pub mapping : Act
+  pub later : List Act
+  pub are : uncovered N ≡ earlier ++ (mapping ∷ later)
+  pub maps : MapsTo h sp q va mapping
+  pub spares : ¬ Hits h sp (Hit h sp) later va
 
 -- A table: page t of the pool ------------------------------------------------------------------------------------------------------------
 

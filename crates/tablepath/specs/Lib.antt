@@ -3,3 +3,4 @@ pub mod Calls
 pub mod Says
 pub mod Nights
 pub mod Gone
+pub mod Shown

@@ -4,13 +4,14 @@ use mathlib.Core.Bool.{Bool}
 use mathlib.Core.List.{List, [], _∷_, _++_}
 use mathlib.Core.Logic.{_⊎_}
 use mathlib.Core.Path.{_≡_}
+use Rattle.entry.specs.Entry.{everything}
 use Rattle.entry.specs.declared.Rights.{Rights}
 use Rattle.walk.specs.declared.Found.{Found}
 use Rattle.walk.specs.declared.Found.the-variants.{Page, Nothing, Outside}
 use Rattle.walk.specs.declared.Place.{Place}
 use Rattle.walk.specs.declared.Place.the-variants.{Going, Ended}
 use Rattle.world.specs.Events.{Event, write, mark, store, after}
-use Rattle.world.specs.Walker.{Gives}
+use Rattle.world.specs.Walker.{Gives, Reads}
 use Rattle.world.specs.Walks.{At}
 use Rattle.world.specs.Reports.{History, now, last, Caches, Held}
 use Rattle.world.specs.Reports as world
@@ -115,6 +116,12 @@ unfoldable pub IsFinished : Place → Type 0
 IsFinished (Going t r) = ⊥
 IsFinished (Ended f) = IsPage f
 
+-- what is found but for its rights
+unfoldable pub butRights : Found → Found
+butRights (Page base size frame rights) = Page base size frame everything
+butRights Nothing = Nothing
+butRights Outside = Outside
+
 -- A SHOOTDOWN DROPS what serves a told address: its translation, and the upper entries that lead to it (AMD's INVLPG where EFER.TCE is set).
 abbrev pub untoldKept : Caches At Found
 untoldKept = record { half = λ p. IsHalf (p .place); finished = λ p. IsFinished (p .place); page = IsPage }
@@ -138,26 +145,54 @@ module _ (h : ℕ → Bool) (sp : Space) where
   abbrev pub seen : Night → ℕ → ℕ
   seen N = after (now (history N)) (waiting N)
 
-  -- va lies in a page that the call unmapped or protected, by its own answer
-  unfoldable pub Hit : Call → (ℕ → ℕ) → ℕ → Type 0
-  Hit (map q) s va = ⊥
-  Hit (unmap b) s va = (g : Gone) × (unmapAnswer h s sp b ≡ unmapped.Done g) × (b ≤ va) × (va < b + g .size)
-  Hit (protect b r) s va = (g : Same) × (protectAnswer h s sp b r ≡ protected.Done g) × (b ≤ va) × (va < b + g .size)
-  Hit (told t) s va = ⊥
+  -- va lies in a page that the call unmapped, by its own answer
+  unfoldable pub Unmaps : Call → (ℕ → ℕ) → ℕ → Type 0
+  Unmaps (map q) s va = ⊥
+  Unmaps (unmap b) s va = (g : Gone) × (unmapAnswer h s sp b ≡ unmapped.Done g) × (b ≤ va) × (va < b + g .size)
+  Unmaps (protect b r) s va = ⊥
+  Unmaps (told t) s va = ⊥
 
-  abbrev pub Hits : List Act → ℕ → Type 0
-  Hits cs va = Some (λ a. Hit (a .call) (a .saw) va) cs
+  -- or protected
+  unfoldable pub Protects : Call → (ℕ → ℕ) → ℕ → Type 0
+  Protects (map q) s va = ⊥
+  Protects (unmap b) s va = ⊥
+  Protects (protect b r) s va = (g : Same) × (protectAnswer h s sp b r ≡ protected.Done g) × (b ≤ va) × (va < b + g .size)
+  Protects (told t) s va = ⊥
+
+  abbrev pub Hit : Call → (ℕ → ℕ) → ℕ → Type 0
+  Hit c s va = Unmaps c s va ⊎ Protects c s va
+
+  -- so of one of the calls
+  abbrev pub Hits : (Call → (ℕ → ℕ) → ℕ → Type 0) → List Act → ℕ → Type 0
+  Hits H cs va = Some (λ a. H (a .call) (a .saw) va) cs
+
+  -- THE TICKET THAT A CALL ANSWERED: unmap's, where it set tables aside
+  unfoldable pub Ticketed : Call → (ℕ → ℕ) → ℕ → Type 0
+  Ticketed (map q) s t = ⊥
+  Ticketed (unmap b) s t = (g : Gone) × (unmapAnswer h s sp b ≡ unmapped.Done g) × (0 < g .aside) × (g .ticket ≡ t)
+  Ticketed (protect b r) s t = ⊥
+  Ticketed (told n) s t = ⊥
+
+  -- some walk or cache gives o for va now
+  pub record Gets (C : Caches At Found) (N : Night) (va : ℕ) (o : Found) : Type 0 where
+    pub place : At
+    pub held : Held (walkerOf (settingOf h sp)) C (history N) va place
+    pub gives : Gives (walkerOf (settingOf h sp)) va place o
+
+  -- some walk of va has the word x still to read, perhaps from a cache on
+  pub record MayRead (C : Caches At Found) (N : Night) (va x : ℕ) : Type 0 where
+    pub place : At
+    pub held : Held (walkerOf (settingOf h sp)) C (history N) va place
+    pub reads : Reads (walkerOf (settingOf h sp)) (now (history N)) va place x
 
   -- a word of a page that some walk or cache gives now, for some address
   pub record Given (C : Caches At Found) (N : Night) (a : ℕ) : Type 0 where
     pub address : ℕ
-    pub place : At
     pub base : ℕ
     pub size : ℕ
     pub frame : ℕ
     pub rights : Rights
-    pub held : Held (walkerOf (settingOf h sp)) C (history N) address place
-    pub gives : Gives (walkerOf (settingOf h sp)) address place (Page base size frame rights)
+    pub gets : Gets C N address (Page base size frame rights)
     pub from : frame ≤ 8 * a
     pub upto : 8 * a + 8 ≤ frame + size
 
@@ -167,8 +202,8 @@ module _ (h : ℕ → Bool) (sp : Space) where
   Allowed C N (mark a v) = Remarked sp a (now (history N) a) v
   Allowed C N (store a v) = (¬ PoolWord sp a) ⊎ Given C N a
 
-  -- AN HONEST NIGHT: what the machine and the caller promise. At first all is whole. A call sees memory but for marks, and reports no ticket that was
-  -- handed out after the shootdown began that was done last. No write waits when a shootdown begins.
+  -- AN HONEST NIGHT: what the machine and the caller promise. At first all is whole, and nothing is held. A call sees memory but for marks, and reports
+  -- at most the ticket of the moment at which the shootdown began that was done last. No write waits when a shootdown begins.
   unfoldable pub Honest : Caches At Found → Night → Type 0
   Honest C (dusk m) = (role : ℕ → Role) × Whole h sp m role
   Honest C (calls N a) = Honest C N × Saw sp (seen N) (a .saw) × Within (ticketOf (bookOf (lastBegan N) sp)) (a .call)
@@ -176,11 +211,34 @@ module _ (h : ℕ → Bool) (sp : Space) where
   Honest C (begins N) = Honest C N × (waiting N ≡ [])
   Honest C (done N T) = Honest C N × (cs : List Act) × (rest : List (List Act)) × (due N ≡ cs ∷ rest)
 
-  -- A COMPLETE NIGHT: each shootdown tells every address of every page that was unmapped or protected before it began, and after the one before it
-  -- began. So a ticket covers every call up to it.
-  unfoldable pub Complete : Night → Type 0
-  Complete (dusk m) = Unit {0}
-  Complete (calls N a) = Complete N
-  Complete (happens N e) = Complete N
-  Complete (begins N) = Complete N
-  Complete (done N T) = Complete N × ((va : ℕ) → Hits (front (due N)) va → T va)
+  -- Each shootdown tells every address that is H of a call made before it began, and after the one before it began.
+  unfoldable pub Telling : (Call → (ℕ → ℕ) → ℕ → Type 0) → Night → Type 0
+  Telling H (dusk m) = Unit {0}
+  Telling H (calls N a) = Telling H N
+  Telling H (happens N e) = Telling H N
+  Telling H (begins N) = Telling H N
+  Telling H (done N T) = Telling H N × ((va : ℕ) → Hits H (front (due N)) va → T va)
+
+  -- A COMPLETE NIGHT: it tells the addresses of every page that was unmapped.
+  abbrev pub Complete : Night → Type 0
+  Complete = Telling Unmaps
+
+  -- AN EXACT NIGHT: and of every page that was protected. (Who leaves that out, as kernels do where rights only grow, may be given the old rights.)
+  abbrev pub Exact : Night → Type 0
+  Exact = Telling Hit
+
+-- A FULL FLUSH each time: every address is told.
+unfoldable pub Flushes : Night → Type 0
+Flushes (dusk m) = Unit {0}
+Flushes (calls N a) = Flushes N
+Flushes (happens N e) = Flushes N
+Flushes (begins N) = Flushes N
+Flushes (done N T) = Flushes N × ((va : ℕ) → T va)
+
+-- M IS N, AND LATER: these calls were made since, and this has happened.
+pub data Onward (N : Night) : Night → List Act → List (Event ℕ) → Type 1 where
+  same : Onward N N [] []
+  called : {M : Night} {cs : List Act} {gs : List (Event ℕ)} → Onward N M cs gs → (a : Act) → Onward N (calls M a) (cs ++ (a ∷ [])) gs
+  happened : {M : Night} {cs : List Act} {gs : List (Event ℕ)} → Onward N M cs gs → (e : Event ℕ) → Onward N (happens M e) cs (gs ++ (e ∷ []))
+  begun : {M : Night} {cs : List Act} {gs : List (Event ℕ)} → Onward N M cs gs → Onward N (begins M) cs gs
+  ended : {M : Night} {cs : List Act} {gs : List (Event ℕ)} → Onward N M cs gs → (T : ℕ → Type 0) → Onward N (done M T) cs gs

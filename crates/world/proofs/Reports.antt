@@ -3,12 +3,12 @@ use mathlib.Core.Path.{_≡_, refl, sym, _∙_, ap, subst}
 use mathlib.Core.List.{List, [], _∷_, _++_}
 use mathlib.Core.Logic.{_⊎_, inl, inr}
 use Prim.Native.Nat.{ℕ, zero, suc}
-use Rattle.world.specs.Events.{Event, happen, after, after-more, Among, among-append, among-split, among-last, All, among-all}
+use Rattle.world.specs.Events.{Event, happen, after, after-more, Among, among-map, among-append, among-split, among-last, All, among-all}
 use Rattle.world.specs.Walker.{Walker, finish, meaning, Gives, Reads, ReadsIn}
 use Rattle.world.specs.Ways.{follows-step}
 use Rattle.world.specs.Held.{Holds, still, starts, steps, shares, None, Can, Always, always-held}
 use Rattle.world.specs.Discipline.{Safe, interleaving, interleaving-had}
-use Rattle.world.specs.Reports.{History, first, happens, begins, done, Period, fromNow, longer, eachLonger, oldest, younger, now, underway, next, last, Thawed, Caches, Finishes, Since, Untold, Held, SafeIn, Keeps, OnWay, Tells, Meant, Fresh, Enough}
+use Rattle.world.specs.Reports.{History, first, happens, begins, done, Period, fromNow, longer, eachLonger, oldest, younger, now, underway, next, last, Thawed, Caches, NoMore, Finishes, Since, Untold, Held, SafeIn, Keeps, OnWay, Tells, Meant, MeantLike, Fresh, Enough}
 use Rattle.world.proofs.Holding.{holds-more, can-holds, can-longer, can-on}
 use Rattle.world.proofs.OnWays.{was-on}
 
@@ -68,6 +68,27 @@ module _ {Word Address : Type 0} where
 
 -- What is held -------------------------------------------------------------------------------------------------------------------------
 
+module _ {Word View Address Place Answer : Type 0} (W : Walker Word View Address Place Answer) where
+  since-holds : (m : ℕ → Word) (q : Period Word) → EndsAt m q → (va : Address) (p : Place) → Holds W m (Since W q) va p → Since W q va p
+  since-holds m q e va p h = can-holds W (q .since) (q .began) (None W) va p (subst (λ x. Holds W x (Since W q) va p) (sym e) h)
+
+  since-longer : (m : ℕ → Word) (e : Event Word) (q : Period Word) → EndsAt m q → (va : Address) (p : Place) → Holds W (happen m e) (Since W q) va p
+      → Since W (longer e q) va p
+  since-longer m e q k va p h =
+      can-longer W (q .since) e (q .began) (None W) va p (subst (λ x. Holds W (happen x e) (Since W q) va p) (sym k) h)
+
+module _ {Word View Address Place Answer : Type 0} (W : Walker Word View Address Place Answer) (C : Caches Place Answer) where
+  open Walker W using (alike-refl, left)
+
+  -- A FULL FLUSH tells every address: then nothing is held but what began since it began.
+  pub flushed : (h : History Word Address) (T : Address → Type 0) → ((va : Address) → T va) → (va : Address) (p : Place) → Held W C (done h T) va p → Since W (next h) va p
+  unfolding Held
+  flushed h T all va p c = since-holds W (now h) (next h) (next-ends h) va p (holds-more W (now h) _ (Since W (next h)) new va p c)
+    where
+      new : (va : Address) (p : Place) → Since W (next h) va p ⊎ ((C .half p ⊎ C .finished p) × Untold W T va p × Held W C h va p) → Since W (next h) va p
+      new va p (inl d) = d
+      new va p (inr (k, u, d)) = absurd (u va (all va) (alike-refl (left p) va))
+
 module _ {Word View Address Place Answer : Type 0} (W : Walker Word View Address Place Answer) (C : Caches Place Answer) (laws : Finishes W C) where
   open Walker W using (start, left, step, alike-refl, alike-trans)
   open Caches C using (half, finished)
@@ -80,19 +101,12 @@ module _ {Word View Address Place Answer : Type 0} (W : Walker Word View Address
   last-safe (begins h) k = last-safe h k
   last-safe (done h T) k = k .1
 
-  since-holds : (m : ℕ → Word) (q : Period Word) → EndsAt m q → (va : Address) (p : Place) → Holds W m (Since W q) va p → Since W q va p
-  since-holds m q e va p h = can-holds W (q .since) (q .began) (None W) va p (subst (λ x. Holds W x (Since W q) va p) (sym e) h)
-
-  since-longer : (m : ℕ → Word) (e : Event Word) (q : Period Word) → EndsAt m q → (va : Address) (p : Place) → Holds W (happen m e) (Since W q) va p
-      → Since W (longer e q) va p
-  since-longer m e q k va p h =
-      can-longer W (q .since) e (q .began) (None W) va p (subst (λ x. Holds W (happen x e) (Since W q) va p) (sym k) h)
-
-  meant-longer : (m : ℕ → Word) (e : Event Word) (q : Period Word) → EndsAt m q → (va : Address) (o : Answer) → Meant W q va o ⊎ (meaning W (happen m e) va ≡ o)
-      → Meant W (longer e q) va o
+  meant-longer : {Kind : Type 0} (kind : Answer → Kind) (m : ℕ → Word) (e : Event Word) (q : Period Word) → EndsAt m q → (va : Address) (o : Answer)
+      → MeantLike W kind q va o ⊎ (kind (meaning W (happen m e) va) ≡ kind o) → MeantLike W kind (longer e q) va o
   unfolding Among
-  meant-longer m e q k va o (inl a) = among-append (q .since) (e ∷ []) (q .began) _ (inl a)
-  meant-longer m e q k va o (inr b) = among-append (q .since) (e ∷ []) (q .began) _ (inr (inr (subst (λ x. meaning W (happen x e) va ≡ o) (sym k) b)))
+  meant-longer kind m e q k va o (inl a) = among-append (q .since) (e ∷ []) (q .began) _ (inl a)
+  meant-longer kind m e q k va o (inr b) =
+      among-append (q .since) (e ∷ []) (q .began) _ (inr (inr (subst (λ x. kind (meaning W (happen x e) va) ≡ kind o) (sym k) b)))
 
   -- what was meant in the last period is fresh
   meant-fresh : (h : History Word Address) (va : Address) (o : Answer) → Meant W (last h) va o → Fresh W C h va o
@@ -124,16 +138,16 @@ module _ {Word View Address Place Answer : Type 0} (W : Walker Word View Address
   Fine h va p = (finished p × ((o : Answer) → Gives W va p o → Fresh W C h va o)) ⊎ Since W (last h) va p
 
   fine-holds : (h : History Word Address) (H : Address → Place → Type 0) → Always W (Fine h) H → Always W (Fine h) (Holds W (now h) H)
-  fine-holds h H = always-held W (Fine h) (now h) H (λ va. inr (since-holds (now h) (last h) (last-ends h) va (start va) starts)) next-step
+  fine-holds h H = always-held W (Fine h) (now h) H (λ va. inr (since-holds W (now h) (last h) (last-ends h) va (start va) starts)) next-step
     where
       next-step : (va : Address) (p : Place) → Fine h va p → Fine h va (step (now h) va p)
       next-step va p (inl (f, g)) = inl (stays p f (now h) va, λ o k. g o (gives-back va p f (now h) o k))
-      next-step va p (inr c) = inr (since-holds (now h) (last h) (last-ends h) va (step (now h) va p) (steps (still c)))
+      next-step va p (inr c) = inr (since-holds W (now h) (last h) (last-ends h) va (step (now h) va p) (steps (still c)))
 
   fine-done : (h : History Word Address) (T : Address → Type 0) → Keeps W h → Tells W C (done h T) → Always W (Fine h) (Held W C h)
       → Always W (Fine (done h T)) (λ va p. Since W (next h) va p ⊎ ((half p ⊎ finished p) × Untold W T va p × Held W C h va p))
   unfolding Tells Fresh last
-  fine-done h T k tells ih va p (inl c) vb a = inr (since-holds (now h) (next h) (next-ends h) vb p (shares a (still c)))
+  fine-done h T k tells ih va p (inl c) vb a = inr (since-holds W (now h) (next h) (next-ends h) vb p (shares a (still c)))
   fine-done h T k tells ih va p (inr (kind, untold, held)) vb a = go kind (ih va p held vb a)
     where
       serves : Untold W T vb p
@@ -162,7 +176,7 @@ module _ {Word View Address Place Answer : Type 0} (W : Walker Word View Address
     where
       more : (va : Address) (p : Place) → Fine h va p → Fine (happens h e) va p
       more va p (inl (f, g)) = inl (f, λ o q. inl (g o q))
-      more va p (inr c) = inr (since-longer (now h) e (last h) (last-ends h) va p (still c))
+      more va p (inr c) = inr (since-longer W (now h) e (last h) (last-ends h) va p (still c))
   fine (begins h) k t = fine h k t
   fine (done h T) k t = fine-holds (done h T) _ (fine-done h T (k .0) t (fine h (k .0) (t .0)))
 
@@ -177,6 +191,13 @@ module _ {Word View Address Place Answer : Type 0} (W : Walker Word View Address
       | inr d ↦ meant-fresh h va o (interleaving W (last h .since) Thawed (last h .began) (last-safe h keeps) va p o d g)
     ]
 
+    -- A half-done walk that is held was on its way at some moment of the last period.
+    pub half-on : (va : Address) (p : Place) → Held W C h va p → ¬ finished p → OnWay W (last h) va p
+    half-on va p c n = elim (is-fine va p c) [
+      | inl f ↦ absurd (n (f .0))
+      | inr d ↦ was-on W (last h .since) Thawed (last h .began) (last-safe h keeps) va p d
+    ]
+
     -- A cell that the walk of the address reads at no moment of the last period is read from nothing that is held.
     pub reaches-none : (va : Address) (x : ℕ) → All (last h .began) (last h .since) (λ m. ¬ Reads W m va (start va) x) → (p : Place) → Held W C h va p → ¬ Reads W (now h) va p x
     reaches-none va x all p c r = elim (is-fine va p c) [
@@ -186,32 +207,37 @@ module _ {Word View Address Place Answer : Type 0} (W : Walker Word View Address
           t .good (t .follows .within x (subst (λ m. Reads W m va p x) (sym (last-ends h)) r))
     ]
 
-  -- WHERE ENOUGH IS TOLD it is as if all were dropped: whatever is given is what the address meant in the last period, whatever that told.
-  enough-last : (h : History Word Address) (va : Address) → Enough W C h va → (o : Answer) → Fresh W C h va o → Meant W (last h) va o
-  unfolding Fresh Enough last Among
-  enough-last (first m) va e o f = f
-  enough-last (happens h x) va e o (inl f) = meant-longer (now h) x (last h) (last-ends h) va o (inl (enough-last h va e o f))
-  enough-last (happens h x) va e o (inr f) = meant-longer (now h) x (last h) (last-ends h) va o (inr f)
-  enough-last (begins h) va e o f = enough-last h va e o f
-  enough-last (done h T) va e o (inl f) = f
-  enough-last (done h T) va e o (inr (k, n, f)) = elim (e .1 o k (enough-last h va (e .0) o f)) [ inl a ↦ a | inr t ↦ absurd (n t) ]
+  -- WHERE ENOUGH IS TOLD it is as if all were dropped: whatever is given is of the kind that the address meant in the last period, whatever that told.
+  module _ {Kind : Type 0} (kind : Answer → Kind) where
+    enough-last : (h : History Word Address) (va : Address) → Enough W C kind h va → (o : Answer) → Fresh W C h va o → MeantLike W kind (last h) va o
+    unfolding Fresh Enough last Among
+    enough-last (first m) va e o f = ap kind f
+    enough-last (happens h x) va e o (inl f) = meant-longer kind (now h) x (last h) (last-ends h) va o (inl (enough-last h va e o f))
+    enough-last (happens h x) va e o (inr f) = meant-longer kind (now h) x (last h) (last-ends h) va o (inr (ap kind f))
+    enough-last (begins h) va e o f = enough-last h va e o f
+    enough-last (done h T) va e o (inl f) = among-map (next h .since) (next h .began) _ _ (λ m. ap kind) f
+    enough-last (done h T) va e o (inr (k, n, f)) = elim (e .1 o k (enough-last h va (e .0) o f)) [ inl a ↦ a | inr t ↦ absurd (n t) ]
 
-  pub as-if-all : (h : History Word Address) → Keeps W h → Tells W C h → (va : Address) → Enough W C h va → (p : Place) (o : Answer) → Held W C h va p → Gives W va p o
-      → Meant W (last h) va o
-  as-if-all h k t va e p o c g = enough-last h va e o (fresh h k t va p o c g)
+    module _ (h : History Word Address) (keeps : Keeps W h) (tells : Tells W C h) (va : Address) (enough : Enough W C kind h va) where
+      pub as-if-all : (p : Place) (o : Answer) → Held W C h va p → Gives W va p o → MeantLike W kind (last h) va o
+      as-if-all p o c g = enough-last h va enough o (fresh h keeps tells va p o c g)
 
-  -- So what is so of the meaning at every moment of the last period is so of every answer.
-  pub answers-all : (h : History Word Address) → Keeps W h → Tells W C h → (va : Address) → Enough W C h va → (Q : Answer → Type 0)
-      → All (last h .began) (last h .since) (λ m. Q (meaning W m va)) → (p : Place) (o : Answer) → Held W C h va p → Gives W va p o → Q o
-  answers-all h k t va e Q a p o c g =
-      let r = among-all (last h .since) (last h .began) _ _ a (as-if-all h k t va e p o c g) in
-      subst Q (r .2) (r .1)
+      -- So what is so of the meaning's kind at every moment of the last period is so of every answer's.
+      pub answers-all : (Q : Kind → Type 0) → All (last h .began) (last h .since) (λ m. Q (kind (meaning W m va))) → (p : Place) (o : Answer) → Held W C h va p
+          → Gives W va p o → Q (kind o)
+      answers-all Q a p o c g =
+          let r = among-all (last h .since) (last h .began) _ _ a (as-if-all p o c g) in
+          subst Q (r .2) (r .1)
 
-  -- A FULL FLUSH tells every address: then nothing is held but what began since it began.
-  pub flushed : (h : History Word Address) (T : Address → Type 0) → ((va : Address) → T va) → (va : Address) (p : Place) → Held W C (done h T) va p → Since W (next h) va p
+-- WHERE LESS IS KEPT, less is held.
+module _ {Word View Address Place Answer : Type 0} (W : Walker Word View Address Place Answer) (C D : Caches Place Answer) (less : NoMore C D) where
+  kept : (p : Place) → C .half p ⊎ C .finished p → D .half p ⊎ D .finished p
+  kept p (inl x) = inl (less .half p x)
+  kept p (inr x) = inr (less .finished p x)
+
+  pub no-more-held : (h : History Word Address) (va : Address) (p : Place) → Held W C h va p → Held W D h va p
   unfolding Held
-  flushed h T all va p c = since-holds (now h) (next h) (next-ends h) va p (holds-more W (now h) _ (Since W (next h)) new va p c)
-    where
-      new : (va : Address) (p : Place) → Since W (next h) va p ⊎ ((half p ⊎ finished p) × Untold W T va p × Held W C h va p) → Since W (next h) va p
-      new va p (inl d) = d
-      new va p (inr (k, u, d)) = absurd (u va (all va) (alike-refl (left p) va))
+  no-more-held (first m) va p = λ c. c
+  no-more-held (happens h e) va p = holds-more W (happen (now h) e) (Held W C h) (Held W D h) (no-more-held h) va p
+  no-more-held (begins h) va p = no-more-held h va p
+  no-more-held (done h T) va p = holds-more W (now h) _ _ (λ vb q x. elim x [ inl d ↦ inl d | inr (k, u, d) ↦ inr (kept q k, u, no-more-held h vb q d) ]) va p

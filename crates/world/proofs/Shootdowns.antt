@@ -81,7 +81,7 @@ reused-tells = (tt, λ va p h u w. absurd (u 0 refl (prefix va p h)))
 reused-gives-nothing : (p : Spot) (o : ℕ) → Held tiny caches (reused (λ t. t ≡ 0)) 0 p → Gives tiny 0 p o → o ≡ 0
 unfolding Enough last now underway oldest eachLonger after happen All run set ℕ-discrete onward entry
 reused-gives-nothing =
-    answers-all tiny caches finishes (reused (λ t. t ≡ 0)) (reused-keeps (λ t. t ≡ 0)) reused-tells 0 (tt, λ o k m. inr refl) (λ o. o ≡ 0) (refl, refl)
+    answers-all tiny caches finishes (λ o. o) (reused (λ t. t ≡ 0)) (reused-keeps (λ t. t ≡ 0)) reused-tells 0 (tt, λ o k m. inr refl) (λ o. o ≡ 0) (refl, refl)
 
 reused-not-read : (va : ℕ) (p : Spot) → Held tiny caches (reused (λ t. t ≡ 0)) va p → ¬ Reads tiny (now (reused (λ t. t ≡ 0))) va p 2000
 unfolding last now underway oldest eachLonger after happen All set ℕ-discrete

@@ -81,6 +81,11 @@ pub record Caches (Place Answer : Type 0) : Type 1 where
   pub finished : Place → Type 0
   pub page : Answer → Type 0
 
+-- C keeps no more than D
+pub record NoMore {Place Answer : Type 0} (C D : Caches Place Answer) : Type 0 where
+  pub half : (p : Place) → C .half p → D .half p
+  pub finished : (p : Place) → C .finished p → D .finished p
+
 module _ {Word View Address Place Answer : Type 0} (W : Walker Word View Address Place Answer) where
   open Walker W using (start, left, step, Alike)
 
@@ -101,6 +106,10 @@ module _ {Word View Address Place Answer : Type 0} (W : Walker Word View Address
   -- va meant o at some moment of the period
   abbrev pub Meant : Period Word → Address → Answer → Type 0
   Meant q va o = Among (q .began) (q .since) (λ m. meaning W m va ≡ o)
+
+  -- va meant at some moment of the period what is of o's kind
+  abbrev pub MeantLike : {Kind : Type 0} → (Answer → Kind) → Period Word → Address → Answer → Type 0
+  MeantLike kind q va o = Among (q .began) (q .since) (λ m. kind (meaning W m va) ≡ kind o)
 
   -- p serves no told address
   abbrev pub Untold : (Address → Type 0) → Address → Place → Type 0
@@ -139,9 +148,10 @@ module _ {Word View Address Place Answer : Type 0} (W : Walker Word View Address
   Fresh (begins h) va o = Fresh h va o
   Fresh (done h T) va o = Meant W (next h) va o ⊎ (C .page o × (¬ T va) × Fresh h va o)
 
-  -- ENOUGH IS TOLD of va: each page that va had since the shootdown before began, it has had since this one began, or va is told.
-  unfoldable pub Enough : History Word Address → Address → Type 0
-  Enough (first m) va = Unit {0}
-  Enough (happens h e) va = Enough h va
-  Enough (begins h) va = Enough h va
-  Enough (done h T) va = Enough h va × ((o : Answer) → C .page o → Meant W (last h) va o → Meant W (next h) va o ⊎ T va)
+  -- ENOUGH IS TOLD of va, where answers of one kind are as good as one another: a page of each kind that va had since the shootdown before began, it
+  -- has had since this one began, or va is told.
+  unfoldable pub Enough : {Kind : Type 0} → (Answer → Kind) → History Word Address → Address → Type 0
+  Enough kind (first m) va = Unit {0}
+  Enough kind (happens h e) va = Enough kind h va
+  Enough kind (begins h) va = Enough kind h va
+  Enough kind (done h T) va = Enough kind h va × ((o : Answer) → C .page o → MeantLike W kind (last h) va o → MeantLike W kind (next h) va o ⊎ T va)
