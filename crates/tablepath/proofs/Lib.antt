@@ -11,6 +11,7 @@ pub mod Periods
 pub mod OnTables
 pub mod Caching
 pub mod Facts
+pub mod Telling
 pub mod Nights
 pub mod Onward
 pub mod FrameGone

@@ -1,151 +1,52 @@
 -- THE WHOLE NIGHT: whatever a walk ends with or a cache gives, at any moment of a night of calls, shootdowns and reports, is what its address
 -- meant at some moment since the shootdown began that was the last to tell it; and where each one tells all that it has to, since the last.
 -- Statements: specs/Shown.antt.
-use Prim.Native.Nat.{ℕ, _+_, _*_, _/_, _<_, _≤_}
+use Prim.Native.Nat.{ℕ, _+_, _*_}
 use mathlib.Core.Bool.{Bool}
 use mathlib.Core.List.{List, [], _∷_, _++_, append-nil}
 use mathlib.Core.Logic.{_⊎_, inl, inr}
 use mathlib.Core.Path.{_≡_, refl, sym, ap, _∙_, subst}
-use native.Mathlib.Omega.{arith}
-use Rattle.entry.specs.Entry.{everything}
-use Rattle.entry.specs.declared.Rights.{Rights}
 use Rattle.walk.specs.declared.Found.{Found}
-use Rattle.walk.specs.declared.Found.the-variants.{Page}
 use Rattle.walk.specs.declared.Place.{Place}
 use Rattle.walk.specs.declared.Place.the-variants.{Going, Ended}
-use Rattle.world.specs.Events.{Event, write, mark, store, happen, after, Among, among-map, among-with, among-all, All, all-last}
+use Rattle.world.specs.Events.{Event, write, mark, store, happen, Among, among-map, All, all-last}
 use Rattle.world.specs.Marks.{writes}
-use Rattle.world.specs.Walker.{meaning, Gives, Reads, On}
+use Rattle.world.specs.Walker.{Reads}
 use Rattle.world.specs.Walks.{At, one-space-meaning}
-use Rattle.world.specs.Reports.{Period, fromNow, now, last, next, Caches, NoMore, Held, SafeIn, Keeps, OnWay, Untold, Tells, Meant, MeantLike, Fresh, Enough}
+use Rattle.world.specs.Reports.{fromNow, now, last, next, Caches, NoMore, Held, Keeps, OnWay, Untold, Tells, Fresh, Enough}
 use Rattle.world.proofs.Reports.{last-ends, fresh, reaches-none, half-on, as-if-all, flushed, no-more-held}
-use Rattle.tables.specs.Roles.{Role, Apart}
 use Rattle.tables.specs.Near.{Near}
-use Rattle.tables.specs.Way.{Comes}
-use Rattle.tables.specs.Meaning.{never-in-pool}
 use Rattle.tables.specs.Discipline.{walkerOf}
 use Rattle.pool.specs.Book.{bookOf, ticketOf}
 use Rattle.pool.specs.Booked.{settingOf}
 use Rattle.pool.specs.declared.Space.{Space}
-use Rattle.effect.specs.Whole.{Whole}
-use Rattle.tablepath.specs.Calls.{means, Call, PoolWord, Act, wrote, Others, Reached}
-use Rattle.tablepath.specs.Nights.{Night, dusk, calls, happens, begins, done, history, lastBegan, lastSince, behind, front, joined, Some, lately, due, uncovered, IsPage, IsHalf, IsFinished, butRights, untoldKept, upperDropped, waiting, Unmaps, Hit, Hits, Gets, MayRead, Given, Allowed, Honest, Telling, Complete, Exact, Flushes}
+use Rattle.tablepath.specs.Calls.{means, Call, Act, wrote, Others, Reached}
+use Rattle.tablepath.specs.Nights.{Night, dusk, calls, happens, begins, done, history, lastBegan, lastSince, behind, front, Some, due, uncovered, IsPage, IsHalf, IsFinished, butRights, untoldKept, upperDropped, waiting, Unmaps, Hit, Hits, Gets, MayRead, Allowed, Honest, Telling, Complete, Exact, Flushes}
 use Rattle.tablepath.specs.Shown.{NightAnswer, NightPage, NightFresh, NightFlushed, StaysOut, UpperHolds}
 use Rattle.tablepath.proofs.Serving.{IsBuilt}
-use Rattle.tablepath.proofs.Running.{reached-built, reached-thawed}
-use Rattle.tablepath.proofs.Did.{saw-means}
-use Rattle.tablepath.proofs.Ways.{Beneath, saw-comes}
-use Rattle.tablepath.proofs.Lasting.{Tracks, exactly, but-rights, page-lasts, way-lasts, some-beneath}
-use Rattle.tablepath.proofs.Periods.{Later, later-lasts}
-use Rattle.tablepath.proofs.OnTables.{on-everything, on-comes, comes-on}
+use Rattle.tablepath.proofs.Lasting.{Tracks, exactly, but-rights}
+use Rattle.tablepath.proofs.Periods.{Later}
 use Rattle.tablepath.proofs.Caching.{finishes}
-use Rattle.tablepath.proofs.Facts.{Facts, Coming, coming, facts-dusk, facts-calls, facts-event, facts-begins, split-calls, facts-done}
+use Rattle.tablepath.proofs.Facts.{Facts, facts-dusk, facts-calls, facts-event, facts-begins, facts-done}
+use Rattle.tablepath.proofs.Telling.{last-built, last-thawed, OutsidePool, means-outside, meant-outside, given-outside, half-later, half-told, page-told}
 
 -- caches that keep finished translations, and these half-done walks
 abbrev cachesOf : (At → Type 0) → Caches At Found
 cachesOf half = record { half = half; finished = λ p. IsFinished (p .place); page = IsPage }
 
 module _ (h : ℕ → Bool) (sp : Space) where
-  -- the last period of a night -----------------------------------------------------------------------------------------------------------
-
-  pub last-built : (N : Night) → Facts h sp N → All (lastBegan N) (lastSince N) (IsBuilt h sp)
-  last-built N f = reached-built h sp (ticketOf (bookOf (lastBegan N) sp)) (lastBegan N) (f .role) (f .whole) (omega arith) (uncovered N) (lastSince N) (f .reached .0)
-
-  last-thawed : (N : Night) → Facts h sp N → SafeIn (walkerOf (settingOf h sp)) (last (history N))
-  last-thawed N f = reached-thawed h sp (ticketOf (bookOf (lastBegan N) sp)) (lastBegan N) (f .role) (f .whole) (omega arith) (uncovered N) (lastSince N) (f .reached .0)
-
-  -- a page of which no byte is one of the pool's
-  abbrev pub OutsidePool : Found → Type 0
-  OutsidePool o = (base size frame : ℕ) (r : Rights) → o ≡ Page base size frame r → Apart (settingOf h sp) frame size
-
-  means-outside : (m : ℕ → ℕ) → IsBuilt h sp m → (va : ℕ) (o : Found) → meaning (walkerOf (settingOf h sp)) m va ≡ o → OutsidePool o
-  means-outside m b va o e base size frame r d = never-in-pool (b .1) va base size frame r (sym (one-space-meaning h (4096 * sp .root) m va) ∙ e ∙ d)
-
-  meant-outside : (N : Night) → Facts h sp N → (va : ℕ) (o : Found) → Meant (walkerOf (settingOf h sp)) (last (history N)) va o → OutsidePool o
-  meant-outside N f va o a = let t = among-all (lastSince N) (lastBegan N) (IsBuilt h sp) _ (last-built N f) a in means-outside (t .0) (t .1) va o (t .2)
-
-  -- the page's words are none of the pool's
-  given-outside : (C : Caches At Found) (N : Night) (a : ℕ) (g : Given h sp C N a) → OutsidePool (Page (g .base) (g .size) (g .frame) (g .rights)) → ¬ PoolWord sp a
-  given-outside C N a g o u = go (o (g .base) (g .size) (g .frame) (g .rights) refl)
-    where
-      go : Apart (settingOf h sp) (g .frame) (g .size) → ⊥
-      go (inl v) = omega (arith, g .upto)
-      go (inr v) = omega (arith, g .from)
-
-  -- A HALF-DONE WALK that was on its way in a period was so in a later one, or a page was unmapped before that whose addresses share its prefix.
-  half-later : (q r : Period ℕ) (cs ds : List Act) (k : Later h sp q r cs) (role : ℕ → Role) (w : Whole h sp (q .began) role)
-      (reached : Reached h sp (ticketOf (bookOf (q .began) sp)) (q .began) (cs ++ ds) (q .since)) → All (q .began) (q .since) (IsBuilt h sp) → All (r .began) (r .since) (IsBuilt h sp)
-      → (va : ℕ) (p : At) → IsHalf (p .place) → OnWay (walkerOf (settingOf h sp)) q va p
-      → OnWay (walkerOf (settingOf h sp)) r va p ⊎ ((vb : ℕ) × Hits h sp (Unmaps h sp) cs vb × Near (p .levels) va vb)
-  unfolding IsHalf
-  half-later q r cs ds k role w reached built built' va p half a = go (p .place) refl half
-    where
-      go : (y : Place) → p .place ≡ y → IsHalf y → OnWay (walkerOf (settingOf h sp)) r va p ⊎ ((vb : ℕ) × Hits h sp (Unmaps h sp) cs vb × Near (p .levels) va vb)
-      go (Ended x) i j = absurd j
-      go (Going t g) i j = elim way [
-        | inl b ↦ inl (among-map (r .since) (r .began) _ _
-            (λ x c. subst (λ (y : At). On (walkerOf (settingOf h sp)) x va y (walkerOf (settingOf h sp) .start va)) (sym is) (comes-on (c .0 .1) (c .1)))
-            (among-with (r .since) (r .began) (IsBuilt h sp) _ built' b))
-        | inr b ↦ inr (some-beneath h sp cs (p .levels) va b)
-      ]
-        where
-          at-table : p ≡ record { levels = p .levels; place = Going t g }
-          at-table = ap (λ y. record { levels = p .levels; place = y }) i
-
-          on : Among (q .began) (q .since) (λ x. On (walkerOf (settingOf h sp)) x va (record { levels = p .levels; place = Going t g }) (walkerOf (settingOf h sp) .start va))
-          on = subst (λ (y : At). Among (q .began) (q .since) (λ x. On (walkerOf (settingOf h sp)) x va y (walkerOf (settingOf h sp) .start va))) at-table a
-
-          all-rights : g ≡ everything
-          all-rights = let t′ = among-all (q .since) (q .began) (IsBuilt h sp) _ built on in on-everything (t′ .1 .1) va (p .levels) t g (t′ .2)
-
-          is : p ≡ record { levels = p .levels; place = Going t everything }
-          is = at-table ∙ ap (λ y. record { levels = p .levels; place = Going t y }) all-rights
-
-          way : Among (r .began) (r .since) (λ x. Comes (settingOf h sp) x va (p .levels) t) ⊎ Some (λ a. Beneath h sp (a .call) (a .saw) (p .levels) va) cs
-          way = later-lasts h sp q r cs ds k role w reached (λ x. Comes (settingOf h sp) x va (p .levels) t) _ (λ x y s b c. saw-comes h sp x y s b c) (way-lasts h sp _ va (p .levels) t)
-              (among-map (q .since) (q .began) _ _ (λ x o. on-comes (settingOf h sp) x va (p .levels) t g o) on)
-
-  -- When a shootdown is done ---------------------------------------------------------------------------------------------------------------
-
-  module _ (N : Night) (T : ℕ → Type 0) (D : List Act) (Ds : List (List Act)) (e : due N ≡ D ∷ Ds) (f : Facts h sp N) where
-    told-of : (H : Call → (ℕ → ℕ) → ℕ → Type 0) → ((va : ℕ) → Hits h sp H (front (due N)) va → T va) → (va : ℕ) → Hits h sp H D va → T va
-    told-of H told va k = told va (subst (λ l. Hits h sp H (front l) va) (sym e) k)
-
-    -- a half-done walk that it leaves was on its way since it began
-    half-told : ((va : ℕ) → Hits h sp (Unmaps h sp) (front (due N)) va → T va) → (va : ℕ) (p : At) → IsHalf (p .place) → Untold (walkerOf (settingOf h sp)) T va p
-        → OnWay (walkerOf (settingOf h sp)) (last (history N)) va p → OnWay (walkerOf (settingOf h sp)) (next (history N)) va p
-    unfolding history last
-    half-told told va p half untold a = elim later [ inl b ↦ b | inr c ↦ absurd (untold (c .0) (told-of (Unmaps h sp) told (c .0) (c .1)) (refl, c .2)) ]
-      where
-        later : OnWay (walkerOf (settingOf h sp)) (next (history N)) va p ⊎ ((vb : ℕ) × Hits h sp (Unmaps h sp) D vb × Near (p .levels) va vb)
-        later = half-later (last (history N)) (next (history N)) D (joined Ds ++ lately N) (coming h sp N D Ds e f .later) (f .role) (f .whole) (split-calls h sp N T D Ds e f .0)
-            (last-built N f) (last-built (done N T) (facts-done h sp N T D Ds e f)) va p half a
-
-    -- and a page that an address has had, it has had since it began, or it is told
-    page-told : (kind : Found → Found) (H : Call → (ℕ → ℕ) → ℕ → Type 0) → Tracks h sp kind H → ((va : ℕ) → Hits h sp H (front (due N)) va → T va) → (va : ℕ) (o : Found) → IsPage o
-        → MeantLike (walkerOf (settingOf h sp)) kind (last (history N)) va o → MeantLike (walkerOf (settingOf h sp)) kind (next (history N)) va o ⊎ T va
-    page-told kind H tracks told va o page a = elim lasts [
-      | inl b ↦ inl (among-map (next (history N) .since) (next (history N) .began) _ _ (λ x d. ap kind (one-space-meaning h (4096 * sp .root) x va) ∙ d) b)
-      | inr b ↦ inr (told-of H told va b)
-    ]
-      where
-        lasts : Among (next (history N) .began) (next (history N) .since) (λ x. kind (means h sp x va) ≡ kind o) ⊎ Hits h sp H D va
-        lasts = later-lasts h sp (last (history N)) (next (history N)) D (joined Ds ++ lately N) (coming h sp N D Ds e f .later) (f .role) (f .whole) (split-calls h sp N T D Ds e f .0)
-            (λ x. kind (means h sp x va) ≡ kind o) _ (λ x y s b d. ap kind (saw-means h sp x y s b va) ∙ d) (page-lasts h sp kind H tracks _ va o page)
-            (among-map (lastSince N) (lastBegan N) _ _ (λ x d. sym (ap kind (one-space-meaning h (4096 * sp .root) x va)) ∙ d) a)
-
   -- WHAT AN HONEST NIGHT SHOWS ---------------------------------------------------------------------------------------------------------------
 
   record Sure (half : At → Type 0) (N : Night) : Type 0 where
     facts : Facts h sp N
     keeps : Keeps (walkerOf (settingOf h sp)) (history N)
     tells : Tells (walkerOf (settingOf h sp)) (cachesOf half) (history N)
-    outside : (va : ℕ) (o : Found) → Fresh (walkerOf (settingOf h sp)) (cachesOf half) (history N) va o → OutsidePool o
+    outside : (va : ℕ) (o : Found) → Fresh (walkerOf (settingOf h sp)) (cachesOf half) (history N) va o → OutsidePool h sp o
 
   module _ (half : At → Type 0) (sub : (p : At) → half p → IsHalf (p .place)) where
     given-apart : (N : Night) → Sure half N → StaysOut h sp (cachesOf half) N
     given-apart N s a g =
-        given-outside (cachesOf half) N a g
+        given-outside h sp (cachesOf half) N a g
         (s .outside (g .address) _
         (fresh (walkerOf (settingOf h sp)) (cachesOf half) (finishes h sp half) (history N) (s .keeps) (s .tells) (g .address) (g .gets .place) _ (g .gets .held) (g .gets .gives)))
 
@@ -167,13 +68,13 @@ module _ (h : ℕ → Bool) (sp : Space) where
     unfolding history Keeps Tells Fresh last now
     sure-event N e s f = record {
       facts = f;
-      keeps = (s .keeps, last-thawed (happens N e) f);
+      keeps = (s .keeps, last-thawed h sp (happens N e) f);
       tells = s .tells;
-      outside = λ va o k. elim k [ inl a ↦ s .outside va o a | inr a ↦ means-outside (happen (now (history N)) e) built va o a ];
+      outside = λ va o k. elim k [ inl a ↦ s .outside va o a | inr a ↦ means-outside h sp (happen (now (history N)) e) built va o a ];
     }
       where
         built : IsBuilt h sp (happen (now (history N)) e)
-        built = subst (IsBuilt h sp) (last-ends (history (happens N e))) (all-last (lastSince (happens N e)) (lastBegan (happens N e)) (IsBuilt h sp) (last-built (happens N e) f))
+        built = subst (IsBuilt h sp) (last-ends (history (happens N e))) (all-last (lastSince (happens N e)) (lastBegan (happens N e)) (IsBuilt h sp) (last-built h sp (happens N e) f))
 
     sure-done : (N : Night) (T : ℕ → Type 0) (D : List Act) (Ds : List (List Act)) → due N ≡ D ∷ Ds → Sure half N
         → ((va : ℕ) (p : At) → half p → Untold (walkerOf (settingOf h sp)) T va p → OnWay (walkerOf (settingOf h sp)) (last (history N)) va p → OnWay (walkerOf (settingOf h sp)) (next (history N)) va p)
@@ -181,9 +82,9 @@ module _ (h : ℕ → Bool) (sp : Space) where
     unfolding history Keeps Tells Fresh last now
     sure-done N T D Ds e s told = record {
       facts = f;
-      keeps = (s .keeps, last-thawed (done N T) f);
+      keeps = (s .keeps, last-thawed h sp (done N T) f);
       tells = (s .tells, told);
-      outside = λ va o i. elim i [ inl a ↦ meant-outside (done N T) f va o a | inr a ↦ s .outside va o (a .2) ];
+      outside = λ va o i. elim i [ inl a ↦ meant-outside h sp (done N T) f va o a | inr a ↦ s .outside va o (a .2) ];
     }
       where
         f : Facts h sp (done N T)
@@ -191,7 +92,7 @@ module _ (h : ℕ → Bool) (sp : Space) where
 
     sure : (N : Night) → Honest h sp (cachesOf half) N → Complete h sp N ⊎ ((p : At) → ¬ half p) → Sure half N
     unfolding Honest Telling history Keeps Tells Fresh last now
-    sure (dusk m) (role, w) t = record { facts = facts-dusk h sp m role w; keeps = tt; tells = tt; outside = means-outside m (role, w .sound .built) }
+    sure (dusk m) (role, w) t = record { facts = facts-dusk h sp m role w; keeps = tt; tells = tt; outside = means-outside h sp m (role, w .sound .built) }
     sure (calls N a) (k, saw, within) t =
         let s = sure N k t in
         record { facts = facts-calls h sp N a (s .facts) saw within; keeps = s .keeps; tells = s .tells; outside = s .outside }
@@ -200,7 +101,7 @@ module _ (h : ℕ → Bool) (sp : Space) where
         let x = allowed-fits N e s a in
         sure-event N e s (facts-event h sp N e (x .rest) (s .facts) (x .order) (x .left-over) (x .others))
     sure (begins N) (k, w) t = let s = sure N k t in record { facts = facts-begins h sp N (s .facts) w; keeps = s .keeps; tells = s .tells; outside = s .outside }
-    sure (done N T) (k, D, Ds, e) (inl c) = let s = sure N k (inl (c .0)) in sure-done N T D Ds e s (λ va p x. half-told N T D Ds e (s .facts) (c .1) va p (sub p x))
+    sure (done N T) (k, D, Ds, e) (inl c) = let s = sure N k (inl (c .0)) in sure-done N T D Ds e s (λ va p x. half-told h sp N T D Ds e (s .facts) (c .1) va p (sub p x))
     sure (done N T) (k, D, Ds, e) (inr n) = sure-done N T D Ds e (sure N k (inr n)) (λ va p x. absurd (n p x))
 
   -- telling more is telling
@@ -280,9 +181,9 @@ module _ (h : ℕ → Bool) (sp : Space) where
         since = record { before = lastSince N; since-is = sym (append-nil (lastSince N)); began-is = sym (last-ends (history N)); all-wrote = all }
 
         later : OnWay (walkerOf (settingOf h sp)) (fromNow (now (history N))) va p ⊎ ((vb : ℕ) × Hits h sp (Unmaps h sp) (uncovered N) vb × Near (p .levels) va vb)
-        later = half-later (last (history N)) (fromNow (now (history N))) (uncovered N) [] since (f .role) (f .whole)
-            (subst (λ l. Reached h sp (ticketOf (bookOf (lastBegan N) sp)) (lastBegan N) l (lastSince N)) (sym (append-nil (uncovered N))) (f .reached .0)) (last-built N f)
-            (unfold All in subst (IsBuilt h sp) (last-ends (history N)) (all-last (lastSince N) (lastBegan N) (IsBuilt h sp) (last-built N f))) va p half (half-was-on va p held half)
+        later = half-later h sp (last (history N)) (fromNow (now (history N))) (uncovered N) [] since (f .role) (f .whole)
+            (subst (λ l. Reached h sp (ticketOf (bookOf (lastBegan N) sp)) (lastBegan N) l (lastSince N)) (sym (append-nil (uncovered N))) (f .reached .0)) (last-built h sp N f)
+            (unfold All in subst (IsBuilt h sp) (last-ends (history N)) (all-last (lastSince N) (lastBegan N) (IsBuilt h sp) (last-built h sp N f))) va p half (half-was-on va p held half)
 
   module _ (kind : Found → Found) (H : Call → (ℕ → ℕ) → ℕ → Type 0) (tracks : Tracks h sp kind H) where
     complete-of : (N : Night) → Telling h sp H N → Complete h sp N
@@ -294,7 +195,7 @@ module _ (h : ℕ → Bool) (sp : Space) where
     enough (calls N a) k c va = enough N (k .0) c va
     enough (happens N e) k c va = enough N (k .0) c va
     enough (begins N) k c va = enough N (k .0) c va
-    enough (done N T) (k, D, Ds, e) c va = (enough N k (c .0) va, λ o i a. page-told N T D Ds e (night-facts N k (complete-of N (c .0))) kind H tracks (c .1) va o i a)
+    enough (done N T) (k, D, Ds, e) c va = (enough N k (c .0) va, λ o i a. page-told h sp N T D Ds e (night-facts N k (complete-of N (c .0))) kind H tracks (c .1) va o i a)
 
     night-kind : (N : Night) → Honest h sp untoldKept N → Telling h sp H N → (va : ℕ) (o : Found) → Gets h sp untoldKept N va o
         → Among (lastBegan N) (lastSince N) (λ x. kind (means h sp x va) ≡ kind o)
