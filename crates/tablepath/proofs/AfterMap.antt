@@ -1,13 +1,12 @@
 -- AFTER MAP. Once its writes have reached memory the address means the page, and a walk that begins then finds it. What goes on from a cache may find
 -- nothing still, and nothing else; after a shootdown that begins then it finds the page too. Statements: specs/Shown.antt.
-use Prim.Native.Nat.{ℕ, _+_, _*_, _%_, _<_, _≤_}
+use Prim.Native.Nat.{ℕ, _+_, _%_, _<_, _≤_}
 use mathlib.Core.Bool.{Bool}
 use mathlib.Core.List.{List, [], _∷_, _++_}
 use mathlib.Core.Logic.{_⊎_, inl, inr}
 use mathlib.Core.Path.{_≡_, refl, sym, ap, _∙_, subst}
 use native.Mathlib.Omega.{arith}
 use Rattle.word.specs.Writes as word
-use Rattle.entry.specs.declared.Rights.{Rights}
 use Rattle.walk.specs.Walk.{baseOf}
 use Rattle.walk.specs.declared.Found.{Found}
 use Rattle.walk.specs.declared.Found.the-variants.{Page, Nothing, Outside}
@@ -29,7 +28,6 @@ use Rattle.effect.proofs.MapDone.{decided-done, mapped-inside}
 use Rattle.tablepath.specs.Answers.{mapSaid, mapAnswer, mapWrites}
 use Rattle.tablepath.specs.declared.Mapped.the-variants as mapped′
 use Rattle.tablepath.specs.Calls.{means, Call, Within, callWrites, Saw, Act, actWrites, wrote, Runs, UpTo, Reached}
-use Rattle.tablepath.specs.Calls as calls
 use Rattle.tablepath.specs.Nights.{Night, history, lastBegan, lastSince, Some, uncovered, IsPage, untoldKept, Hit, Hits, Honest, Complete, Exact}
 use Rattle.tablepath.specs.Gone.{MapsTo, pageOf}
 use Rattle.tablepath.specs.Shown.{MappedNow, FoundAtOnce, CachedAfterMap, KeptAfterReport}

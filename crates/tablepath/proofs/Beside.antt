@@ -1,17 +1,17 @@
 -- THE FINAL THEOREM, for runs of calls: beside any walks, caches, marks and other programs, whose stores and ours reach memory one by one, every
 -- walk ends with what the tables meant at some moment while it ran; and whatever a cache gives that was empty at first is what its address
 -- meant at some moment since.
-use Prim.Native.Nat.{ℕ, _*_, _/_, _<_, _≤_}
+use Prim.Native.Nat.{ℕ, _*_, _<_, _≤_}
 use mathlib.Core.Bool.{Bool}
 use mathlib.Core.List.{List, [], _∷_, _++_}
-use mathlib.Core.Logic.{_⊎_, inl, inr}
-use mathlib.Core.Path.{_≡_, refl, sym, _∙_, ap, subst}
+use mathlib.Core.Logic.{inl, inr}
+use mathlib.Core.Path.{_≡_, refl, sym, _∙_, subst}
 use native.Mathlib.Decide.{ℕ-discrete}
 use Rattle.word.specs.Memory.{set, at}
 use Rattle.word.proofs.Set.{set-at, set-other}
 use Rattle.word.proofs.Writes.{page-of}
 use Rattle.walk.specs.declared.Found.{Found}
-use Rattle.world.specs.Events.{Event, write, mark, store, happen, after, Among, among-map, All, all-map}
+use Rattle.world.specs.Events.{Event, write, mark, store, happen, after, Among, among-map, All}
 use Rattle.world.specs.Walker.{Gives}
 use Rattle.world.specs.Held.{Can, None}
 use Rattle.world.specs.Discipline.{Grow, Safe, interleaving}
@@ -28,7 +28,7 @@ use Rattle.pool.specs.declared.Space.{Space}
 use Rattle.effect.specs.Whole.{Whole}
 use Rattle.tablepath.specs.Calls.{means, Remarked, Act, Others, Reached, From}
 use Rattle.tablepath.proofs.Marking.{remarked-then, others-rest}
-use Rattle.tablepath.proofs.Running.{reached-ran, reached-safe, reached-thawed, reached-whole}
+use Rattle.tablepath.proofs.Running.{reached-ran, reached-safe, reached-whole}
 
 -- A frozen word stays as it is, but for marks.
 frozen-stays : (h : ℕ → Bool) (sp : Space) (gs : List (Event ℕ)) (F : ℕ → Type 0) (m n : ℕ → ℕ) (x : ℕ) → Safe (walkerOf (settingOf h sp)) F n gs → Others sp n gs → F x

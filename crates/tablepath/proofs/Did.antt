@@ -1,7 +1,7 @@
 -- WHAT EACH CALL DOES TO THE MEANING of an address, at every moment of it: all is old or all is new, and the new is what the call did to the old.
 use Prim.Native.Nat.{ℕ, _+_, _*_, _/_, _%_, _<_, _≤_}
 use mathlib.Core.Bool.{Bool}
-use mathlib.Core.List.{List, [], _∷_}
+use mathlib.Core.List.{List, []}
 use mathlib.Core.Logic.{_⊎_, inl, inr}
 use mathlib.Core.Path.{_≡_, refl, sym, ap, _∙_, subst, subst₂}
 use native.Mathlib.Decide.{ℕ-discrete}
@@ -50,7 +50,7 @@ use Rattle.tablepath.specs.Calls.{means, Call, Within, callWrites, Saw, 
 use Rattle.tablepath.specs.Calls as calls
 use Rattle.tablepath.specs.Nights.{Unmaps, Protects}
 use Rattle.tablepath.proofs.Marking.{planned-writes, planned-others, saw-back, others-all, saw-alike}
-use Rattle.tablepath.proofs.Serving.{IsBuilt, Served}
+use Rattle.tablepath.proofs.Serving.{IsBuilt}
 use Rattle.tablepath.proofs.Running.{act-served, seen-whole, saw-act}
 
 -- what a call that saw the memory s does to an address that meant the one, and means the other

@@ -4,7 +4,7 @@ use Prim.Native.Nat.{ℕ}
 use mathlib.Core.Bool.{Bool}
 use mathlib.Core.List.{List, [], _∷_, _++_, append-assoc, append-nil}
 use mathlib.Core.Path.{_≡_, refl, sym, ap, _∙_, subst}
-use Rattle.world.specs.Events.{Event, write, mark, store, happen, after, after-append}
+use Rattle.world.specs.Events.{Event, after, after-append}
 use Rattle.world.specs.Marks.{writes}
 use Rattle.world.specs.Reports.{Period, now, last, underway, next, oldest, younger}
 use Rattle.world.proofs.Reports.{last-ends}
@@ -28,7 +28,7 @@ module _ (h : ℕ → Bool) (sp : Space) where
 
   module _ (n : ℕ) (m : ℕ → ℕ) (cs : List Act) (gs w : List (Event ℕ)) (r : Reaching n m cs gs w) (x : ℕ → ℕ) (ends : after m gs ≡ x) where
     -- what the code sees is what its writes make of memory, but for marks
-    reach-saw : Saw sp (after m (wrote h sp cs)) (after x w)
+    pub reach-saw : Saw sp (after m (wrote h sp cs)) (after x w)
     reach-saw =
         subst (λ l. Saw sp (after m l) (after x w)) (r .0 .in-order)
         (subst (λ y. Saw sp y (after x w)) (sym (after-append (writes gs) (r .0 .waiting) m))

@@ -1,14 +1,13 @@
 -- A FRAME IS GONE when every page that meets it was unmapped, and a shootdown that began then is done: no walk and no cache, for any address, gives
 -- a page that meets it, until a call maps one. Statement: specs/Shown.antt, FrameGone.
-use Prim.Native.Nat.{ℕ, _+_, _*_, _/_, _%_, _<_, _≤_}
+use Prim.Native.Nat.{ℕ, _+_, _*_, _%_, _<_, _≤_}
 use mathlib.Core.Bool.{Bool}
 use mathlib.Core.List.{List, [], _∷_, _++_}
 use mathlib.Core.Logic.{_⊎_, inl, inr}
 use mathlib.Core.Path.{_≡_, refl, sym, ap, _∙_, subst}
-use native.Mathlib.Decide.{decLe, decLt}
+use native.Mathlib.Decide.{decLe}
 use native.Mathlib.Omega.{arith}
 use Rattle.word.specs.Writes as word
-use Rattle.entry.specs.Entry.{sizeOf}
 use Rattle.entry.specs.declared.Rights.{Rights}
 use Rattle.walk.specs.Walk.{baseOf}
 use Rattle.walk.specs.declared.Found.{Found}
@@ -21,7 +20,6 @@ use Rattle.tables.specs.Near.{Near, near-range}
 use Rattle.tables.specs.Overlap.{aligned-base}
 use Rattle.tables.specs.Clearing.{eventsOf, events-after}
 use Rattle.pool.specs.Book.{bookOf, ticketOf}
-use Rattle.pool.specs.Booked.{settingOf}
 use Rattle.pool.specs.declared.Space.{Space}
 use Rattle.plan.specs.Unmap as unmap
 use Rattle.plan.specs.declared.unmaps.Removing.{Removing}

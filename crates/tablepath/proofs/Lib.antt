@@ -16,6 +16,8 @@ pub mod Nights
 pub mod Onward
 pub mod FrameGone
 pub mod TableGone
+pub mod Numbering
+pub mod NightTickets
 pub mod AfterMap
 pub mod NightWitness
 pub mod RoundTrips

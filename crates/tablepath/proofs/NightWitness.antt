@@ -1,6 +1,6 @@
 -- A WITNESS of honest and complete nights, with tables in it: of any five pages a pool is made, a page is mapped, which takes three tables, and
 -- unmapped, which sets them aside; a shootdown tells its addresses, and the ticket is reported.
-use Prim.Native.Nat.{ℕ, _+_, _%_, _<_, _≤_}
+use Prim.Native.Nat.{ℕ, _+_, _%_, _<_}
 use mathlib.Core.Bool.{Bool}
 use mathlib.Core.List.{List, [], _∷_, _++_, append-nil}
 use mathlib.Core.Logic.{_⊎_, inl, inr}
@@ -25,7 +25,7 @@ use Rattle.tables.specs.Way.{comes-parent}
 use Rattle.tables.specs.Meaning.{meaning}
 use Rattle.tables.specs.Overlap.{table-mapped, aligned-base}
 use Rattle.tables.specs.Sentences.{reached}
-use Rattle.tables.specs.Clearing.{eventsOf, events-after}
+use Rattle.tables.specs.Clearing.{eventsOf}
 use Rattle.pool.specs.Book.{bookOf, pageAt, ticketOf}
 use Rattle.pool.specs.Booked.{settingOf, Numbered, newRole}
 use Rattle.pool.specs.declared.Space.{Space}

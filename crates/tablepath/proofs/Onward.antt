@@ -1,6 +1,6 @@
 -- FROM A MOMENT ON at which nothing waits: what comes later in the night is a run of calls, whatever shootdowns begin or are done in it. So a page that is
 -- set aside is not written until its report. Statements: specs/Shown.antt.
-use Prim.Native.Nat.{ℕ, _<_, _≤_}
+use Prim.Native.Nat.{ℕ}
 use mathlib.Core.Bool.{Bool}
 use mathlib.Core.List.{List, [], _∷_, _++_}
 use mathlib.Core.Path.{_≡_, refl, sym, ap, _∙_, subst}
@@ -8,11 +8,10 @@ use native.Mathlib.Omega.{arith}
 use Rattle.world.specs.Events.{Event, happen, after, after-more}
 use Rattle.world.specs.Reports.{now}
 use Rattle.world.proofs.Reports.{last-ends}
-use Rattle.tables.specs.Roles.{Role}
 use Rattle.pool.specs.Book.{bookOf, ticketOf}
 use Rattle.pool.specs.declared.Space.{Space}
 use Rattle.effect.specs.Whole.{Whole}
-use Rattle.tablepath.specs.Calls.{Within, Act, UpTo}
+use Rattle.tablepath.specs.Calls.{Act, UpTo}
 use Rattle.tablepath.specs.Nights.{Night, history, lastBegan, lastSince, uncovered, untoldKept, waiting, Honest, Telling, Complete, Onward, same, called, happened, begun, ended}
 use Rattle.tablepath.specs.Shown.{NightWhole, NightUnwritten, UnlinkedUnwritten}
 use Rattle.tablepath.proofs.Running.{Ran, reached-ran, reached-whole}

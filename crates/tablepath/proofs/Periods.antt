@@ -6,9 +6,9 @@ use mathlib.Core.List.{List, [], _∷_, _++_, append-assoc, append-nil}
 use mathlib.Core.Logic.{_⊎_, inl, inr}
 use mathlib.Core.Path.{_≡_, refl, sym, ap, _∙_, subst}
 use native.Mathlib.Omega.{arith}
-use Rattle.world.specs.Events.{Event, write, mark, store, happen, after, after-append, Among, among-append, among-now, among-split, among-all, All, all-both}
+use Rattle.world.specs.Events.{Event, write, mark, store, happen, after, after-append, Among, among-now, among-split, among-all, All, all-both}
 use Rattle.world.specs.Marks.{writes}
-use Rattle.world.specs.Reports.{Period, fromNow, longer, eachLonger, oldest, younger}
+use Rattle.world.specs.Reports.{Period, fromNow, longer, eachLonger}
 use Rattle.tables.specs.Roles.{Role}
 use Rattle.pool.specs.Book.{bookOf, ticketOf}
 use Rattle.pool.specs.declared.Space.{Space}
@@ -16,7 +16,7 @@ use Rattle.effect.specs.Whole.{Whole}
 use Rattle.tablepath.specs.Calls.{Call, Within, Saw, Act, actWrites, wrote, Runs, UpTo, Others, Reached}
 use Rattle.tablepath.specs.Calls as calls
 use Rattle.tablepath.specs.Nights.{behind, joined, Some}
-use Rattle.tablepath.proofs.Marking.{writes-append, saw-self, saw-back, saw-then, saw-write, others-saw, others-all, others-append, others-front, others-rest, saw-whole}
+use Rattle.tablepath.proofs.Marking.{writes-append, saw-self, saw-back, saw-then, saw-write, others-saw, others-all, others-front, others-rest, saw-whole}
 use Rattle.tablepath.proofs.Serving.{IsBuilt}
 use Rattle.tablepath.proofs.Running.{Ran, run-ran, saw-built, saw-ticket}
 use Rattle.tablepath.proofs.Lasting.{Lasts, run-lasts}

@@ -51,7 +51,7 @@ module _ (h : ℕ → Bool) (sp : Space) where
       (home .from, home .upto)
 
   -- the numbers are the same, but for marks
-  saw-keeps : {m n : ℕ → ℕ} {role : ℕ → Role} → Whole h sp m role → Saw sp m n → KeepsNumbers sp m n
+  pub saw-keeps : {m n : ℕ → ℕ} {role : ℕ → Role} → Whole h sp m role → Saw sp m n → KeepsNumbers sp m n
   saw-keeps w k = same-keeps (w .booked) (saw-book sp k (book-fits h sp w))
 
   -- the same writes to two memories that are the same but for marks

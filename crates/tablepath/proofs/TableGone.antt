@@ -1,8 +1,8 @@
 -- A TABLE IS GONE when it was set aside, and a shootdown that began then is done: no walk and no cache, for any address, reads a word of its page,
 -- until a call links it. Statement: specs/Shown.antt, TableGone.
-use Prim.Native.Nat.{ℕ, _+_, _-_, _*_, _/_, _<_, _≤_}
+use Prim.Native.Nat.{ℕ, _+_, _-_, _<_, _≤_}
 use mathlib.Core.Bool.{Bool}
-use mathlib.Core.List.{List, [], _∷_, _++_}
+use mathlib.Core.List.{List, [], _∷_}
 use mathlib.Core.Logic.{_⊎_, inl, inr, _≢_}
 use mathlib.Core.Path.{_≡_, refl, sym, ap, _∙_, subst}
 use native.Mathlib.Decide.{decLt}
@@ -13,7 +13,7 @@ use Rattle.word.specs.Writes as word
 use Rattle.word.proofs.Writes.{page-of}
 use Rattle.entry.specs.declared.Rights.{Rights}
 use Rattle.walk.specs.declared.Found.{Found}
-use Rattle.world.specs.Events.{Event, after, All, all-map, all-both, all-append}
+use Rattle.world.specs.Events.{after, All, all-map, all-both, all-append}
 use Rattle.world.specs.Walker.{Reads}
 use Rattle.world.specs.Ways.{follows-agree}
 use Rattle.tables.specs.Roles.{Role, free, aside, table, left, Built}
@@ -37,7 +37,6 @@ use Rattle.plan.specs.declared.unmaps.Removing.the-variants as removing
 use Rattle.plan.specs.declared.protects.Changing.{Changing}
 use Rattle.plan.specs.declared.protects.Changing.the-variants as changing
 use Rattle.effect.specs.Whole.{Whole}
-use Rattle.effect.specs.UnmapDone.{SetAside}
 use Rattle.effect.specs.ToldDone.{ToldDone}
 use Rattle.effect.proofs.MapDone.{decided-done}
 use Rattle.effect.proofs.UnmapDone.{unmapped}
@@ -46,16 +45,15 @@ use Rattle.effect.proofs.ToldDone as effect
 use Rattle.effect.proofs.Wholes.{book-opens}
 use Rattle.tablepath.specs.declared.Mapped.the-variants as mapped
 use Rattle.tablepath.specs.Answers.{mapSaid, mapAnswer, mapWrites, unmapWrites, protectWrites, toldWrites, toldDid, dueDid}
-use Rattle.tablepath.specs.Calls.{Call, Within, callWrites, Saw, Act, actWrites, wrote, Runs, UpTo}
+use Rattle.tablepath.specs.Calls.{Call, callWrites, Saw, Act, actWrites, wrote, Runs, UpTo}
 use Rattle.tablepath.specs.Calls as calls
 use Rattle.tablepath.specs.Nights.{Night, lastBegan, lastSince, Some, uncovered, untoldKept, MayRead, Honest, Complete}
 use Rattle.tablepath.specs.Gone.{Listed, Links}
 use Rattle.tablepath.specs.Shown.{TableGone}
 use Rattle.tablepath.proofs.Marking.{planned-writes, planned-others, saw-back, others-all, saw-agree, saw-whole}
-use Rattle.tablepath.proofs.Serving.{IsBuilt, Served}
+use Rattle.tablepath.proofs.Serving.{IsBuilt}
 use Rattle.tablepath.proofs.Serves.{release-spare}
 use Rattle.tablepath.proofs.Running.{built-inside, act-served, act-ticket, seen-whole, saw-act, reached-ran, reached-all}
-use Rattle.tablepath.proofs.Facts.{Facts}
 use Rattle.tablepath.proofs.Nights.{night-facts, night-reads}
 
 module _ (h : ℕ → Bool) (sp : Space) (t : ℕ) where

@@ -1,15 +1,14 @@
 -- WHAT EACH CALL DOES TO THE WAYS OF WALKS: a table that a walk comes to at some moment of a call, it comes to at the call's end; or the call
 -- unmapped a page, and set the table aside, whose addresses share the walk's prefix.
-use Prim.Native.Nat.{ℕ, suc, _+_, _*_, _/_, _%_, _<_, _≤_}
+use Prim.Native.Nat.{ℕ, _≤_}
 use mathlib.Core.Bool.{Bool}
-use mathlib.Core.List.{List, [], _∷_}
+use mathlib.Core.List.{List, []}
 use mathlib.Core.Logic.{_⊎_, inl, inr, _≢_}
 use mathlib.Core.Path.{_≡_, refl, sym, ap, _∙_, subst}
 use native.Mathlib.Omega.{arith}
 use Rattle.word.specs.Writes.{Write}
 use Rattle.word.specs.Writes as word
-use Rattle.word.proofs.Writes.{Every}
-use Rattle.entry.specs.Entry.{sizeOf, everything}
+use Rattle.entry.specs.Entry.{everything}
 use Rattle.entry.specs.declared.Rights.{Rights}
 use Rattle.entry.specs.declared.Entry.the-variants.{Table}
 use Rattle.walk.specs.Walk.{indexOf}
@@ -23,7 +22,7 @@ use Rattle.entry.proofs.Fields.{last-no-table}
 use Rattle.tables.specs.Clearing.{eventsOf, events-after, spare-untouched}
 use Rattle.tables.specs.Operation.{Moment, Changed}
 use Rattle.tables.specs.Unseen.{alike-comes}
-use Rattle.pool.specs.Book.{bookOf, ticketOf, dueOf, pageAt}
+use Rattle.pool.specs.Book.{bookOf, ticketOf, dueOf}
 use Rattle.pool.specs.Booked.{settingOf}
 use Rattle.pool.specs.Changes.{releaseWrites}
 use Rattle.pool.specs.declared.Space.{Space}
@@ -39,7 +38,6 @@ use Rattle.plan.specs.declared.unmaps.Removing.the-variants as removing
 use Rattle.plan.specs.declared.protects.Changing.{Changing}
 use Rattle.plan.specs.declared.protects.Changing.the-variants as changing
 use Rattle.effect.specs.Whole.{Whole}
-use Rattle.effect.specs.MapDone.{MapDone}
 use Rattle.effect.specs.UnmapDone.{SetAside, UnmapDone}
 use Rattle.effect.proofs.MapDone.{decided-done}
 use Rattle.effect.proofs.UnmapDone.{unmapped}
@@ -50,7 +48,7 @@ use Rattle.tablepath.specs.Calls.{Call, Within, callWrites, Saw, Act, ac
 use Rattle.tablepath.specs.Calls as calls
 use Rattle.tablepath.specs.Nights.{Unmaps}
 use Rattle.tablepath.proofs.Marking.{planned-writes, planned-others, saw-back, others-all, saw-alike}
-use Rattle.tablepath.proofs.Serving.{IsBuilt, Served}
+use Rattle.tablepath.proofs.Serving.{IsBuilt}
 use Rattle.tablepath.proofs.Serves.{release-spare}
 use Rattle.tablepath.proofs.Running.{act-served, seen-whole, saw-act, saw-built}
 

@@ -13,7 +13,7 @@ use Rattle.walk.specs.declared.Found.{Found}
 use Rattle.world.specs.Events.{Event, write, mark, store, after}
 use Rattle.world.specs.Marks.{writes}
 use Rattle.tables.specs.Clearing.{eventsOf}
-use Rattle.pool.specs.Book.{bookPages, bookOf, ticketOf}
+use Rattle.pool.specs.Book.{bookPages}
 use Rattle.pool.specs.Booked.{Numbered}
 use Rattle.pool.specs.declared.Space.{Space}
 use Rattle.plan.specs.declared.maps.Asked.{Asked}

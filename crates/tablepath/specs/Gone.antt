@@ -1,5 +1,5 @@
 -- WHAT THE CALLS OF A NIGHT SAY, by their own answers, of a frame, of an address, and of a table's page.
-use Prim.Native.Nat.{ℕ, _+_, _*_, _<_, _≤_}
+use Prim.Native.Nat.{ℕ, _+_, _<_, _≤_}
 use mathlib.Core.Bool.{Bool}
 use mathlib.Core.List.{List, [], _∷_, _++_}
 use mathlib.Core.Logic.{_⊎_}

@@ -1,7 +1,7 @@
 -- THE THEOREMS OF A NIGHT, as statements. N is an honest night, complete or exact where that is said; the proofs have the same names in small letters.
 use Prim.Native.Nat.{ℕ, _+_, _<_, _≤_}
 use mathlib.Core.Bool.{Bool}
-use mathlib.Core.List.{List, [], _∷_, _++_}
+use mathlib.Core.List.{List, [], _++_}
 use mathlib.Core.Logic.{_⊎_}
 use mathlib.Core.Path.{_≡_}
 use Rattle.word.specs.Memory.{at}

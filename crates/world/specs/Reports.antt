@@ -4,7 +4,7 @@ use mathlib.Core.Path.{_≡_}
 use mathlib.Core.List.{List, [], _∷_, _++_}
 use mathlib.Core.Logic.{_⊎_}
 use Prim.Native.Nat.{ℕ}
-use Rattle.world.specs.Events.{Event, happen, after, Among}
+use Rattle.world.specs.Events.{Event, happen, Among}
 use Rattle.world.specs.Walker.{Walker, meaning, Gives, Reads, On}
 use Rattle.world.specs.Held.{Holds, None, Can}
 use Rattle.world.specs.Discipline.{Safe}
