@@ -43,10 +43,13 @@ use Rattle.tablepath.specs.declared.Gone.{Gone}
 use Rattle.tablepath.specs.declared.Unmapped.the-variants as unmapped′
 use Rattle.tablepath.specs.Calls.{Call, Within, callWrites, Act, actWrites}
 use Rattle.tablepath.specs.Calls as calls
-use Rattle.tablepath.specs.Nights.{Night, history, lastBegan, behind, front, lately, due, Some, untoldKept, waiting, seen, Unmaps, Protects, Hit, Hits, Allowed, Honest, Telling, Exact}
+use Rattle.tablepath.specs.Nights.{Night, history, lastBegan, behind, front, joined, lately, due, covered, uncovered, Some, untoldKept, waiting, seen, Unmaps, Protects, Hit, Hits, Gets, Allowed, Honest, Telling, Exact}
 use Rattle.tablepath.specs.Nights as night
+use Rattle.tablepath.specs.Gone.{dawn, Avoids, MappedAt, Maps, Mapped}
 use Rattle.tablepath.proofs.Marking.{saw-self}
 use Rattle.tablepath.proofs.Says.{unmap-says}
+use Rattle.tablepath.proofs.Nights.{exact-complete}
+use Rattle.tablepath.proofs.FrameGone.{frame-gone}
 use Rattle.tablepath.proofs.Witness.{five, page, bytes, nothing-yet, goes, five-pages, start}
 
 -- A call whose writes reach memory at once ------------------------------------------------------------------------------------------------
@@ -77,13 +80,15 @@ module _ (h : ℕ → Bool) (sp : Space) where
     recent : lately M ≡ lately N
     none : underway (history N) ≡ [] → underway (history M) ≡ []
     told : Exact h sp N → Exact h sp M
+    cover : covered M ≡ covered N
+    first : dawn M ≡ dawn N
 
   arrive-same : (ws : List Write) (N : Night) → Same N (arrive N ws)
-  unfolding arrive history last underway eachLonger due lately Telling
-  arrive-same [] N = record { began = refl; dues = refl; recent = refl; none = λ u. u; told = λ c. c }
+  unfolding arrive history last underway eachLonger due lately Telling covered dawn
+  arrive-same [] N = record { began = refl; dues = refl; recent = refl; none = λ u. u; told = λ c. c; cover = refl; first = refl }
   arrive-same (w ∷ ws) N =
       let s = arrive-same ws (night.happens N (write (at (w .page) (w .index)) (w .word))) in
-      record { began = s .began; dues = s .dues; recent = s .recent; none = λ u. s .none (ap (eachLonger (write (at (w .page) (w .index)) (w .word))) u); told = s .told }
+      record { began = s .began; dues = s .dues; recent = s .recent; none = λ u. s .none (ap (eachLonger (write (at (w .page) (w .index)) (w .word))) u); told = s .told; cover = s .cover; first = s .first }
 
   arrive-now : (ws : List Write) (N : Night) → now (history (arrive N ws)) ≡ word.after (now (history N)) ws
   unfolding arrive history now happen word.after
@@ -225,7 +230,10 @@ module _ (s : List ℕ) (e : length s ≡ 20480) where
   unfolding underway history
   none-underway = calm-same h five mapped (calls.unmap 0) .none (calm-same h five (night.dusk m) (calls.map page) .none refl)
 
-  made : lately gone ≡ act h five (night.dusk m) (calls.map page) ∷ (act h five mapped (calls.unmap 0) ∷ [])
+  abbrev acts : List Act
+  acts = act h five (night.dusk m) (calls.map page) ∷ (act h five mapped (calls.unmap 0) ∷ [])
+
+  made : lately gone ≡ acts
   unfolding lately
   made = calm-same h five mapped (calls.unmap 0) .recent ∙ ap (λ l. l ++ (act h five mapped (calls.unmap 0) ∷ [])) (calm-same h five (night.dusk m) (calls.map page) .recent)
 
@@ -250,7 +258,7 @@ module _ (s : List ℕ) (e : length s ≡ 20480) where
           let p : found.Page 0 (g .size) (g .frame) _ ≡ found.Page 0 4096 1048576 everything = sym (unmap-says whole₁ 0 .gone g there .before) ∙ means₁ in
           cc
 
-      hits : (va : ℕ) → Hits h five (Hit h five) (act h five (night.dusk m) (calls.map page) ∷ (act h five mapped (calls.unmap 0) ∷ [])) va → va < 4096
+      hits : (va : ℕ) → Hits h five (Hit h five) acts va → va < 4096
       hits va k = unfold Some Unmaps Protects act in elim k [
         | inl (inl x) ↦ absurd x
         | inl (inr x) ↦ absurd x
@@ -268,3 +276,39 @@ module _ (s : List ℕ) (e : length s ≡ 20480) where
         after-told .told complete₃,
         λ j u. rw (after-told .began, began₃) (aside₂ j u),
       )
+
+  -- SO THE FRAME IS GONE: of the page that was mapped and unmapped nothing is given.
+  frame-mapped : (b : ℕ) → ¬ Mapped h five 1048576 4096 (MappedAt h five 1048576 4096 (dawn reported)) (covered reported) b
+  unfolding Mapped covered due dawn act
+  frame-mapped b k =
+      go (subst (λ l. Mapped h five 1048576 4096 (MappedAt h five 1048576 4096 m) l b) list (subst (λ x. Mapped h five 1048576 4096 (MappedAt h five 1048576 4096 x) (covered reported) b) dawns k))
+    where
+      dawns : dawn reported ≡ m
+      dawns = calm-same h five shot (calls.told (ticketOf (bookOf (lastBegan shot) five))) .first ∙ calm-same h five mapped (calls.unmap 0) .first ∙ calm-same h five (night.dusk m) (calls.map page) .first
+
+      list : covered reported ≡ acts
+      list = calm-same h five shot (calls.told (ticketOf (bookOf (lastBegan shot) five))) .cover
+          ∙ ap (λ l. l ++ front (due gone ++ (lately gone ∷ []))) (calm-same h five mapped (calls.unmap 0) .cover ∙ calm-same h five (night.dusk m) (calls.map page) .cover)
+          ∙ ap (λ l. front (l ++ (lately gone ∷ []))) none-due ∙ made
+
+      go : Mapped h five 1048576 4096 (MappedAt h five 1048576 4096 m) acts b → ⊥
+      go (inl (inl at-first, other), last) = let z : _≡_ {A = ℕ} 0 1 = cc (nothing-yet (start s e) (at-first .address), at-first .meant) in omega arith
+      go (inl (inr by-map, other), last) =
+          let same : calls.map page ≡ calls.map (by-map .asked) = by-map .is-map in
+          let base : 0 ≡ b = cc (same, by-map .at-base) in
+          last (ap calls.unmap base)
+      go (inr by-unmap, last) = let z : _≡_ {A = ℕ} 0 1 = cc (by-unmap .is-map) in omega arith
+
+  pub frame-witness : (va : ℕ) (o : Found) → Gets h five untoldKept reported va o → Avoids 1048576 4096 o
+  unfolding due lately Some act
+  frame-witness = frame-gone h five reported (night-witness .0) (exact-complete h five reported (night-witness .1)) 1048576 4096 frame-mapped (λ b k. spares b (subst (Some (Maps h five 1048576 4096 b)) list k))
+    where
+      told′ : Call
+      told′ = calls.told (ticketOf (bookOf (lastBegan shot) five))
+
+      list : uncovered reported ≡ act h five shot told′ ∷ []
+      list = ap (λ l. joined l ++ lately reported) (calm-same h five shot told′ .dues ∙ ap (λ l. behind (l ++ (lately gone ∷ []))) none-due) ∙ calm-same h five shot told′ .recent
+
+      spares : (b : ℕ) → ¬ Some (Maps h five 1048576 4096 b) (act h five shot told′ ∷ [])
+      spares b (inl x) = let z : _≡_ {A = ℕ} 0 1 = cc (x .is-map) in omega arith
+      spares b (inr x) = x

@@ -66,10 +66,11 @@ module _ (h : ℕ → Bool) (sp : Space) where
   abbrev pub ReleasedUnread : Night → Type 0
   ReleasedUnread N = (p k : ℕ) → Numbered (seen h sp N) sp p k → k < ticketOf (bookOf (lastBegan N) sp) → (va i : ℕ) → i < 512 → ¬ MayRead h sp untoldKept N va (at p i)
 
-  -- THE TICKETS that calls answered: a covered call's may be reported now, and a report of a lower one than an uncovered call's covers it not.
+  -- A TICKET THAT A COVERED CALL ANSWERED may be reported: it is at most that of the moment at which the shootdown began that was done last.
   abbrev pub CoveredTicket : Night → Type 0
   CoveredTicket N = (t : ℕ) → Some (λ a. Ticketed h sp (a .call) (a .saw) t) (covered N) → t ≤ ticketOf (bookOf (lastBegan N) sp)
 
+  -- ONE THAT AN UNCOVERED CALL ANSWERED is at least that: so an honest report covers every call that answered a lower ticket.
   abbrev pub UncoveredTicket : Night → Type 0
   UncoveredTicket N = (t : ℕ) → Some (λ a. Ticketed h sp (a .call) (a .saw) t) (uncovered N) → ticketOf (bookOf (lastBegan N) sp) ≤ t
 

@@ -77,18 +77,6 @@ module _ {Word View Address Place Answer : Type 0} (W : Walker Word View Address
   since-longer m e q k va p h =
       can-longer W (q .since) e (q .began) (None W) va p (subst (λ x. Holds W (happen x e) (Since W q) va p) (sym k) h)
 
-module _ {Word View Address Place Answer : Type 0} (W : Walker Word View Address Place Answer) (C : Caches Place Answer) where
-  open Walker W using (alike-refl, left)
-
-  -- A FULL FLUSH tells every address: then nothing is held but what began since it began.
-  pub flushed : (h : History Word Address) (T : Address → Type 0) → ((va : Address) → T va) → (va : Address) (p : Place) → Held W C (done h T) va p → Since W (next h) va p
-  unfolding Held
-  flushed h T all va p c = since-holds W (now h) (next h) (next-ends h) va p (holds-more W (now h) _ (Since W (next h)) new va p c)
-    where
-      new : (va : Address) (p : Place) → Since W (next h) va p ⊎ ((C .half p ⊎ C .finished p) × Untold W T va p × Held W C h va p) → Since W (next h) va p
-      new va p (inl d) = d
-      new va p (inr (k, u, d)) = absurd (u va (all va) (alike-refl (left p) va))
-
 module _ {Word View Address Place Answer : Type 0} (W : Walker Word View Address Place Answer) (C : Caches Place Answer) (laws : Finishes W C) where
   open Walker W using (start, left, step, alike-refl, alike-trans)
   open Caches C using (half, finished)
@@ -228,6 +216,18 @@ module _ {Word View Address Place Answer : Type 0} (W : Walker Word View Address
       answers-all Q a p o c g =
           let r = among-all (last h .since) (last h .began) _ _ a (as-if-all p o c g) in
           subst Q (r .2) (r .1)
+
+module _ {Word View Address Place Answer : Type 0} (W : Walker Word View Address Place Answer) (C : Caches Place Answer) where
+  open Walker W using (alike-refl, left)
+
+  -- A FULL FLUSH tells every address: then nothing is held but what began since it began.
+  pub flushed : (h : History Word Address) (T : Address → Type 0) → ((va : Address) → T va) → (va : Address) (p : Place) → Held W C (done h T) va p → Since W (next h) va p
+  unfolding Held
+  flushed h T all va p c = since-holds W (now h) (next h) (next-ends h) va p (holds-more W (now h) _ (Since W (next h)) new va p c)
+    where
+      new : (va : Address) (p : Place) → Since W (next h) va p ⊎ ((C .half p ⊎ C .finished p) × Untold W T va p × Held W C h va p) → Since W (next h) va p
+      new va p (inl d) = d
+      new va p (inr (k, u, d)) = absurd (u va (all va) (alike-refl (left p) va))
 
 -- WHERE LESS IS KEPT, less is held.
 module _ {Word View Address Place Answer : Type 0} (W : Walker Word View Address Place Answer) (C D : Caches Place Answer) (less : NoMore C D) where
