@@ -45,10 +45,11 @@ use Rattle.effect.proofs.ProtectDone.{protected}
 use Rattle.effect.proofs.ToldDone as effect
 use Rattle.effect.proofs.Wholes.{book-opens}
 use Rattle.tablepath.specs.declared.Mapped.the-variants as mapped′
-use Rattle.tablepath.specs.Answers.{mapSaid, mapAnswer, mapWrites, goneOf, unmapSaid, unmapAnswer, unmapWrites, protectSaid, protectAnswer, protectWrites, toldWrites, toldDid, dueDid}
+use Rattle.tablepath.specs.Answers.{mapAnswer, mapWrites, goneOf, unmapSaid, unmapAnswer, unmapWrites, protectSaid, protectAnswer, protectWrites, toldWrites, toldDid, dueDid}
 use Rattle.tablepath.specs.Calls.{means, Call, Within, callWrites, Saw, Act, actWrites}
 use Rattle.tablepath.specs.Calls as calls
 use Rattle.tablepath.specs.Nights.{Unmaps, Protects}
+use Rattle.tablepath.proofs.SaysAny.{map-goes}
 use Rattle.tablepath.proofs.Marking.{planned-writes, planned-others, saw-back, others-all, saw-alike}
 use Rattle.tablepath.proofs.Serving.{IsBuilt}
 use Rattle.tablepath.proofs.Running.{act-served, seen-whole, saw-act}
@@ -106,12 +107,12 @@ module _ (h : ℕ → Bool) (sp : Space) where
         page-covers h m (4096 * sp .root) va va size frame had e .everywhere vb (r .0) (r .1)
 
     map-stirs : (q : Asked) (x : Placed) → map.decideOf h m sp q ≡ x → Stirs (calls.map q) m m (eventsOf (map.didOf sp x))
-    unfolding map.didOf mapAnswer mapSaid
+    unfolding map.didOf
     map-stirs q (map.Refused r) e = stirs-none (calls.map q) m
     map-stirs q (map.Go p) e =
         let d = decided-done w q p e in
         turned (calls.map q) (q .base) (p .target) (Page (q .base) (q .size) (q .frame) (q .rights)) (d .role') (map.writesOf sp p) (d .changed)
-        (λ vb n. mapped (p .fresh .need) (rw e) (nothing-mapped (w .sound .built) vb (omega arith) (d .missing .comes) (d .missing .nothing) n) refl)
+        (λ vb n. mapped (p .fresh .need) (map-goes h m sp q p e) (nothing-mapped (w .sound .built) vb (omega arith) (d .missing .comes) (d .missing .nothing) n) refl)
 
     unmap-stirs : (va : ℕ) (x : Removing) → unmap.decideOf h m sp va ≡ x → Stirs (calls.unmap va) m m (eventsOf (unmap.didOf sp va x))
     unfolding unmap.didOf unmapAnswer unmapSaid goneOf Unmaps

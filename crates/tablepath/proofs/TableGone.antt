@@ -44,12 +44,13 @@ use Rattle.effect.proofs.ProtectDone.{protected}
 use Rattle.effect.proofs.ToldDone as effect
 use Rattle.effect.proofs.Wholes.{book-opens}
 use Rattle.tablepath.specs.declared.Mapped.the-variants as mapped
-use Rattle.tablepath.specs.Answers.{mapSaid, mapAnswer, mapWrites, unmapWrites, protectWrites, toldWrites, toldDid, dueDid}
+use Rattle.tablepath.specs.Answers.{mapAnswer, mapWrites, unmapWrites, protectWrites, toldWrites, toldDid, dueDid}
 use Rattle.tablepath.specs.Calls.{Call, callWrites, Saw, Act, actWrites, wrote, Runs, UpTo}
 use Rattle.tablepath.specs.Calls as calls
 use Rattle.tablepath.specs.Nights.{Night, lastBegan, lastSince, Some, uncovered, untoldKept, MayRead, Honest, Complete}
 use Rattle.tablepath.specs.Gone.{Listed, Links}
 use Rattle.tablepath.specs.Shown.{TableGone}
+use Rattle.tablepath.proofs.SaysAny.{map-goes}
 use Rattle.tablepath.proofs.Marking.{planned-writes, planned-others, saw-back, others-all, saw-agree, saw-whole}
 use Rattle.tablepath.proofs.Serving.{IsBuilt}
 use Rattle.tablepath.proofs.Serves.{release-spare}
@@ -102,11 +103,11 @@ module _ (h : ℕ → Bool) (sp : Space) (t : ℕ) where
         idle x i (inr f) = ap left (f ∙ e) ∙ spare-left role s
 
     map-leaves : (q : Asked) (x : Placed) → map.decideOf h m sp q ≡ x → ((k j : ℕ) → mapAnswer h m sp q ≡ mapped.Done k → j < k → pageAt m sp j ≢ t) → Leaves m (map.didOf sp x)
-    unfolding map.didOf mapAnswer mapSaid
+    unfolding map.didOf
     map-leaves q (map.Refused r) e spares = leaves-none
     map-leaves q (map.Go p) e spares =
         let d = decided-done w q p e in
-        changed-leaves (q .base) (p .target) _ (d .role') (map.writesOf sp p) (d .changed) (d .whole) (d .taken .stays t (λ j u f. spares (p .fresh .need) j (rw e) u f))
+        changed-leaves (q .base) (p .target) _ (d .role') (map.writesOf sp p) (d .changed) (d .whole) (d .taken .stays t (λ j u f. spares (p .fresh .need) j (map-goes h m sp q p e) u f))
 
     unmap-leaves : (va : ℕ) (x : Removing) → unmap.decideOf h m sp va ≡ x → Leaves m (unmap.didOf sp va x)
     unfolding unmap.didOf
