@@ -115,6 +115,7 @@ module _ {h : ℕ → Bool} {sp : Space} {m : ℕ → ℕ} {role : ℕ → Role}
     proper = every-one (s .way .a) (indexOf (s .way .level) va) 0 (in-of-pool (live-in w (k .live))) (index-lt (s .way .level) va) (omega arith);
     book = book-beside sp m (clear va (s .way)) beside ∙ aside-none (bookOf m sp);
     fate = λ p. inl refl;
+    on-way = λ p. inl refl;
     numbers = numbered-beside sp m (clear va (s .way)) beside (w .booked);
   }
 

@@ -36,17 +36,18 @@ one-page sp m p q k h g =
     let same : h .0 ≡ g .0 = omega (arith, h .3, g .3) in
     sym (h .2) ∙ ap (λ i. pageAt m sp (bookOf m sp .free + i)) same ∙ g .2
 
--- A PAGE THAT IS SET ASIDE LATER has a later number: what had none has one from the ticket on.
+-- A PAGE WITH A NUMBER BELOW THE TICKET had it before.
+pub earlier-number : {sp : Space} {m m' : ℕ → ℕ} → KeepsNumbers sp m m' → (p k : ℕ) → Numbered m' sp p k → k < ticketOf (bookOf m sp) → Numbered m sp p k
+earlier-number {sp} {m} {m'} a p k h u =
+    let i : ℕ = k - bookOf m sp .tickets in
+    let first : bookOf m sp .tickets ≤ k = omega (arith, h .3, a .tickets) in
+    let q : ℕ = pageAt m sp (bookOf m sp .free + i) in
+    let g : Numbered m sp q k = (i, omega arith, refl, omega arith) in
+    subst (λ x. Numbered m sp x k) (one-page sp m' q p k (a .numbers q k g) h) g
+
+-- So a page that is set aside later has a later number: what had none has one from the ticket on.
 pub later-number : {sp : Space} {m m' : ℕ → ℕ} → KeepsNumbers sp m m' → (p k : ℕ) → Numbered m' sp p k → ((j : ℕ) → ¬ Numbered m sp p j) → ticketOf (bookOf m sp) ≤ k
-later-number {sp} {m} {m'} a p k h n = elim (decLt k (ticketOf (bookOf m sp))) [ yes u ↦ absurd (n k (old u)) | no u ↦ omega arith ]
-  where
-    old : k < ticketOf (bookOf m sp) → Numbered m sp p k
-    old u =
-        let i : ℕ = k - bookOf m sp .tickets in
-        let first : bookOf m sp .tickets ≤ k = omega (arith, h .3, a .tickets) in
-        let q : ℕ = pageAt m sp (bookOf m sp .free + i) in
-        let g : Numbered m sp q k = (i, omega arith, refl, omega arith) in
-        subst (λ x. Numbered m sp x k) (one-page sp m' q p k (a .numbers q k g) h) g
+later-number {sp} {m} a p k h n = elim (decLt k (ticketOf (bookOf m sp))) [ yes u ↦ absurd (n k (earlier-number a p k h u)) | no u ↦ omega arith ]
 
 -- The book's own changes --------------------------------------------------------------------------------------------------------
 

@@ -14,7 +14,7 @@ use Rattle.entry.specs.Entry.{everything}
 use Rattle.walk.specs.Walk.{indexOf}
 use Rattle.walk.proofs.Digits.{index-lt}
 use Rattle.tables.specs.Roles.{Role, aside, table, left, Bare}
-use Rattle.tables.specs.Way.{onto-role}
+use Rattle.tables.specs.Way.{Comes, onto, onto-role}
 use Rattle.tables.specs.Up.{Up, up-step, up-spare}
 use Rattle.pool.specs.Book.{bookOf, ticketOf}
 use Rattle.pool.specs.Booked.{settingOf, Booked, Numbered}
@@ -52,6 +52,7 @@ pub record Rising (h : ℕ → Bool) (sp : Space) (m₀ : ℕ → ℕ) (role₀ 
   pub proper : Every (OfPool sp) xs
   pub book : bookOf (after m₀ xs) sp ≡ asideMore n (bookOf m₀ sp)
   pub fate : (p : ℕ) → (role p ≡ role₀ p) ⊎ SetAside sp role₀ role (after m₀ xs) (ticketOf (bookOf m₀ sp)) (ticketOf (bookOf m₀ sp) + n) p
+  pub on-way : (p : ℕ) → (role p ≡ role₀ p) ⊎ Comes (settingOf h sp) m₀ va (left (role₀ p)) p
   pub numbers : (p j : ℕ) → Numbered m₀ sp p j → Numbered (after m₀ xs) sp p j
 
 -- what is written when the table t, named by entry i of page r, is unlinked and set aside
@@ -166,6 +167,18 @@ module _ {h : ℕ → Bool} {sp : Space} {m₀ : ℕ → ℕ} {role₀ : ℕ →
         below = omega (arith, o .below);
       })
 
+  -- the table lies on the way of va
+  on-way-then : (p : ℕ) → (set role t aside p ≡ role₀ p) ⊎ Comes (settingOf h sp) m₀ va (left (role₀ p)) p
+  on-way-then p = go (ℕ-discrete t p) (d .on-way p)
+    where
+      go : Dec (t ≡ p) → (role p ≡ role₀ p) ⊎ Comes (settingOf h sp) m₀ va (left (role₀ p)) p
+          → (set role t aside p ≡ role₀ p) ⊎ Comes (settingOf h sp) m₀ va (left (role₀ p)) p
+      go (yes e) o =
+          inr (subst (λ x. Comes (settingOf h sp) m₀ va (left (role₀ x)) x) e
+          (subst (λ j. Comes (settingOf h sp) m₀ va j t) (sym (ap left was)) (onto r everything (names .comes) (names .names))))
+      go (no e) (inl o) = inl (set-other role t aside p e ∙ o)
+      go (no e) (inr o) = inr o
+
   -- ONE TABLE MORE
   pub rising-step : Rising h sp m₀ role₀ va l (suc n) (xs ++ cutting sp r i t (bookOf m sp)) (set role t aside) (suc k) r
   rising-step = record {
@@ -174,5 +187,6 @@ module _ {h : ℕ → Bool} {sp : Space} {m₀ : ℕ → ℕ} {role₀ : ℕ →
     proper = subst (Every (OfPool sp)) list-is (every-append (xs ++ (write r i 0 ∷ [])) ys (every-append xs (write r i 0 ∷ []) (d .proper) (every-one r i 0 (in-of-pool parent) (index-lt (suc k) va) (omega arith))) (book-of-pool done ys ys-book));
     book = subst (λ x. bookOf x sp ≡ asideMore (suc n) (bookOf m₀ sp)) memory-is (unfold end in book-then);
     fate = subst (λ y. (p : ℕ) → (set role t aside p ≡ role₀ p) ⊎ SetAside sp role₀ (set role t aside) y (ticketOf (bookOf m₀ sp)) (ticketOf (bookOf m₀ sp) + suc n) p) memory-is (unfold end in fate-then);
+    on-way = on-way-then;
     numbers = λ p j e. subst (λ y. Numbered y sp p j) memory-is (unfold end in kept-number p j (d .numbers p j e));
   }

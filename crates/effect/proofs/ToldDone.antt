@@ -1,17 +1,13 @@
 -- TOLD, DONE: the report of a ticket releases exactly the pages whose number is below it, and no walk sees it.
 use Prim.Native.Nat.{ℕ}
 use mathlib.Core.Bool.{Bool}
-use mathlib.Core.List.{List, []}
-use mathlib.Core.Path.{_≡_, sym, ap, _∙_, subst}
+use mathlib.Core.List.{List}
+use mathlib.Core.Path.{_≡_, sym, ap, _∙_}
 use native.Mathlib.Omega.{arith}
 use Rattle.word.specs.Writes.{Write, after}
 use Rattle.word.proofs.Writes.{Every}
-use Rattle.world.specs.Events.{after as events-after}
-use Rattle.world.specs.Reports.{History, report, now, more, Thawed, Since, since-report, since-more}
-use Rattle.world.specs.Rules.{Obeys, obeys-weaken}
 use Rattle.tables.specs.Roles.{Role, left, Sound}
-use Rattle.tables.specs.Discipline.{Aside, walkerOf}
-use Rattle.tables.specs.Clearing.{eventsOf, Untouched, spare-untouched, untouched-holds}
+use Rattle.tables.specs.Clearing.{Untouched, spare-untouched, untouched-holds}
 use Rattle.tables.specs.Unseen.{shift-sound}
 use Rattle.pool.specs.Book.{bookOf, dueOf}
 use Rattle.pool.specs.Booked.{settingOf, Booked, released}
@@ -63,7 +59,6 @@ module _ {h : ℕ → Bool} {sp : Space} {m : ℕ → ℕ} {role : ℕ → Role}
     same = before .same;
     quiet = before .quiet;
     obeys = before .obeys;
-    anew = obeys-weaken (walkerOf (settingOf h sp)) (eventsOf ys) Thawed (Aside role') (Aside role') (Aside role') m (λ a z. absurd z) (λ a z. z) (still .obeys);
     proper = book-of-pool (w .booked) ys ys-book;
     enough = x .enough;
     frees = λ p n e u. release-frees (w .booked) k (x .enough) p n e (x .below n (omega (arith, e .3)) u);
@@ -76,14 +71,3 @@ module _ {h : ℕ → Bool} {sp : Space} {m : ℕ → ℕ} {role : ℕ → Role}
 -- TOLD, DONE
 pub told : {h : ℕ → Bool} {sp : Space} {m : ℕ → ℕ} {role : ℕ → Role} → Whole h sp m role → (t k : ℕ) → dueOf (bookOf m sp) t ≡ due.Pages k → ToldDone h sp m role t k
 told {sp = sp} {m} w t k e = released-by w t k (due-exactly (sp .pages) (bookOf m sp) t k (w .booked .sound) e)
-
--- THE REPORT BEGINS A NEW PERIOD: after the caller's report and these writes, no more is frozen than what is set aside now.
-pub told-since : {h : ℕ → Bool} {sp : Space} {m : ℕ → ℕ} {role : ℕ → Role} {t k : ℕ} → ToldDone h sp m role t k
-    → (past : History ℕ) (F : ℕ → Type 0) → Since (walkerOf (settingOf h sp)) past F → now past ≡ m
-    → Since (walkerOf (settingOf h sp)) (more (report past []) (eventsOf (releaseWrites sp (bookOf m sp) k))) (Aside (released m sp k role))
-unfolding now events-after
-told-since {h} {sp} {m} {role} {t} {k} d past F s e =
-    let W = walkerOf (settingOf h sp) in
-    let es = eventsOf (releaseWrites sp (bookOf m sp) k) in
-    since-more W (report past []) Thawed (Aside (released m sp k role)) es (since-report W past F s)
-    (subst (λ n. Obeys W Thawed n es (Aside (released m sp k role))) (sym e) (d .anew))

@@ -73,6 +73,7 @@ module _ {h : ℕ → Bool} {sp : Space} {m : ℕ → ℕ} {role : ℕ → Role}
       counts = counts;
       ticket = ticket-more (sp .pages) (bookOf m sp) n (w .booked .sound) (omega (arith, few)) ∙ sym (ap ticketOf counts ∙ omega arith);
       fate = λ p. ticketed p (d .fate p);
+      on-way = d .on-way;
       fewer = fewer;
       numbers = subst (λ xs. (p j : ℕ) → Numbered m sp p j → Numbered (after m xs) sp p j) same (d .numbers);
     }

@@ -5,12 +5,10 @@ use mathlib.Core.Logic.{_≢_}
 use mathlib.Core.Path.{_≡_}
 use Rattle.word.specs.Writes.{after}
 use Rattle.word.proofs.Writes.{Every}
-use Rattle.world.specs.Reports.{Thawed}
-use Rattle.world.specs.Rules.{Obeys}
 use Rattle.world.specs.OneChange.{Quiet}
 use Rattle.tables.specs.Roles.{Role, free, aside}
 use Rattle.tables.specs.Meaning.{meaning}
-use Rattle.tables.specs.Discipline.{Aside, walkerOf, ObeysOf}
+use Rattle.tables.specs.Discipline.{walkerOf, ObeysOf}
 use Rattle.tables.specs.Clearing.{eventsOf}
 use Rattle.pool.specs.Book.{bookOf}
 use Rattle.pool.specs.Booked.{settingOf, released, Numbered}
@@ -20,13 +18,12 @@ use Rattle.effect.specs.OfPool.{OfPool}
 use Rattle.effect.specs.Whole.{Whole}
 
 -- same, quiet: no address's meaning changes, at any moment. frees, stays, others: exactly the pages whose number is below the ticket become free.
--- obeys: nothing that was set aside is written; anew: from a report on, no more is frozen than what is set aside now.
+-- obeys: nothing that was set aside is written.
 pub record ToldDone (h : ℕ → Bool) (sp : Space) (m : ℕ → ℕ) (role : ℕ → Role) (t k : ℕ) : Type 0 where
   pub whole : Whole h sp (after m (releaseWrites sp (bookOf m sp) k)) (released m sp k role)
   pub same : (va : ℕ) → meaning (settingOf h sp) (after m (releaseWrites sp (bookOf m sp) k)) va ≡ meaning (settingOf h sp) m va
   pub quiet : Quiet (walkerOf (settingOf h sp)) m (eventsOf (releaseWrites sp (bookOf m sp) k))
   pub obeys : ObeysOf (settingOf h sp) role m (eventsOf (releaseWrites sp (bookOf m sp) k)) role
-  pub anew : Obeys (walkerOf (settingOf h sp)) Thawed m (eventsOf (releaseWrites sp (bookOf m sp) k)) (Aside (released m sp k role))
   pub proper : Every (OfPool sp) (releaseWrites sp (bookOf m sp) k)
   pub enough : k ≤ bookOf m sp .aside
   pub frees : (p n : ℕ) → Numbered m sp p n → n < t → released m sp k role p ≡ free

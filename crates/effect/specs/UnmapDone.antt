@@ -8,7 +8,8 @@ use Rattle.word.proofs.Writes.{Every}
 use Rattle.entry.specs.Entry.{sizeOf}
 use Rattle.entry.specs.declared.Rights.{Rights}
 use Rattle.walk.specs.declared.Found.the-variants as found
-use Rattle.tables.specs.Roles.{Role, aside, table}
+use Rattle.tables.specs.Roles.{Role, aside, table, left}
+use Rattle.tables.specs.Way.{Comes}
 use Rattle.tables.specs.Meaning.{meaning}
 use Rattle.tables.specs.Operation.{Changed}
 use Rattle.pool.specs.Book.{bookOf, ticketOf, ticketAfter}
@@ -39,7 +40,7 @@ pub record SetAside (sp : Space) (role role' : ℕ → Role) (m' : ℕ → ℕ) 
 -- before: the page that started at va, whose frame and size it answers. changed: every address of the page means nothing now, by one write; no
 -- other address changes; empty tables are unlinked. counts: so many pages more are set aside, and no count else changes; ticket: what it
 -- answers is the ticket of that book. fate: each page has its role still, or was a table and is set aside, with a number below the ticket;
--- fewer: so many of them. proper: it writes to the pool.
+-- fewer: so many of them. on-way: it lay on the way of va. proper: it writes to the pool.
 pub record UnmapDone (h : ℕ → Bool) (sp : Space) (m : ℕ → ℕ) (role : ℕ → Role) (va : ℕ) (r : Removal) : Type 0 where
   pub role' : ℕ → Role
   pub size-is : r .spot .size ≡ sizeOf (r .spot .way .level)
@@ -53,5 +54,6 @@ pub record UnmapDone (h : ℕ → Bool) (sp : Space) (m : ℕ → ℕ) (role : �
   pub counts : bookOf (after m (writesOf sp va r)) sp ≡ asideMore (r .empties) (bookOf m sp)
   pub ticket : ticketAfter (bookOf m sp) (r .empties) ≡ ticketOf (bookOf (after m (writesOf sp va r)) sp)
   pub fate : (p : ℕ) → (role' p ≡ role p) ⊎ SetAside sp role role' (after m (writesOf sp va r)) (ticketOf (bookOf m sp)) (ticketOf (bookOf m sp) + r .empties) p
+  pub on-way : (p : ℕ) → (role' p ≡ role p) ⊎ Comes (settingOf h sp) m va (left (role p)) p
   pub fewer : tablesOf sp role ≡ tablesOf sp role' + r .empties
   pub numbers : (p n : ℕ) → Numbered m sp p n → Numbered (after m (writesOf sp va r)) sp p n

@@ -9,7 +9,8 @@ use Rattle.word.specs.declared.Cell.the-variants as cell
 use Rattle.word.proofs.Runs.{Among, word-among, outside-among}
 use Rattle.pool.specs.declared.Book.{Book}
 use Rattle.pool.specs.declared.Fit.the-variants.{Fits}
-use Rattle.pool.specs.Book.{bookPages, roomOf, Sound, ticketOf, ticketIn, ticketAfter}
+use Rattle.pool.specs.Layout.{bookPages}
+use Rattle.pool.specs.Book.{roomOf, Sound, ticketOf, ticketIn, ticketAfter}
 use Rattle.pool.proofs.Opening.{Fitting, fitting, fit-runs}
 
 -- THE TICKET of a book that can be is a number of 64 bits as it is

@@ -8,7 +8,8 @@ use Rattle.pool.specs.declared.Opened.the-variants as opened
 use Rattle.pool.specs.declared.moment.Counts.{Counts}
 use Rattle.pool.specs.declared.moment.Stated.{Stated}
 use Rattle.pool.specs.declared.moment.Stated.the-variants as stated
-use Rattle.pool.specs.Book.{bookPages, openedOf, ticketIn}
+use Rattle.pool.specs.Layout.{bookPages}
+use Rattle.pool.specs.Book.{openedOf, ticketIn}
 
 -- tables: the pages that are not the book's, nor the root, nor free, nor set aside
 unfoldable pub countsOf : Space → Book → Counts

@@ -12,7 +12,8 @@ use Rattle.world.specs.Events.{Event, after}
 use Rattle.world.specs.Marks.{writes}
 use Rattle.tables.specs.Roles.{Role}
 use Rattle.tables.specs.Clearing.{eventsOf}
-use Rattle.pool.specs.Book.{bookPages, bookOf, ticketOf, openedOf}
+use Rattle.pool.specs.Layout.{bookPages}
+use Rattle.pool.specs.Book.{bookOf, ticketOf, openedOf}
 use Rattle.pool.specs.Booked.{tablesOf}
 use Rattle.pool.specs.State.{countsOf, statedOf, stateOf}
 use Rattle.pool.specs.declared.Space.{Space}

@@ -1,107 +1,171 @@
--- A run of calls, with the machine's marks anywhere: what holds between operations holds at its end, and all of it obeys from the ticket on.
-use Prim.Native.Nat.{ℕ, _/_, _≤_}
+-- A run of calls: what holds between operations holds at its end, the tables are built at every moment, and all of it obeys from the ticket on;
+-- so does what has reached memory of it, at any moment, with marks and others' stores in between.
+use Prim.Native.Nat.{ℕ, _+_, _*_, _/_, _<_, _≤_}
 use mathlib.Core.Bool.{Bool}
-use mathlib.Core.List.{List, [], _++_}
-use mathlib.Core.Path.{_≡_, sym, ap, _∙_, subst}
-use Rattle.word.specs.Memory.{at}
+use mathlib.Core.List.{List, [], _∷_, _++_, append-nil}
+use mathlib.Core.Path.{_≡_, refl, sym, ap, _∙_, subst}
+use native.Mathlib.Omega.{arith}
+use Rattle.word.specs.Writes.{Write}
 use Rattle.word.specs.Writes as word
-use Rattle.world.specs.Events.{Event, after, after-append}
-use Rattle.world.specs.Marks.{writes, obeys-beside}
-use Rattle.world.specs.Rules.{Obeys, obeys-nil, obeys-append, obeys-weaken}
-use Rattle.tables.specs.Roles.{Role}
-use Rattle.tables.specs.Unseen.{Alike, alike-sound}
+use Rattle.word.specs.Memory.{at}
+use Rattle.word.proofs.Writes.{page-of}
+use Rattle.world.specs.Events.{Event, after, after-append, All, all-map, all-front, all-append}
+use Rattle.world.specs.Discipline.{Safe}
+use Rattle.world.specs.Rules.{Obeys, obeys-nil, obeys-append, obeys-weaken, safe-less}
+use Rattle.world.specs.Marks.{writes, Inside, obeys-beside}
+use Rattle.world.specs.Reports.{Thawed}
+use Rattle.world.specs.Ties.{reads-walk}
+use Rattle.world.proofs.Late.{late-safe}
+use Rattle.tables.specs.Roles.{Role, Live}
+use Rattle.tables.specs.Unseen.{alike-built}
+use Rattle.tables.specs.Meaning.{live-home}
+use Rattle.tables.specs.Reach.{walk-reads-tables}
 use Rattle.tables.specs.Discipline.{walkerOf}
 use Rattle.tables.specs.Clearing.{eventsOf, events-after}
-use Rattle.pool.specs.Book.{wordOf, bookOf, ticketOf}
-use Rattle.pool.specs.Booked.{settingOf, SameBook}
+use Rattle.pool.specs.Book.{bookOf, ticketOf}
+use Rattle.pool.specs.Booked.{settingOf, Booked, Numbered}
 use Rattle.pool.specs.declared.Space.{Space}
-use Rattle.pool.proofs.Booked.{same-counts, booked-same}
-use Rattle.pool.proofs.Words.{word-in}
 use Rattle.effect.specs.Whole.{Whole}
-use Rattle.tablepath.specs.Calls.{Call, Within, callWrites, Marks, Run, none, call, From}
-use Rattle.tablepath.proofs.Marking.{MarkedFrom, marks-left, marks-fair}
 use Rattle.effect.specs.Numbers.{KeepsNumbers}
 use Rattle.effect.proofs.Numbers.{same-keeps}
-use Rattle.tablepath.proofs.Serving.{Served}
+use Rattle.tablepath.specs.Calls.{Call, Within, callWrites, PoolWord, Saw, Act, actWrites, wrote, Runs, UpTo, Others, Reached, From}
+use Rattle.tablepath.proofs.Marking.{writes-append, planned-writes, planned-others, wrote-writes, saw-self, saw-back, others-saw, others-all, wrote-others, saw-book, saw-agree, saw-alike, others-fair, book-fits, saw-whole}
+use Rattle.tablepath.proofs.Serving.{IsBuilt, Served, numbered-aside}
+use Rattle.tablepath.proofs.Serves.{serves}
 
--- marks leave the book
-marked-book : (sp : Space) (m m' : ℕ → ℕ) → MarkedFrom sp m m' → SameBook sp m m'
-marked-book sp m m' k = record { words = λ j u. let i = word-in sp j u in k .books (wordOf sp j) (i .0) (i .1) }
-
--- and all that holds between operations
-pub marked-whole : (h : ℕ → Bool) (sp : Space) (m m' : ℕ → ℕ) (role : ℕ → Role) → MarkedFrom sp m m' → Whole h sp m role → Whole h sp m' role
-marked-whole h sp m m' role k w = record {
-  stands = w .stands;
-  small = w .small;
-  sound = alike-sound (w .sound .built) m' alike (w .sound .filled);
-  booked = booked-same (marked-book sp m m' k) (w .booked);
-}
+-- WALKS READ THE POOL, where the tables are built.
+pub built-inside : (h : ℕ → Bool) (sp : Space) (m : ℕ → ℕ) → IsBuilt h sp m → Inside (walkerOf (settingOf h sp)) (PoolWord sp) m
+built-inside h sp m b va x =
+    reads-walk h (λ va. 4096 * sp .root) (λ va. va) (PoolWord sp) m va 4 _ x (walk-reads-tables (b .1) (PoolWord sp) in-pool va)
   where
-    alike : Alike role m m'
-    alike q l i live u = (λ j. k .same (at q i) j, k .zeros (at q i), k .clean (at q i))
+    in-pool : (q l i : ℕ) → Live (b .0) q l → i < 512 → PoolWord sp (at q i)
+    in-pool q l i live u =
+        let home = live-home (b .1) live in
+        subst (λ y. (sp .first ≤ y) × (y < sp .first + sp .pages)) (sym (page-of q i u)) (home .from, home .upto)
 
--- so what a call's writes leave of the book, marks among them leave too
-pub call-book : (sp : Space) (m : ℕ → ℕ) (ws : List word.Write) (es : List (Event ℕ)) → writes es ≡ eventsOf ws → Marks sp m es → SameBook sp (word.after m ws) (after m es)
-call-book sp m ws es e k =
-    marked-book sp (word.after m ws) (after m es) (subst (λ x. MarkedFrom sp x (after m es)) (ap (after m) e ∙ events-after m ws) (marks-left sp es m k))
+module _ (h : ℕ → Bool) (sp : Space) where
+  -- a frozen word is one of the pool's
+  from-pool : (n : ℕ) (m : ℕ → ℕ) (role : ℕ → Role) → Whole h sp m role → (x : ℕ) → From sp n m x → PoolWord sp x
+  from-pool n m role w x f =
+      let home = w .sound .built .home (x / 512) (λ e. let z : _≡_ {A = ℕ} 0 1 = cc (numbered-aside (w .booked) (x / 512) (f .0) (f .2)) in omega arith) in
+      (home .from, home .upto)
 
--- what a run shows
-pub record Ran (h : ℕ → Bool) (sp : Space) (n : ℕ) (m : ℕ → ℕ) (es : List (Event ℕ)) : Type 0 where
-  pub role : ℕ → Role
-  pub whole : Whole h sp (after m es) role
-  pub obeys : Obeys (walkerOf (settingOf h sp)) (From sp n m) m es (From sp n (after m es))
-  pub ticket : n ≤ ticketOf (bookOf (after m es) sp)
+  -- the numbers are the same, but for marks
+  pub saw-keeps : {m n : ℕ → ℕ} {role : ℕ → Role} → Whole h sp m role → Saw sp m n → KeepsNumbers sp m n
+  saw-keeps w k = same-keeps (w .booked) (saw-book sp k (book-fits h sp w))
 
--- one call, with marks
-pub call-ran : (h : ℕ → Bool) (sp : Space) (n : ℕ) (m : ℕ → ℕ) (ws : List word.Write) (es : List (Event ℕ)) → Served h sp n m ws → writes es ≡ eventsOf ws
-    → Marks sp m es → Ran h sp n m es
-call-ran h sp n m ws es s e k = record {
-  role = s .role;
-  whole = marked-whole h sp (word.after m ws) (after m es) (s .role) left (s .whole);
-  obeys = obeys-weaken (walkerOf (settingOf h sp)) es (From sp n m) (From sp n m) (From sp n (after m es)) (From sp n (word.after m ws)) m (λ x f. f)
-      (λ x f. (f .0, f .1, kept .numbers (x / 512) (f .0) (f .2)))
-      (obeys-beside (walkerOf (settingOf h sp)) es (From sp n m) (From sp n (word.after m ws)) m (marks-fair (settingOf h sp) sp es m k)
-      (subst (λ l. Obeys (walkerOf (settingOf h sp)) (From sp n m) m l (From sp n (word.after m ws))) (sym e) (s .obeys)));
-  ticket = rw (ap ticketOf (same-counts same)) (s .ticket);
-}
-  where
-    now : after m (writes es) ≡ word.after m ws
-    now = ap (after m) e ∙ events-after m ws
+  -- the same writes to two memories that are the same but for marks
+  pub saw-wrote : (cs : List Act) {m n : ℕ → ℕ} → Saw sp m n → Saw sp (after m (wrote h sp cs)) (after n (wrote h sp cs))
+  saw-wrote cs {m} {n} k =
+      subst (λ es. Saw sp (after m es) (after n (wrote h sp cs))) (wrote-writes h sp cs) (others-saw sp (wrote h sp cs) m n (wrote-others sp h cs n) k)
 
-    left : MarkedFrom sp (word.after m ws) (after m es)
-    left = subst (λ x. MarkedFrom sp x (after m es)) now (marks-left sp es m k)
+  -- built, but for marks
+  pub saw-built : (m n : ℕ → ℕ) → Saw sp m n → IsBuilt h sp m → IsBuilt h sp n
+  saw-built m n k b = (b .0, alike-built (b .1) n (saw-alike h sp k (b .1)))
 
-    same : SameBook sp (word.after m ws) (after m es)
-    same = call-book sp m ws es e k
+  -- the ticket
+  pub saw-ticket : {m n : ℕ → ℕ} {role : ℕ → Role} → Whole h sp m role → Saw sp m n → ticketOf (bookOf m sp) ≡ ticketOf (bookOf n sp)
+  saw-ticket w k = let e = saw-book sp k (book-fits h sp w) in omega (arith, e 4 (omega arith), e 5 (omega arith))
 
-    kept : KeepsNumbers sp (word.after m ws) (after m es)
-    kept = same-keeps (s .whole .booked) same
+  -- WHAT A RUN SHOWS, as its writes alone make memory.
+  pub record Ran (n : ℕ) (m : ℕ → ℕ) (cs : List Act) : Type 0 where
+    pub role : ℕ → Role
+    pub whole : Whole h sp (after m (wrote h sp cs)) role
+    pub obeys : Obeys (walkerOf (settingOf h sp)) (From sp n m) m (wrote h sp cs) (From sp n (after m (wrote h sp cs)))
+    pub ticket : n ≤ ticketOf (bookOf (after m (wrote h sp cs)) sp)
+    pub built : All m (wrote h sp cs) (IsBuilt h sp)
 
--- no call, and one run after another
-ran-none : (h : ℕ → Bool) (sp : Space) (n : ℕ) (m : ℕ → ℕ) (role : ℕ → Role) → Whole h sp m role → n ≤ ticketOf (bookOf m sp) → Ran h sp n m []
-unfolding after
-ran-none h sp n m role w u = record { role = role; whole = w; obeys = obeys-nil (walkerOf (settingOf h sp)) (From sp n m) m; ticket = u }
+  -- ONE CALL, planned of what it saw
+  module _ (n : ℕ) (m : ℕ → ℕ) (role : ℕ → Role) (w : Whole h sp m role) (u : n ≤ ticketOf (bookOf m sp)) (a : Act) (saw : Saw sp m (a .saw)) (within : Within n (a .call)) where
+    abbrev es : List (Event ℕ)
+    es = actWrites h sp a
 
-ran-append : (h : ℕ → Bool) (sp : Space) (n : ℕ) (m : ℕ → ℕ) (es fs : List (Event ℕ)) → Ran h sp n m es → Ran h sp n (after m es) fs → Ran h sp n m (es ++ fs)
-ran-append h sp n m es fs a b = record {
-  role = b .role;
-  whole = subst (λ x. Whole h sp x (b .role)) joined (b .whole);
-  obeys = obeys-append (walkerOf (settingOf h sp)) es fs (From sp n m) (From sp n (after m es)) (From sp n (after m (es ++ fs))) m (a .obeys)
-      (subst (λ x. Obeys (walkerOf (settingOf h sp)) (From sp n (after m es)) (after m es) fs (From sp n x)) joined (b .obeys));
-  ticket = subst (λ x. n ≤ ticketOf (bookOf x sp)) joined (b .ticket);
-}
-  where
-    joined : after (after m es) fs ≡ after m (es ++ fs)
-    joined = sym (after-append es fs m)
+    -- what it saw is whole
+    pub seen-whole : Whole h sp (a .saw) role
+    seen-whole = saw-whole h sp saw w
 
--- every call serves
-abbrev pub Serves : (ℕ → Bool) → Space → ℕ → Type 0
-Serves h sp n = (m : ℕ → ℕ) (role : ℕ → Role) (c : Call) → Within n c → Whole h sp m role → n ≤ ticketOf (bookOf m sp) → Served h sp n m (callWrites h m sp c)
+    pub act-served : Served h sp n (a .saw) (callWrites h (a .saw) sp (a .call))
+    act-served = serves h sp n (a .saw) role (a .call) within seen-whole (omega (arith, u, saw-ticket w saw))
 
--- A RUN OF CALLS
-pub run-ran : (h : ℕ → Bool) (sp : Space) (n : ℕ) → Serves h sp n → (m : ℕ → ℕ) (role : ℕ → Role) (es : List (Event ℕ)) → Whole h sp m role
-    → n ≤ ticketOf (bookOf m sp) → Run h sp n m es → Ran h sp n m es
-run-ran h sp n serve m role [] w u none = ran-none h sp n m role w u
-run-ran h sp n serve m role es w u (call c fs gs v e k r) =
-    let s = call-ran h sp n m (callWrites h m sp c) fs (serve m role c v w u) e k in
-    ran-append h sp n m fs gs s (run-ran h sp n serve (after m fs) (s .role) gs (s .whole) (s .ticket) r)
+    -- the memories after it
+    pub saw-act : Saw sp (after (a .saw) es) (after m es)
+    unfolding wrote
+    saw-act = rw append-nil at (saw-wrote (a ∷ []) (saw-back sp saw))
+
+    abbrev ws : List Write
+    ws = callWrites h (a .saw) sp (a .call)
+
+    saw-end : Saw sp (word.after (a .saw) ws) (after m es)
+    saw-end = subst (λ x. Saw sp x (after m es)) (events-after (a .saw) ws) saw-act
+
+    pub act-whole : Whole h sp (after m es) (act-served .role)
+    act-whole = saw-whole h sp saw-end (act-served .whole)
+
+    pub act-built : All m es (IsBuilt h sp)
+    act-built =
+        others-all sp es (a .saw) m (IsBuilt h sp) (IsBuilt h sp) saw-built (planned-others sp ws m) (saw-back sp saw)
+        (subst (λ l. All (a .saw) l (IsBuilt h sp)) (sym (planned-writes ws)) (act-served .built))
+
+    pub act-obeys : Obeys (walkerOf (settingOf h sp)) (From sp n m) m es (From sp n (after m es))
+    act-obeys =
+        obeys-weaken (walkerOf (settingOf h sp)) es (From sp n m) (From sp n (a .saw)) (From sp n (after m es)) (From sp n (word.after (a .saw) ws)) m
+        (λ x f. (f .0, f .1, saw-keeps w saw .numbers (x / 512) (f .0) (f .2)))
+        (λ x f. (f .0, f .1, saw-keeps (act-served .whole) saw-end .numbers (x / 512) (f .0) (f .2)))
+        (obeys-beside (walkerOf (settingOf h sp)) (PoolWord sp) es (From sp n (a .saw)) (From sp n (word.after (a .saw) ws)) (a .saw) m
+        (from-pool n (a .saw) role seen-whole) (saw-agree h sp (saw-back sp saw)) (others-fair h sp es m (planned-others sp ws m))
+        (subst (λ l. All (a .saw) l (Inside (walkerOf (settingOf h sp)) (PoolWord sp))) (sym (planned-writes ws))
+        (all-map es (a .saw) (IsBuilt h sp) (Inside (walkerOf (settingOf h sp)) (PoolWord sp)) (built-inside h sp) (act-served .built)))
+        (subst (λ l. Obeys (walkerOf (settingOf h sp)) (From sp n (a .saw)) (a .saw) l (From sp n (word.after (a .saw) ws))) (sym (planned-writes ws)) (act-served .obeys)))
+
+    pub act-ticket : n ≤ ticketOf (bookOf (after m es) sp)
+    act-ticket = omega (arith, act-served .ticket, saw-ticket (act-served .whole) saw-end)
+
+  -- A RUN
+  pub run-ran : (n : ℕ) (m : ℕ → ℕ) (role : ℕ → Role) (cs : List Act) → Whole h sp m role → n ≤ ticketOf (bookOf m sp) → Runs h sp m cs → UpTo n cs → Ran n m cs
+  unfolding wrote Runs UpTo after All
+  run-ran n m role [] w u r t = record { role = role; whole = w; obeys = obeys-nil (walkerOf (settingOf h sp)) (From sp n m) m; ticket = u; built = (role, w .sound .built) }
+  run-ran n m role (a ∷ cs) w u r t =
+      let next = run-ran n (after m (actWrites h sp a)) (act-served n m role w u a (r .0) (t .0) .role) cs (act-whole n m role w u a (r .0) (t .0)) (act-ticket n m role w u a (r .0) (t .0)) (r .1) (t .1) in
+      let end : after (after m (actWrites h sp a)) (wrote h sp cs) ≡ after m (actWrites h sp a ++ wrote h sp cs) = sym (after-append (actWrites h sp a) (wrote h sp cs) m) in
+      record {
+        role = next .role;
+        whole = subst (λ x. Whole h sp x (next .role)) end (next .whole);
+        obeys = obeys-append (walkerOf (settingOf h sp)) (actWrites h sp a) (wrote h sp cs) (From sp n m) (From sp n (after m (actWrites h sp a))) (From sp n (after m (actWrites h sp a ++ wrote h sp cs))) m
+            (act-obeys n m role w u a (r .0) (t .0))
+            (subst (λ x. Obeys (walkerOf (settingOf h sp)) (From sp n (after m (actWrites h sp a))) (after m (actWrites h sp a)) (wrote h sp cs) (From sp n x)) end (next .obeys));
+        ticket = subst (λ x. n ≤ ticketOf (bookOf x sp)) end (next .ticket);
+        built = all-append (actWrites h sp a) (wrote h sp cs) m (IsBuilt h sp) (act-built n m role w u a (r .0) (t .0)) (next .built);
+      }
+
+  -- WHAT HAS REACHED MEMORY, at any moment --------------------------------------------------------------------------------------------
+
+  module _ (n : ℕ) (m : ℕ → ℕ) (role : ℕ → Role) (w : Whole h sp m role) (u : n ≤ ticketOf (bookOf m sp)) (cs : List Act) (gs : List (Event ℕ)) (r : Reached h sp n m cs gs) where
+    pub reached-ran : Ran n m cs
+    reached-ran = run-ran n m role cs w u (r .runs) (r .upto)
+
+    -- what holds at every moment of the writes alone, but for marks, holds at every moment
+    pub reached-all : (P Q : (ℕ → ℕ) → Type 0) → ((x y : ℕ → ℕ) → Saw sp x y → P x → Q y) → All m (wrote h sp cs) P → All m gs Q
+    reached-all P Q blind all =
+        others-all sp gs m m P Q blind (r .others) (saw-self sp m) (all-front (writes gs) (r .waiting) m P (subst (λ l. All m l P) (sym (r .in-order)) all))
+
+    pub reached-built : All m gs (IsBuilt h sp)
+    reached-built = reached-all (IsBuilt h sp) (IsBuilt h sp) saw-built (reached-ran .built)
+
+    -- ALL THAT HAPPENS KEEPS THE DISCIPLINE, with the words frozen of pages that were set aside from the ticket on
+    pub reached-safe : Safe (walkerOf (settingOf h sp)) (From sp n m) m gs
+    reached-safe =
+        late-safe (walkerOf (settingOf h sp)) (PoolWord sp) gs (r .waiting) (wrote h sp cs) (r .in-order) m m (λ x o. refl) (others-fair h sp gs m (r .others))
+        (From sp n m) (from-pool n m role w)
+        (all-map (wrote h sp cs) m (IsBuilt h sp) (Inside (walkerOf (settingOf h sp)) (PoolWord sp)) (built-inside h sp) (reached-ran .built))
+        (reached-ran .obeys .safe)
+
+    pub reached-thawed : Safe (walkerOf (settingOf h sp)) Thawed m gs
+    reached-thawed = safe-less (walkerOf (settingOf h sp)) gs Thawed (From sp n m) m (λ x f. absurd f) reached-safe
+
+    -- where nothing waits, memory is what was written, but for marks; and what holds between operations holds
+    pub reached-saw : r .waiting ≡ [] → Saw sp (after m (wrote h sp cs)) (after m gs)
+    reached-saw e =
+        subst (λ l. Saw sp (after m l) (after m gs)) (sym (append-nil (writes gs)) ∙ ap (λ l. writes gs ++ l) (sym e) ∙ r .in-order) (others-saw sp gs m m (r .others) (saw-self sp m))
+
+    pub reached-whole : r .waiting ≡ [] → Whole h sp (after m gs) (reached-ran .role)
+    reached-whole e = saw-whole h sp (reached-saw e) (reached-ran .whole)

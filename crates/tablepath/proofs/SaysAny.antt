@@ -25,6 +25,7 @@ use Rattle.plan.specs.Map.{Placed}
 use Rattle.plan.specs.Unmap as unmap
 use Rattle.plan.specs.Protect as protect
 use Rattle.plan.specs.declared.Reason.{Reason}
+use Rattle.plan.specs.declared.maps.Asked.{Asked}
 use Rattle.plan.specs.declared.maps.Mapping.{Mapping}
 use Rattle.plan.specs.declared.unmaps.Removal.{Removal}
 use Rattle.plan.specs.declared.unmaps.Removing.{Removing}
@@ -52,6 +53,11 @@ pub map-done-by : (k : ℕ) (x : Placed) → mapSaid x ≡ mapped.Done k → (p 
 unfolding mapSaid
 map-done-by k (map.Go p) e = (p, refl, cc)
 map-done-by k (map.Refused r) e = let z : _≡_ {A = ℕ} 0 1 = cc in absurd (omega arith)
+
+-- where it is done, it answers the number of tables that the plan makes
+pub map-goes : (h : ℕ → Bool) (m : ℕ → ℕ) (sp : Space) (q : Asked) (p : Mapping) → map.decideOf h m sp q ≡ map.Go p → mapAnswer h m sp q ≡ mapped.Done (p .fresh .need)
+unfolding mapAnswer mapSaid
+map-goes h m sp q p e = rw e
 
 pub unmap-refused-by : (b : Book) (y : Reason) (x : Removing) → unmapSaid b x ≡ unmapped.Refused y → x ≡ removing.Refused y
 unfolding unmapSaid

@@ -4,19 +4,19 @@ use mathlib.Core.Bool.{Bool, true, false, cond, _&&_}
 use mathlib.Core.List.{List, [], _∷_}
 use mathlib.Core.Logic.{_⊎_, inl, inr, _≢_}
 use mathlib.Core.Path.{_≡_, refl, sym, ap, _∙_, subst}
-use native.Mathlib.Decide.{decLe}
+use native.Mathlib.Decide.{decLe, decLt}
 use native.Mathlib.Omega.{arith}
 use Rattle.word.specs.Writes.{Write, after}
 use Rattle.word.proofs.Writes.{Every, every-map}
 use Rattle.entry.specs.declared.Rights.{Rights}
-use Rattle.world.specs.Events.{Among, all-map}
+use Rattle.world.specs.Events.{Among, All, all-map}
 use Rattle.world.specs.Rules.{Obeys, obeys-nil}
 use Rattle.world.specs.Frozen.{SomeReads, obeys-from, among-none}
-use Rattle.tables.specs.Roles.{Role, aside, left, Built}
+use Rattle.tables.specs.Roles.{Role, foreign, free, aside, book, root, table, left, Built}
 use Rattle.tables.specs.Discipline.{Aside, walkerOf, unread}
 use Rattle.tables.specs.Clearing.{Spare, book-spare, eventsOf, spare-untouched}
 use Rattle.pool.specs.Book.{wordOf, bookOf, ticketOf, openedOf, dueOf}
-use Rattle.pool.specs.Booked.{settingOf, released}
+use Rattle.pool.specs.Booked.{settingOf, released, Numbered}
 use Rattle.pool.specs.Changes.{releaseWrites}
 use Rattle.pool.specs.declared.Space.{Space}
 use Rattle.pool.specs.declared.Book.{Book}
@@ -25,6 +25,7 @@ use Rattle.pool.specs.declared.Due.the-variants as due
 use Rattle.pool.specs.declared.Opened.{Opened}
 use Rattle.pool.specs.declared.Opened.the-variants as opened
 use Rattle.pool.proofs.Proper.{release-proper}
+use Rattle.pool.proofs.Releasing.{has-number, one-number}
 use Rattle.plan.specs.Map as map
 use Rattle.plan.specs.Unmap as unmap
 use Rattle.plan.specs.Protect as protect
@@ -47,14 +48,21 @@ use Rattle.effect.proofs.Exactly.{told-exactly}
 use Rattle.tablepath.specs.Answers.{mapWrites, unmapWrites, protectWrites, toldWrites, toldDid, dueDid}
 use Rattle.tablepath.specs.Calls.{Call, Within, callWrites, From}
 use Rattle.tablepath.specs.Calls as calls
-use Rattle.tablepath.proofs.Serving.{Served, changed-serves, numbered-aside}
-use Rattle.tablepath.proofs.Running.{Serves}
+use Rattle.tablepath.proofs.Serving.{IsBuilt, Served, changed-serves, numbered-aside}
+
+is-aside : (r : Role) → (r ≡ aside) ⊎ (r ≢ aside)
+is-aside aside = inl refl
+is-aside foreign = inr (λ e. let z : _≡_ {A = ℕ} 0 1 = cc in omega arith)
+is-aside free = inr (λ e. let z : _≡_ {A = ℕ} 0 1 = cc in omega arith)
+is-aside book = inr (λ e. let z : _≡_ {A = ℕ} 0 1 = cc in omega arith)
+is-aside root = inr (λ e. let z : _≡_ {A = ℕ} 0 1 = cc in omega arith)
+is-aside (table l q i) = inr (λ e. let z : _≡_ {A = ℕ} 0 1 = cc in omega arith)
 
 module _ (h : ℕ → Bool) (sp : Space) (n : ℕ) (m : ℕ → ℕ) (role : ℕ → Role) (w : Whole h sp m role) (u : n ≤ ticketOf (bookOf m sp)) where
   -- a call that is refused writes nothing
   none-served : Served h sp n m []
-  unfolding after eventsOf
-  none-served = record { role = role; whole = w; obeys = obeys-nil (walkerOf (settingOf h sp)) (From sp n m) m; ticket = u }
+  unfolding after eventsOf All
+  none-served = record { role = role; whole = w; obeys = obeys-nil (walkerOf (settingOf h sp)) (From sp n m) m; ticket = u; built = (role, w .sound .built); earlier = λ p k e v. e }
 
   map-served : (q : Asked) (x : Placed) → map.decideOf h m sp q ≡ x → Served h sp n m (map.didOf sp x)
   unfolding map.didOf
@@ -80,7 +88,7 @@ module _ (h : ℕ → Bool) (sp : Space) (n : ℕ) (m : ℕ → ℕ) (role : ℕ
   -- a report -----------------------------------------------------------------------------------------------------------------------
 
   -- what it writes is the book's: no walk comes there, and no page set aside is read meanwhile
-  release-spare : (k : ℕ) → Every (Spare role) (releaseWrites sp (bookOf m sp) k)
+  pub release-spare : (k : ℕ) → Every (Spare role) (releaseWrites sp (bookOf m sp) k)
   release-spare k = every-map (λ q v. book-spare role q (w .booked .in-book q (v .0) (v .1))) _ (release-proper sp (bookOf m sp) k)
 
   told-obeys : (t k : ℕ) → t ≤ n → ToldDone h sp m role t k
@@ -96,20 +104,44 @@ module _ (h : ℕ → Bool) (sp : Space) (n : ℕ) (m : ℕ → ℕ) (role : ℕ
       ws : List Write
       ws = releaseWrites sp (bookOf m sp) k
 
+  -- a page that is set aside still had its number before
+  told-earlier : (t k : ℕ) → ToldDone h sp m role t k → (p j : ℕ) → Numbered (after m (releaseWrites sp (bookOf m sp) k)) sp p j → Numbered m sp p j
+  told-earlier t k d p j f = go (is-aside (role p))
+    where
+      now-aside : released m sp k role p ≡ aside
+      now-aside = numbered-aside (d .whole .booked) p j f
+
+      go : (role p ≡ aside) ⊎ (role p ≢ aside) → Numbered m sp p j
+      go (inr e) = absurd (e (sym (d .others p e) ∙ now-aside))
+      go (inl e) = let g = has-number (w .booked) p e in elim (decLt (g .0) t) [
+        | yes v ↦ let z : _≡_ {A = ℕ} 0 1 = cc (now-aside, d .frees p (g .0) (g .1) v) in absurd (omega arith)
+        | no v ↦
+            let same : g .0 ≡ j = one-number (d .whole .booked) p (g .0) j (d .stays p (g .0) (g .1) (omega arith) .1) f in
+            subst (Numbered m sp p) same (g .1)
+      ]
+
   due-served : (t : ℕ) (x : Due) → t ≤ n → dueOf (bookOf m sp) t ≡ x → Served h sp n m (dueDid sp (bookOf m sp) x)
   unfolding dueDid
   due-served t due.Unknown v e = none-served
   due-served t due.Spent v e = none-served
   due-served t (due.Pages k) v e =
       let d = effect.told w t k e in
-      record { role = released m sp k role; whole = d .whole; obeys = told-obeys t k v d; ticket = rw (release-ticket (w .booked) k (d .enough)) u }
+      record {
+        role = released m sp k role;
+        whole = d .whole;
+        obeys = told-obeys t k v d;
+        ticket = rw (release-ticket (w .booked) k (d .enough)) u;
+        built = all-map _ m _ (IsBuilt h sp) (λ x b. (role, b)) (spare-untouched (releaseWrites sp (bookOf m sp) k) (w .sound .built) (release-spare k) .moments);
+        earlier = λ p j f y. told-earlier t k d p j f;
+      }
 
   told-served : (t : ℕ) → t ≤ n → Served h sp n m (toldWrites h m sp t)
   unfolding toldWrites toldDid
   told-served t v = rw (book-opens w) (due-served t (dueOf (bookOf m sp) t) v refl)
 
 -- EVERY CALL SERVES
-pub serves : (h : ℕ → Bool) (sp : Space) (n : ℕ) → Serves h sp n
+pub serves : (h : ℕ → Bool) (sp : Space) (n : ℕ) (m : ℕ → ℕ) (role : ℕ → Role) (c : Call) → Within n c → Whole h sp m role → n ≤ ticketOf (bookOf m sp)
+    → Served h sp n m (callWrites h m sp c)
 unfolding callWrites mapWrites unmapWrites protectWrites
 serves h sp n m role (calls.map q) v w u = map-served h sp n m role w u q (map.decideOf h m sp q) refl
 serves h sp n m role (calls.unmap va) v w u = unmap-served h sp n m role w u va (unmap.decideOf h m sp va) refl

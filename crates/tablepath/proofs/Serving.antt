@@ -11,10 +11,10 @@ use Rattle.world.specs.Events.{Event, Among, All, all-map}
 use Rattle.world.specs.Events as world
 use Rattle.world.specs.Rules.{Obeys}
 use Rattle.world.specs.Frozen.{SomeReads, obeys-from, among-none}
-use Rattle.tables.specs.Roles.{Setting, Role, aside, left, Sound}
-use Rattle.tables.specs.Discipline.{Aside, walkerOf, ObeysOf, Unread}
+use Rattle.tables.specs.Roles.{Role, aside, left, Built}
+use Rattle.tables.specs.Discipline.{Aside, walkerOf, Unread}
 use Rattle.tables.specs.Clearing.{eventsOf, events-after}
-use Rattle.tables.specs.Operation.{Changed, changed-unread}
+use Rattle.tables.specs.Operation.{Moment, Changed, changed-unread}
 use Rattle.pool.specs.Book.{bookOf, ticketOf}
 use Rattle.pool.specs.Booked.{settingOf, Booked, Numbered}
 use Rattle.pool.specs.declared.Space.{Space}
@@ -22,18 +22,24 @@ use Rattle.pool.proofs.Releasing.{has-number}
 use Rattle.effect.specs.Whole.{Whole}
 use Rattle.tablepath.specs.Calls.{From}
 use Rattle.effect.specs.Numbers.{KeepsNumbers}
-use Rattle.effect.proofs.Numbers.{later-number}
+use Rattle.effect.proofs.Numbers.{earlier-number, later-number}
 
 -- a numbered page is set aside
 pub numbered-aside : {sp : Space} {m : ℕ → ℕ} {role : ℕ → Role} → Booked sp m role → (p k : ℕ) → Numbered m sp p k → role p ≡ aside
 numbered-aside {role = role} b p k h = ap role (sym (h .2)) ∙ b .lists .asides (h .0) (h .1)
 
--- WHAT A CALL SHOWS
+-- the tables are built, with some roles
+abbrev pub IsBuilt : (ℕ → Bool) → Space → (ℕ → ℕ) → Type 0
+IsBuilt h sp x = (role : ℕ → Role) × Built (settingOf h sp) x role
+
+-- WHAT A CALL SHOWS. earlier: a page with a number below the ticket had it before.
 pub record Served (h : ℕ → Bool) (sp : Space) (n : ℕ) (m : ℕ → ℕ) (ws : List Write) : Type 0 where
   pub role : ℕ → Role
   pub whole : Whole h sp (after m ws) role
   pub obeys : Obeys (walkerOf (settingOf h sp)) (From sp n m) m (eventsOf ws) (From sp n (after m ws))
   pub ticket : n ≤ ticketOf (bookOf (after m ws) sp)
+  pub built : All m (eventsOf ws) (IsBuilt h sp)
+  pub earlier : (p k : ℕ) → Numbered (after m ws) sp p k → k < ticketOf (bookOf m sp) → Numbered m sp p k
 
 -- AN OPERATION THAT CHANGES THE MEANING serves
 pub changed-serves : {h : ℕ → Bool} {sp : Space} {n : ℕ} {m : ℕ → ℕ} {role role' : ℕ → Role} {va l : ℕ} {o : Found} {ws : List Write} → Whole h sp m role
@@ -47,6 +53,8 @@ changed-serves {h} {sp} {n} {m} {role} {role'} {ws = ws} w u c w' k = record {
       (λ x f. (f .0, f .1, k .numbers (x / 512) (f .0) (f .2)))
       new;
   ticket = omega (arith, k .tickets, k .more);
+  built = all-map (eventsOf ws) m (Moment (settingOf h sp) role role') (IsBuilt h sp) (λ x t. (t .roles, t .built)) (c .moments);
+  earlier = earlier-number k;
 }
   where
     -- what the operation froze, it set aside itself

@@ -119,7 +119,7 @@ module _ (s : List ℕ) (e : length s ≡ 20480) where
   abbrev pub bytes : List ℕ
   bytes = carried s 0 (createWrites (length s) (holds s 0) 0 0 5)
 
-  start : WholeBytes bytes five (newRole five)
+  pub start : WholeBytes bytes five (newRole five)
   start = create-whole s 0 0 5 1 made .1
 
   enough : bookOf (memory bytes 0) five .free ≡ 3

@@ -9,7 +9,8 @@ use Rattle.world.specs.Events.{Event, after}
 use Rattle.world.specs.Marks.{writes}
 use Rattle.tables.specs.Roles.{Role}
 use Rattle.tables.specs.Clearing.{eventsOf}
-use Rattle.pool.specs.Book.{bookPages, bookOf, ticketOf, openedOf}
+use Rattle.pool.specs.Layout.{bookPages}
+use Rattle.pool.specs.Book.{bookOf, ticketOf, openedOf}
 use Rattle.pool.specs.Booked.{howMany, isFree, isAside, tablesOf}
 use Rattle.pool.specs.State.{stateOf}
 use Rattle.pool.specs.declared.Space.{Space}

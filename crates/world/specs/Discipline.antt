@@ -6,9 +6,9 @@ use mathlib.Core.Logic.{_⊎_, inl, inr}
 use Prim.Native.Nat.{ℕ}
 use Rattle.word.specs.Memory.{set}
 use Rattle.word.proofs.Set.{set-other}
-use Rattle.world.specs.Events.{Event, write, mark, happen, after, Among, All, mark-same}
+use Rattle.world.specs.Events.{Event, write, mark, store, happen, after, Among, All, mark-same}
 use Rattle.world.specs.Walker.{Walker, meaning, Gives, Reads, Below, On, here}
-use Rattle.world.specs.Ways.{follows-step, follows-agree, on-step, on-follows, on-same, on-write}
+use Rattle.world.specs.Ways.{follows-step, follows-agree, on-step, on-follows, on-same, on-write, below-reads}
 use Rattle.world.specs.Held.{Holds, None, Can, Always, always-held, Harmless, Lawful, Had, lawful-had, lawful-moment}
 
 module _ {Word View Address Place Answer : Type 0} (W : Walker Word View Address Place Answer) where
@@ -23,11 +23,12 @@ module _ {Word View Address Place Answer : Type 0} (W : Walker Word View Address
   Grow F m a x = F x ⊎ Cuts m a x
 
   -- THE DISCIPLINE. A write freezes what it may cut off, and hits no frozen cell, not even one that it freezes itself. A mark shows every
-  -- walk what was there.
+  -- walk what was there. Another program stores where no walk reads, and into no frozen cell.
   unfoldable pub Safe : (ℕ → Type 0) → (ℕ → Word) → List (Event Word) → Type 0
   Safe F m [] = Unit {0}
   Safe F m (write a v ∷ es) = (¬ Grow F m a a) × Safe (Grow F m a) (set m a v) es
   Safe F m (mark a v ∷ es) = (see v ≡ see (m a)) × Safe F (set m a v) es
+  Safe F m (store a v ∷ es) = (¬ F a) × ((va : Address) → ¬ Reads W m va (start va) a) × Safe F (set m a v) es
 
   -- What is held is on its way, or all that it has still to read is frozen.
   abbrev Kept : (ℕ → Type 0) → (ℕ → Word) → Address → Place → Type 0
@@ -69,6 +70,15 @@ module _ {Word View Address Place Answer : Type 0} (W : Walker Word View Address
   mild-mark F m a v e va p (inl o) = mild-on F m (set m a v) va p (on-same W m (set m a v) va p (start va) (mark-same see m a v e) o)
   mild-mark F m a v e va p (inr f) = mild-unseen F m (set m a v) va p (λ x r. mark-same see m a v e x) f
 
+  mild-store : (F : ℕ → Type 0) (m : ℕ → Word) (a : ℕ) (v : Word) → ¬ F a → ((va : Address) → ¬ Reads W m va (start va) a) → (va : Address) (p : Place) → Kept F m va p
+      → Mild F m (set m a v) va p
+  mild-store F m a v n u va p (inr f) = mild-frozen F m a v va p n f
+  mild-store F m a v n u va p (inl o) = go (on-write W m a v va p (start va) o)
+    where
+      go : On W (set m a v) va p (start va) ⊎ ((x : ℕ) → Reads W m va p x → Below W m va (start va) a x) → Mild F m (set m a v) va p
+      go (inl o') = mild-on F m (set m a v) va p o'
+      go (inr c) = mild-frozen F m a v va p n (λ x r. absurd (u va (below-reads W m va (left (start va)) (start va) a x (c x r))))
+
   lawful-more : (e : Event Word) (es : List (Event Word)) (F G : ℕ → Type 0) (m : ℕ → Word) (H : Address → Place → Type 0) → Always W (Kept F m) H
       → ((va : Address) (p : Place) → Kept F m va p → Mild G m (happen m e) va p)
       → (Always W (Kept G (happen m e)) (Holds W m H) → Lawful W (happen m e) es (Holds W m H)) → Lawful W m (e ∷ es) H
@@ -84,6 +94,8 @@ module _ {Word View Address Place Answer : Type 0} (W : Walker Word View Address
       lawful-more (write a v) es F (Grow F m a) m H h (mild-write F m a v (s .0)) (λ k. safe-lawful es (Grow F m a) (set m a v) (Holds W m H) k (s .1))
   safe-lawful (mark a v ∷ es) F m H h s =
       lawful-more (mark a v) es F F m H h (mild-mark F m a v (s .0)) (λ k. safe-lawful es F (set m a v) (Holds W m H) k (s .1))
+  safe-lawful (store a v ∷ es) F m H h s =
+      lawful-more (store a v) es F F m H h (mild-store F m a v (s .0) (s .1)) (λ k. safe-lawful es F (set m a v) (Holds W m H) k (s .2))
 
   safe-none : (es : List (Event Word)) (F : ℕ → Type 0) (m : ℕ → Word) → Safe F m es → Lawful W m es (None W)
   safe-none es F m = safe-lawful es F m (None W) (λ va p n. absurd n)

@@ -6,13 +6,13 @@ use mathlib.Core.Logic.{_⊎_, inl, inr}
 use Prim.Native.Nat.{ℕ}
 use Rattle.word.specs.Memory.{set}
 use Rattle.word.proofs.Set.{set-other}
-use Rattle.world.specs.Events.{Event, write, happen, after, after-append, All, all-map, all-last, all-append}
-use Rattle.world.specs.Walker.{Walker, meaning, Gives, Reads, Same}
+use Rattle.world.specs.Events.{Event, write, happen, after, after-append, All, all-map, all-both, all-last, all-append}
+use Rattle.world.specs.Walker.{Walker, meaning, Gives, Reads}
 use Rattle.world.specs.Ways.{follows-agree}
 use Rattle.world.specs.Held.{None, Can, starts, Had}
 use Rattle.world.specs.Discipline.{interleaving-had}
-use Rattle.world.specs.Rules.{Obeys}
-use Rattle.world.specs.Marks.{writes, Fair, obeys-beside, same-beside, all-beside}
+use Rattle.world.specs.Rules.{Obeys, Shows}
+use Rattle.world.specs.Marks.{writes, Fair, Inside, Agree, obeys-beside, agree-beside, all-beside}
 use Rattle.world.specs.Turns.{Turn, events, begun, places, places-held}
 
 module _ {Word View Address Place Answer : Type 0} (W : Walker Word View Address Place Answer) where
@@ -40,8 +40,9 @@ module _ {Word View Address Place Answer : Type 0} (W : Walker Word View Address
   abbrev pub OldOrNew : (m m' : ℕ → Word) → (ℕ → Word) → Type 0
   OldOrNew m m' n = SameMeaning m n ⊎ SameMeaning m' n
 
-  same-meaning : (m m' : ℕ → Word) → Same W m m' → SameMeaning m m'
-  same-meaning m m' e va = follows-agree W va m m' (start va) (λ x r. e x) .comes
+  -- memories that show walks the same mean the same
+  pub same-meaning : (m m' : ℕ → Word) → Shows W m m' → SameMeaning m m'
+  same-meaning m m' e va = follows-agree W va m m' (start va) (e va) .comes
 
   pub old-or-new : (es : List (Event Word)) (m : ℕ → Word) → OneChange m es → All m es (OldOrNew m (after m es))
   unfolding All after happen
@@ -57,35 +58,47 @@ module _ {Word View Address Place Answer : Type 0} (W : Walker Word View Address
       end va = ap (λ n. meaning W n va) (ap (after m) (c .split) ∙ after-append (c .front) (write (c .place) (c .word) ∷ c .back) m)
           ∙ all-last (c .back) next (SameMeaning next) (c .new) va
 
-  -- BESIDE ONE CHANGE, with the machine's marks in between: whatever a walk ends with or a cache gives is what its address meant before, or
-  -- what it means after. (A cache that is empty at first: what it holds from before, see Reports.antt.)
-  pub one-change : (es : List (Event Word)) (F G : ℕ → Type 0) (m : ℕ → Word) → Fair W m es → Obeys W F m (writes es) G → OneChange m (writes es)
-      → (va : Address) (p : Place) (o : Answer) → Can W m es (None W) va p → Gives W va p o → (o ≡ meaning W m va) ⊎ (o ≡ meaning W (after m es) va)
-  one-change es F G m f b c va p o h g = go (t .good)
+  -- At every moment, with marks and others' stores in between, all is old or all is new.
+  pub old-or-new-beside : (Ours : ℕ → Type 0) (es : List (Event Word)) (m m' : ℕ → Word) → Agree W Ours m m' → Fair W Ours m' es → All m (writes es) (Inside W Ours)
+      → OneChange m (writes es) → All m' es (OldOrNew m (after m (writes es)))
+  old-or-new-beside Ours es m m' e f i c =
+      all-beside W Ours es m m' (λ n. Inside W Ours n × OldOrNew m end n) (OldOrNew m end) blind e f (all-both (writes es) m _ _ i (old-or-new (writes es) m c))
     where
       end : ℕ → Word
       end = after m (writes es)
 
-      blind : (n n' : ℕ → Word) → Same W n n' → OldOrNew m end n → OldOrNew m end n'
-      blind n n' e (inl q) = inl (λ vb. same-meaning n n' e vb ∙ q vb)
-      blind n n' e (inr q) = inr (λ vb. same-meaning n n' e vb ∙ q vb)
+      blind : (n n' : ℕ → Word) → Agree W Ours n n' → Inside W Ours n × OldOrNew m end n → OldOrNew m end n'
+      blind n n' a (j, inl q) = inl (λ vb. same-meaning n n' (λ vc x r. a x (j vc x r)) vb ∙ q vb)
+      blind n n' a (j, inr q) = inr (λ vb. same-meaning n n' (λ vc x r. a x (j vc x r)) vb ∙ q vb)
+
+  -- BESIDE ONE CHANGE, with marks and others' stores in between: whatever a walk ends with or a cache gives is what its address meant before,
+  -- or what it means after. (A cache that is empty at first: what it holds from before, see Reports.antt.)
+  pub one-change : (Ours : ℕ → Type 0) (es : List (Event Word)) (F G : ℕ → Type 0) (m : ℕ → Word) → ((x : ℕ) → F x → Ours x) → Fair W Ours m es
+      → All m (writes es) (Inside W Ours) → Obeys W F m (writes es) G → OneChange m (writes es)
+      → (va : Address) (p : Place) (o : Answer) → Can W m es (None W) va p → Gives W va p o → (o ≡ meaning W m va) ⊎ (o ≡ meaning W (after m es) va)
+  one-change Ours es F G m u f i b c va p o h g = go (t .good)
+    where
+      end : ℕ → Word
+      end = after m (writes es)
 
       t : Had W (OldOrNew m end) (after m es) va p
-      t = interleaving-had W es F m (obeys-beside W es F G m f b .safe) (OldOrNew m end) (all-beside W es m m (OldOrNew m end) blind (λ x. refl) f (old-or-new (writes es) m c)) va p h
+      t = interleaving-had W es F m (obeys-beside W Ours es F G m m u (λ x k. refl) f i b .safe) (OldOrNew m end) (old-or-new-beside Ours es m m (λ x k. refl) f i c) va p h
 
       is : o ≡ meaning W (t .moment) va
       is = sym (g (after m es)) ∙ t .follows .comes
 
       go : OldOrNew m end (t .moment) → (o ≡ meaning W m va) ⊎ (o ≡ meaning W (after m es) va)
       go (inl q) = inl (is ∙ q va)
-      go (inr q) = inr (is ∙ q va ∙ sym (same-meaning end (after m es) (same-beside W es m m (λ x. refl) f) va))
+      go (inr q) =
+          let last = all-last (writes es) m (Inside W Ours) i in
+          inr (is ∙ q va ∙ sym (same-meaning end (after m es) (λ vb x r. agree-beside W Ours es m m (λ y k. refl) f x (last vb x r)) va))
 
   -- The same for any number of walks in turn.
-  pub one-change-each-walk : (who : ℕ → Address) (ts : List (Turn Word)) (F G : ℕ → Type 0) (m : ℕ → Word) → Fair W m (events ts)
-      → Obeys W F m (writes (events ts)) G → OneChange m (writes (events ts)) → (i : ℕ) (o : Answer) → Gives W (who i) (places W who m (begun W who) ts i) o
+  pub one-change-each-walk : (Ours : ℕ → Type 0) (who : ℕ → Address) (ts : List (Turn Word)) (F G : ℕ → Type 0) (m : ℕ → Word) → ((x : ℕ) → F x → Ours x)
+      → Fair W Ours m (events ts) → All m (writes (events ts)) (Inside W Ours) → Obeys W F m (writes (events ts)) G → OneChange m (writes (events ts)) → (i : ℕ) (o : Answer) → Gives W (who i) (places W who m (begun W who) ts i) o
       → (o ≡ meaning W m (who i)) ⊎ (o ≡ meaning W (after m (events ts)) (who i))
-  one-change-each-walk who ts F G m f b c i o =
-      one-change (events ts) F G m f b c (who i) (places W who m (begun W who) ts i) o (places-held W who ts m (None W) (begun W who) i starts)
+  one-change-each-walk Ours who ts F G m u f j b c i o =
+      one-change Ours (events ts) F G m u f j b c (who i) (places W who m (begun W who) ts i) o (places-held W who ts m (None W) (begun W who) i starts)
 
   -- RULES. Quiet lists: none, one event more, one list after the other.
   pub quiet-nil : (m : ℕ → Word) → Quiet m []

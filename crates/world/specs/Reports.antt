@@ -1,122 +1,157 @@
--- REPORTS: the caller says that every walk begun before has ended and that every cache has dropped what it had. Then the frozen cells
--- may be written again, and what was taken away before is reached no more.
-use mathlib.Core.Path.{_≡_, refl, sym, _∙_, subst}
-use mathlib.Core.List.{List, [], _++_}
+-- REPORTS. The caller tells processors of addresses (on x86-64: INVLPG of each, on every processor that may use these tables) and waits until
+-- all have answered: a shootdown. Here is what may be held then, and what the caller and the code promise.
+use mathlib.Core.Path.{_≡_}
+use mathlib.Core.List.{List, [], _∷_, _++_}
+use mathlib.Core.Logic.{_⊎_}
 use Prim.Native.Nat.{ℕ}
-use Rattle.world.specs.Events.{Event, after, after-append, Among, All}
-use Rattle.world.specs.Walker.{Walker, meaning, Gives, Reads}
-use Rattle.world.specs.Held.{None, Can}
-use Rattle.world.specs.Discipline.{Safe, interleaving, interleaving-had}
-use Rattle.world.specs.Rules.{frozen, Obeys, obeys-nil, obeys-append}
+use Rattle.world.specs.Events.{Event, happen, Among}
+use Rattle.world.specs.Walker.{Walker, meaning, Gives, Reads, On}
+use Rattle.world.specs.Held.{Holds, None, Can}
+use Rattle.world.specs.Discipline.{Safe}
 
--- From the beginning: the memory then, and what happened; then a report, and what happened since; and so on.
-pub data History (Word : Type 0) : Type 0 where
-  first : (ℕ → Word) → List (Event Word) → History Word
-  report : History Word → List (Event Word) → History Word
+-- WHAT HAPPENS, from the first memory on: memory changes; a shootdown begins; the oldest shootdown under way is done, of these addresses. (One
+-- that is done before an older one counts as done with it.)
+pub data History (Word Address : Type 0) : Type 1 where
+  first : (ℕ → Word) → History Word Address
+  happens : History Word Address → Event Word → History Word Address
+  begins : History Word Address → History Word Address
+  done : History Word Address → (Address → Type 0) → History Word Address
+
+-- A PERIOD: a moment, and what has happened since
+pub record Period (Word : Type 0) : Type 0 where
+  pub began : ℕ → Word
+  pub since : List (Event Word)
 
 module _ {Word : Type 0} where
+  -- it begins now
+  abbrev pub fromNow : (ℕ → Word) → Period Word
+  fromNow m = record { began = m; since = [] }
+
+  -- one event more
+  abbrev pub longer : Event Word → Period Word → Period Word
+  longer e q = record { began = q .began; since = q .since ++ (e ∷ []) }
+
+  unfoldable pub eachLonger : Event Word → List (Period Word) → List (Period Word)
+  eachLonger e [] = []
+  eachLonger e (q ∷ qs) = longer e q ∷ eachLonger e qs
+
+  -- the oldest, and the others; where there is none, one that begins now
+  unfoldable pub oldest : (ℕ → Word) → List (Period Word) → Period Word
+  oldest m [] = fromNow m
+  oldest m (q ∷ qs) = q
+
+  unfoldable pub younger : List (Period Word) → List (Period Word)
+  younger [] = []
+  younger (q ∷ qs) = qs
+
+module _ {Word Address : Type 0} where
   -- the memory now
-  unfoldable pub now : History Word → ℕ → Word
-  now (first m es) = after m es
-  now (report h es) = after (now h) es
+  unfoldable pub now : History Word Address → ℕ → Word
+  now (first m) = m
+  now (happens h e) = happen (now h) e
+  now (begins h) = now h
+  now (done h T) = now h
 
-  -- the memory at the last report, or at the beginning
-  unfoldable pub began : History Word → ℕ → Word
-  began (first m es) = m
-  began (report h es) = now h
+  -- the periods since the shootdowns began that are under way, the oldest first
+  unfoldable pub underway : History Word Address → List (Period Word)
+  underway (first m) = []
+  underway (happens h e) = eachLonger e (underway h)
+  underway (begins h) = underway h ++ (fromNow (now h) ∷ [])
+  underway (done h T) = younger (underway h)
 
-  -- what happened since
-  unfoldable pub since : History Word → List (Event Word)
-  since (first m es) = es
-  since (report h es) = es
+  -- the period since the shootdown under way began that is the next to be done
+  abbrev pub next : History Word Address → Period Word
+  next h = oldest (now h) (underway h)
 
-  -- more happens
-  unfoldable pub more : History Word → List (Event Word) → History Word
-  more (first m es) fs = first m (es ++ fs)
-  more (report h es) fs = report h (es ++ fs)
-
-  now-since : (h : History Word) → now h ≡ after (began h) (since h)
-  unfolding now began since
-  now-since (first m es) = refl
-  now-since (report h es) = refl
-
-  pub now-more : (h : History Word) (fs : List (Event Word)) → now (more h fs) ≡ after (now h) fs
-  unfolding now more
-  now-more (first m es) fs = after-append es fs m
-  now-more (report h es) fs = after-append es fs (now h)
+  -- THE LAST PERIOD: since the shootdown began that was done last; or since the first memory
+  unfoldable pub last : History Word Address → Period Word
+  last (first m) = fromNow m
+  last (happens h e) = longer e (last h)
+  last (begins h) = last h
+  last (done h T) = next h
 
 -- no cell is frozen
 abbrev pub Thawed : ℕ → Type 0
 Thawed x = ⊥
 
+-- WHAT A CACHE MAY KEEP over a shootdown: half-done walks (upper entries), and finished translations, each of which gives a page. (A
+-- processor keeps no absence.)
+pub record Caches (Place Answer : Type 0) : Type 1 where
+  pub half : Place → Type 0
+  pub finished : Place → Type 0
+  pub page : Answer → Type 0
+
+-- C keeps no more than D
+pub record NoMore {Place Answer : Type 0} (C D : Caches Place Answer) : Type 0 where
+  pub half : (p : Place) → C .half p → D .half p
+  pub finished : (p : Place) → C .finished p → D .finished p
+
 module _ {Word View Address Place Answer : Type 0} (W : Walker Word View Address Place Answer) where
-  open Walker W using (start)
+  open Walker W using (start, left, step, Alike)
 
-  -- WHAT THE CALLER PROMISES by a report: of all that was held before it (H), on a way or in a cache, this is held after it: nothing.
-  unfoldable pub Told : (Address → Place → Type 0) → Address → Place → Type 0
-  Told H va p = ⊥
+  -- A finished translation reads nothing more, stays finished, and gives a page.
+  pub record Finishes (C : Caches Place Answer) : Type 0 where
+    pub rests : (p : Place) → C .finished p → (m : ℕ → Word) (va : Address) (x : ℕ) → ¬ Reads W m va p x
+    pub stays : (p : Place) → C .finished p → (m : ℕ → Word) (va : Address) → C .finished (step m va p)
+    pub gives : (p : Place) → C .finished p → (va : Address) (o : Answer) → Gives W va p o → C .page o
 
-  -- what may be held now
-  unfoldable pub Held : History Word → Address → Place → Type 0
-  Held (first m es) = Can W m es (None W)
-  Held (report h es) = Can W (now h) es (Told (Held h))
+  -- what is held by those who began in the period
+  abbrev pub Since : Period Word → Address → Place → Type 0
+  Since q = Can W (q .began) (q .since) (None W)
 
-  -- The discipline is kept all along; it begins anew at each report.
-  unfoldable pub Keeps : History Word → Type 0
-  Keeps (first m es) = Safe W Thawed m es
-  Keeps (report h es) = Keeps h × Safe W Thawed (now h) es
+  -- p was on the way of va at some moment of the period
+  abbrev pub OnWay : Period Word → Address → Place → Type 0
+  OnWay q va p = Among (q .began) (q .since) (λ m. On W m va p (start va))
 
-  held-since : (h : History Word) (va : Address) (p : Place) → Held h va p → Can W (began h) (since h) (None W) va p
-  unfolding Held Told began since
-  held-since (first m es) va p c = c
-  held-since (report h es) va p c = c
+  -- va meant o at some moment of the period
+  abbrev pub Meant : Period Word → Address → Answer → Type 0
+  Meant q va o = Among (q .began) (q .since) (λ m. meaning W m va ≡ o)
 
-  keeps-since : (h : History Word) → Keeps h → Safe W Thawed (began h) (since h)
-  unfolding Keeps began since
-  keeps-since (first m es) k = k
-  keeps-since (report h es) k = k .1
+  -- va meant at some moment of the period what is of o's kind
+  abbrev pub MeantLike : {Kind : Type 0} → (Answer → Kind) → Period Word → Address → Answer → Type 0
+  MeantLike kind q va o = Among (q .began) (q .since) (λ m. kind (meaning W m va) ≡ kind o)
 
-  -- Whatever a walk ends with, or a cache gives, is what its address meant at some moment since the last report.
-  pub answers-since : (h : History Word) → Keeps h → (va : Address) (p : Place) (o : Answer) → Held h va p → Gives W va p o
-      → Among (began h) (since h) (λ m'. meaning W m' va ≡ o)
-  answers-since h k va p o c = interleaving W (since h) Thawed (began h) (keeps-since h k) va p o (held-since h va p c)
+  -- p serves no told address
+  abbrev pub Untold : (Address → Type 0) → Address → Place → Type 0
+  Untold T va p = (t : Address) → T t → ¬ Alike (left p) va t
 
-  -- So what is so of the meaning at every moment since is so of every answer: a page that was unmapped before the report, and not mapped
-  -- since, is given by no walk and by no cache.
-  pub answers-all : (h : History Word) → Keeps h → (va : Address) (Q : Answer → Type 0) → All (began h) (since h) (λ m'. Q (meaning W m' va))
-      → (p : Place) (o : Answer) → Held h va p → Gives W va p o → Q o
-  answers-all h k va Q g p o c e =
-      let t = interleaving-had W (since h) Thawed (began h) (keeps-since h k) _ g va p (held-since h va p c) in
-      subst Q (sym (t .follows .comes) ∙ e _) (t .good)
+  -- THE DISCIPLINE is kept in every last period; what was frozen before it began may be written.
+  abbrev pub SafeIn : Period Word → Type 0
+  SafeIn q = Safe W Thawed (q .began) (q .since)
 
-  -- And a cell that the walk of the address reads at no moment since is read from no place that is held: a table that was set aside before
-  -- the report, and not linked since, is reached by no walk and from no cache.
-  pub reaches-none : (h : History Word) → Keeps h → (va : Address) (x : ℕ) → All (began h) (since h) (λ m'. ¬ Reads W m' va (start va) x)
-      → (p : Place) → Held h va p → ¬ Reads W (now h) va p x
-  reaches-none h k va x g p c r =
-      let t = interleaving-had W (since h) Thawed (began h) (keeps-since h k) _ g va p (held-since h va p c) in
-      t .good (t .follows .within x (subst (λ m. Reads W m va p x) (now-since h) r))
+  unfoldable pub Keeps : History Word Address → Type 0
+  Keeps (first m) = Unit {0}
+  Keeps (happens h e) = Keeps h × SafeIn (longer e (last h))
+  Keeps (begins h) = Keeps h
+  Keeps (done h T) = Keeps h × SafeIn (next h)
 
-  -- THE SYSTEM'S INVARIANT between operations: the discipline was kept all along, and no more than F is frozen now.
-  pub record Since (h : History Word) (F : ℕ → Type 0) : Type 0 where
-    pub keeps : Keeps h
-    pub within : (x : ℕ) → frozen W Thawed (began h) (since h) x → F x
+module _ {Word View Address Place Answer : Type 0} (W : Walker Word View Address Place Answer) (C : Caches Place Answer) where
+  -- WHAT MAY BE HELD NOW. When a shootdown is done, that is what began since it began; and of what was held, all that serves no told address.
+  unfoldable pub Held : History Word Address → Address → Place → Type 0
+  Held (first m) = Holds W m (None W)
+  Held (happens h e) = Holds W (happen (now h) e) (Held h)
+  Held (begins h) = Held h
+  Held (done h T) = Holds W (now h) (λ va p. Since W (next h) va p ⊎ ((C .half p ⊎ C .finished p) × Untold W T va p × Held h va p))
 
-  pub since-first : (m : ℕ → Word) → Since (first m []) Thawed
-  unfolding Keeps began since
-  since-first m = let o = obeys-nil W Thawed m in record { keeps = o .safe; within = o .within }
+  -- NO HALF-DONE WALK IS LEFT ON A WAY THAT WAS CUT: where one is kept over a shootdown, its way was there since that began. (Where none is kept
+  -- at all, there is nothing to promise.)
+  unfoldable pub Tells : History Word Address → Type 0
+  Tells (first m) = Unit {0}
+  Tells (happens h e) = Tells h
+  Tells (begins h) = Tells h
+  Tells (done h T) = Tells h × ((va : Address) (p : Place) → C .half p → Untold W T va p → OnWay W (last h) va p → OnWay W (next h) va p)
 
-  -- a report thaws all
-  pub since-report : (h : History Word) (F : ℕ → Type 0) → Since h F → Since (report h []) Thawed
-  unfolding Keeps began since
-  since-report h F s = let o = obeys-nil W Thawed (now h) in record { keeps = (s .keeps, o .safe); within = o .within }
+  -- FRESH: va meant o at some moment since the shootdown began that was the last to tell va. (One that told others leaves pages.)
+  unfoldable pub Fresh : History Word Address → Address → Answer → Type 0
+  Fresh (first m) va o = meaning W m va ≡ o
+  Fresh (happens h e) va o = Fresh h va o ⊎ (meaning W (happen (now h) e) va ≡ o)
+  Fresh (begins h) va o = Fresh h va o
+  Fresh (done h T) va o = Meant W (next h) va o ⊎ (C .page o × (¬ T va) × Fresh h va o)
 
-  -- an operation that obeys
-  pub since-more : (h : History Word) (F G : ℕ → Type 0) (fs : List (Event Word)) → Since h F → Obeys W F (now h) fs G → Since (more h fs) G
-  unfolding Keeps began since more now
-  since-more (first m es) F G fs s o =
-      let a = obeys-append W es fs Thawed F G m (record { safe = s .keeps; within = s .within }) o in
-      record { keeps = a .safe; within = a .within }
-  since-more (report h es) F G fs s o =
-      let a = obeys-append W es fs Thawed F G (now h) (record { safe = s .keeps .1; within = s .within }) o in
-      record { keeps = (s .keeps .0, a .safe); within = a .within }
+  -- ENOUGH IS TOLD of va, where answers of one kind are as good as one another: a page of each kind that va had since the shootdown before began, it
+  -- has had since this one began, or va is told.
+  unfoldable pub Enough : {Kind : Type 0} → (Answer → Kind) → History Word Address → Address → Type 0
+  Enough kind (first m) va = Unit {0}
+  Enough kind (happens h e) va = Enough kind h va
+  Enough kind (begins h) va = Enough kind h va
+  Enough kind (done h T) va = Enough kind h va × ((o : Answer) → C .page o → MeantLike W kind (last h) va o → MeantLike W kind (next h) va o ⊎ T va)

@@ -4,43 +4,50 @@ use mathlib.Core.List.{List, [], _∷_, _++_}
 use mathlib.Core.Logic.{inl, inr}
 use Prim.Native.Nat.{ℕ}
 use Rattle.word.specs.Memory.{set}
-use Rattle.world.specs.Events.{Event, write, mark, happen, after}
-use Rattle.world.specs.Walker.{Walker, cell, Reads, Same, On}
-use Rattle.world.specs.Ways.{below-same, below-reads, below-parting}
+use Rattle.world.specs.Events.{Event, write, mark, store, happen, after}
+use Rattle.world.specs.Walker.{Walker, cell, Reads, On}
+use Rattle.world.specs.Ways.{below-agree, below-reads, below-parting}
 use Rattle.world.specs.Discipline.{Cuts, Grow, Safe}
 
 module _ {Word View Address Place Answer : Type 0} (W : Walker Word View Address Place Answer) where
-  open Walker W using (start, left, reads, step)
+  open Walker W using (see, start, left, reads, step)
 
   -- the frozen cells at the end
   unfoldable pub frozen : (ℕ → Type 0) → (ℕ → Word) → List (Event Word) → ℕ → Type 0
   frozen F m [] = F
   frozen F m (write a v ∷ es) = frozen (Grow W F m a) (set m a v) es
   frozen F m (mark a v ∷ es) = frozen F (set m a v) es
+  frozen F m (store a v ∷ es) = frozen F (set m a v) es
 
   -- WHAT AN OPERATION SHOWS of its writes: with F frozen they keep the discipline, and at the end no more than G is frozen.
   pub record Obeys (F : ℕ → Type 0) (m : ℕ → Word) (es : List (Event Word)) (G : ℕ → Type 0) : Type 0 where
     pub safe : Safe W F m es
     pub within : (x : ℕ) → frozen F m es x → G x
 
-  -- Fewer frozen cells, in a memory that shows the same, are fewer after a write.
-  pub grow-less : (F G : ℕ → Type 0) (m m' : ℕ → Word) (a : ℕ) → ((x : ℕ) → F x → G x) → Same W m m' → (x : ℕ) → Grow W F m' a x → Grow W G m a x
-  grow-less F G m m' a h s x (inl f) = inl (h x f)
-  grow-less F G m m' a h s x (inr c) = inr (c .0, below-same W m m' (c .0) (left (start (c .0))) (start (c .0)) s a x (c .1))
+  -- the two memories show the same where walks read
+  abbrev pub Shows : (m m' : ℕ → Word) → Type 0
+  Shows m m' = (va : Address) (x : ℕ) → Reads W m va (start va) x → see (m' x) ≡ see (m x)
 
-  safe-less : (es : List (Event Word)) (F G : ℕ → Type 0) (m : ℕ → Word) → ((x : ℕ) → F x → G x) → Safe W G m es → Safe W F m es
+  -- Fewer frozen cells, in a memory that shows the same, are fewer after a write.
+  pub grow-less : (F G : ℕ → Type 0) (m m' : ℕ → Word) (a : ℕ) → ((x : ℕ) → F x → G x) → Shows m m' → (x : ℕ) → Grow W F m' a x → Grow W G m a x
+  grow-less F G m m' a h s x (inl f) = inl (h x f)
+  grow-less F G m m' a h s x (inr c) = inr (c .0, below-agree W m m' (c .0) (left (start (c .0))) (start (c .0)) (s (c .0)) a x (c .1))
+
+  pub safe-less : (es : List (Event Word)) (F G : ℕ → Type 0) (m : ℕ → Word) → ((x : ℕ) → F x → G x) → Safe W G m es → Safe W F m es
   unfolding Safe
   safe-less [] F G m h s = tt
   safe-less (write a v ∷ es) F G m h s =
-      let g = grow-less F G m m a h (λ x. refl) in
+      let g = grow-less F G m m a h (λ va x r. refl) in
       (λ p. s .0 (g a p), safe-less es (Grow W F m a) (Grow W G m a) (set m a v) g (s .1))
   safe-less (mark a v ∷ es) F G m h s = (s .0, safe-less es F G (set m a v) h (s .1))
+  safe-less (store a v ∷ es) F G m h s = (λ f. s .0 (h a f), s .1, safe-less es F G (set m a v) h (s .2))
 
   frozen-less : (es : List (Event Word)) (F G : ℕ → Type 0) (m : ℕ → Word) → ((x : ℕ) → F x → G x) → (x : ℕ) → frozen F m es x → frozen G m es x
   unfolding frozen
   frozen-less [] F G m h = h
-  frozen-less (write a v ∷ es) F G m h = frozen-less es (Grow W F m a) (Grow W G m a) (set m a v) (grow-less F G m m a h (λ x. refl))
+  frozen-less (write a v ∷ es) F G m h = frozen-less es (Grow W F m a) (Grow W G m a) (set m a v) (grow-less F G m m a h (λ va x r. refl))
   frozen-less (mark a v ∷ es) F G m h = frozen-less es F G (set m a v) h
+  frozen-less (store a v ∷ es) F G m h = frozen-less es F G (set m a v) h
 
   -- Fewer cells frozen before, more cells allowed after.
   pub obeys-weaken : (es : List (Event Word)) (F F' G G' : ℕ → Type 0) (m : ℕ → Word) → ((x : ℕ) → F x → F' x) → ((x : ℕ) → G' x → G x)
@@ -90,12 +97,14 @@ module _ {Word View Address Place Answer : Type 0} (W : Walker Word View Address
   safe-append [] fs F m s t = t
   safe-append (write a v ∷ es) fs F m s t = (s .0, safe-append es fs (Grow W F m a) (set m a v) (s .1) t)
   safe-append (mark a v ∷ es) fs F m s t = (s .0, safe-append es fs F (set m a v) (s .1) t)
+  safe-append (store a v ∷ es) fs F m s t = (s .0, s .1, safe-append es fs F (set m a v) (s .2) t)
 
   frozen-append : (es fs : List (Event Word)) (F : ℕ → Type 0) (m : ℕ → Word) (x : ℕ) → frozen F m (es ++ fs) x → frozen (frozen F m es) (after m es) fs x
   unfolding frozen after happen
   frozen-append [] fs F m x p = p
   frozen-append (write a v ∷ es) fs F m x p = frozen-append es fs (Grow W F m a) (set m a v) x p
   frozen-append (mark a v ∷ es) fs F m x p = frozen-append es fs F (set m a v) x p
+  frozen-append (store a v ∷ es) fs F m x p = frozen-append es fs F (set m a v) x p
 
   -- One list after the other.
   pub obeys-append : (es fs : List (Event Word)) (F G K : ℕ → Type 0) (m : ℕ → Word) → Obeys F m es G → Obeys G (after m es) fs K → Obeys F m (es ++ fs) K
@@ -109,9 +118,11 @@ module _ {Word View Address Place Answer : Type 0} (W : Walker Word View Address
   safe-rest [] fs F m s = s
   safe-rest (write a v ∷ es) fs F m s = safe-rest es fs (Grow W F m a) (set m a v) (s .1)
   safe-rest (mark a v ∷ es) fs F m s = safe-rest es fs F (set m a v) (s .1)
+  safe-rest (store a v ∷ es) fs F m s = safe-rest es fs F (set m a v) (s .2)
 
   pub safe-first : (es fs : List (Event Word)) (F : ℕ → Type 0) (m : ℕ → Word) → Safe W F m (es ++ fs) → Safe W F m es
   unfolding Safe
   safe-first [] fs F m s = tt
   safe-first (write a v ∷ es) fs F m s = (s .0, safe-first es fs (Grow W F m a) (set m a v) (s .1))
   safe-first (mark a v ∷ es) fs F m s = (s .0, safe-first es fs F (set m a v) (s .1))
+  safe-first (store a v ∷ es) fs F m s = (s .0, s .1, safe-first es fs F (set m a v) (s .2))

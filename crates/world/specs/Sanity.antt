@@ -12,12 +12,12 @@ use Rattle.world.specs.Ways.{nowhere-cell, rested-gives, below-reads}
 use Rattle.world.specs.Held.{Can, None, still, starts, steps, shares}
 use Rattle.world.specs.Discipline.{Safe, Cuts, interleaving}
 use Rattle.world.specs.Turns.{Turn, tick, event, events, Idle, begun, places, each-walk}
-use Rattle.world.specs.Reports.{History, first, report, now, began, since, Thawed, Held, Keeps, answers-all, reaches-none}
+use Rattle.world.specs.Reports.{Thawed}
 use Rattle.world.specs.OneChange.{OneChange, change-one, change-then-quiet, quiet-more, quiet-nil, unseen-same-meaning}
 use Rattle.world.specs.Tiny.{Spot, entry, onward, next, tiny}
 
 -- a table at 2000, with page 5 for address 0 and page 6 for address 1
-abbrev memory : ℕ → ℕ
+abbrev pub memory : ℕ → ℕ
 memory = set (set (set (λ x. 0) 1000 4000) 2000 10) 2001 12
 
 -- walk 0 is of address 0, and walk 1 of address 1
@@ -40,22 +40,22 @@ good-ends-1 : places tiny who memory (begun tiny who) good 1 ≡ record { levels
 unfolding places set happen ℕ-discrete onward entry
 good-ends-1 = refl
 
-same-cell : (a b : ℕ) → cell a ≡ cell b → a ≡ b
+pub same-cell : (a b : ℕ) → cell a ≡ cell b → a ≡ b
 same-cell a b e = cc
 
 -- At the last level a walk reads one cell, and nothing below it.
-last-reads : (m : ℕ → ℕ) (va t x : ℕ) → ReadsIn tiny m va 1 (record { levels = 1; table = suc t }) x → suc t + va ≡ x
+pub last-reads : (m : ℕ → ℕ) (va t x : ℕ) → ReadsIn tiny m va 1 (record { levels = 1; table = suc t }) x → suc t + va ≡ x
 unfolding ReadsIn next entry
 last-reads m va t x (inl e) = same-cell (suc t + va) x e
 last-reads m va t x (inr r) = absurd r
 
-last-below : (m : ℕ → ℕ) (va t a x : ℕ) → ¬ BelowIn tiny m va 1 (record { levels = 1; table = t }) a x
+pub last-below : (m : ℕ → ℕ) (va t a x : ℕ) → ¬ BelowIn tiny m va 1 (record { levels = 1; table = t }) a x
 unfolding BelowIn ReadsIn
 last-below m va t a x (inl b) = b .1
 last-below m va t a x (inr b) = b
 
 -- Where the root's word names the table at 2000 no walk reads the root a second time, so it may be written.
-root-free : (m : ℕ → ℕ) → m 1000 / 2 ≡ 2000 → ¬ (⊥ ⊎ Cuts tiny m 1000 1000)
+pub root-free : (m : ℕ → ℕ) → m 1000 / 2 ≡ 2000 → ¬ (⊥ ⊎ Cuts tiny m 1000 1000)
 unfolding BelowIn onward entry
 root-free m e (inl f) = f
 root-free m e (inr c) = go (c .0) (c .1)
@@ -141,12 +141,8 @@ cached-late : meaning tiny (after memory clearing) 1 ≡ 0
 unfolding after clearing happen run set ℕ-discrete onward entry
 cached-late = refl
 
--- AFTER A REPORT the table may be written, and no walk or cache gives what was there.
-reused : History ℕ
-reused = report (first memory clearing) (write 2000 18 ∷ [])
-
 -- where the root's word is 0 no walk reads another cell
-root-only : (m : ℕ → ℕ) → m 1000 / 2 ≡ 0 → (va x : ℕ) → Reads tiny m va (record { levels = 2; table = 1000 }) x → 1000 ≡ x
+pub root-only : (m : ℕ → ℕ) → m 1000 / 2 ≡ 0 → (va x : ℕ) → Reads tiny m va (record { levels = 2; table = 1000 }) x → 1000 ≡ x
 unfolding ReadsIn next onward entry
 root-only m e va x (inl f) = same-cell 1000 x f
 root-only m e va x (inr r) = go (subst (λ t. ReadsIn tiny m va 1 (record { levels = 1; table = t }) x) e r)
@@ -154,29 +150,6 @@ root-only m e va x (inr r) = go (subst (λ t. ReadsIn tiny m va 1 (record { leve
     go : ReadsIn tiny m va 1 (record { levels = 1; table = 0 }) x → 1000 ≡ x
     go (inl f) = absurd (nowhere-cell x f)
     go (inr f) = absurd f
-
-reused-keeps : Keeps tiny reused
-unfolding Keeps Safe reused now after clearing happen set ℕ-discrete
-reused-keeps = (clearing-safe, (go, tt))
-  where
-    go : ¬ (⊥ ⊎ Cuts tiny (set memory 1000 0) 2000 2000)
-    go (inl f) = f
-    go (inr c) = omega (arith, root-only (set memory 1000 0) refl (c .0) 2000 (below-reads tiny (set memory 1000 0) (c .0) 2 (record { levels = 2; table = 1000 }) 2000 2000 (c .1)))
-
-reused-gives-nothing : (p : Spot) (o : ℕ) → Held tiny reused 0 p → Gives tiny 0 p o → o ≡ 0
-unfolding reused began since now after clearing happen All run set ℕ-discrete onward entry
-reused-gives-nothing = answers-all tiny reused reused-keeps 0 (λ o. o ≡ 0) (refl, refl)
-
-reused-not-read : (p : Spot) → Held tiny reused 0 p → ¬ Reads tiny (now reused) 0 p 2000
-unfolding reused began since now after clearing happen All set ℕ-discrete
-reused-not-read =
-    reaches-none tiny reused reused-keeps 0 2000
-    (λ r. omega (arith, root-only (set memory 1000 0) refl 0 2000 r), λ r. omega (arith, root-only (set (set memory 1000 0) 2000 18) refl 0 2000 r))
-
--- THE PROMISE IS NEEDED. If a cache kept over the report what it had of the table, a walk would end with page 9, which address 0 never meant.
-kept-over : Can tiny (now (first memory clearing)) (write 2000 18 ∷ []) (Held tiny (first memory clearing)) 0 (record { levels = 0; table = 9 })
-unfolding Can Held now after clearing happen set ℕ-discrete onward entry
-kept-over = steps {p = record { levels = 1; table = 2000 }} (still (still (still (steps {p = record { levels = 2; table = 1000 }} starts))))
 
 -- ONE CHANGE: the root's word is cleared, and then a cell is written that no walk reads.
 unmapped : OneChange tiny memory (write 1000 0 ∷ (write 7000 2 ∷ []))

@@ -29,7 +29,7 @@ Idle i [] = Unit {0}
 Idle i (tick j ∷ ts) = (j ≢ i) × Idle i ts
 Idle i (event e ∷ ts) = Idle i ts
 
-events-append : {Word : Type 0} (ts us : List (Turn Word)) → events (ts ++ us) ≡ events ts ++ events us
+pub events-append : {Word : Type 0} (ts us : List (Turn Word)) → events (ts ++ us) ≡ events ts ++ events us
 unfolding events
 events-append [] us = refl
 events-append (tick i ∷ ts) us = events-append ts us

@@ -69,16 +69,18 @@ module _ {Word View Address Place Answer : Type 0} (W : Walker Word View Address
   pub follows-agree : (va : Address) (m m' : ℕ → Word) (p : Place) → ((x : ℕ) → Reads W m va p x → see (m' x) ≡ see (m x)) → Follows va m' p m p
   follows-agree va m m' p h = record { comes = ap answer (run-agree m m' va (left p) p h); within = reads-agree m m' va (left p) p h }
 
+  pub below-agree : (m m' : ℕ → Word) (va : Address) (k : ℕ) (p : Place) → ((x : ℕ) → ReadsIn W m va k p x → see (m' x) ≡ see (m x))
+      → (a x : ℕ) → BelowIn W m' va k p a x → BelowIn W m va k p a x
+  unfolding BelowIn ReadsIn
+  below-agree m m' va zero p h a x b = b
+  below-agree m m' va (suc k) p h a x (inl b) =
+      inl (b .0, reads-agree m m' va k (step m va p) (λ y q. h y (inr q)) x (rw (steps-agree m m' va k p h) at (b .1)))
+  below-agree m m' va (suc k) p h a x (inr b) =
+      inr (below-agree m m' va k (step m va p) (λ y q. h y (inr q)) a x (rw (steps-agree m m' va k p h) at b))
+
   -- What no walk can tell apart, no step can.
   step-same : (m m' : ℕ → Word) (va : Address) (p : Place) → Same W m m' → step m' va p ≡ step m va p
   step-same m m' va p h = local m' m va p (λ c e. h c)
-
-  pub below-same : (m m' : ℕ → Word) (va : Address) (k : ℕ) (p : Place) → Same W m m' → (a x : ℕ) → BelowIn W m' va k p a x → BelowIn W m va k p a x
-  unfolding BelowIn
-  below-same m m' va zero p h a x b = b
-  below-same m m' va (suc k) p h a x (inl b) =
-      inl (b .0, reads-agree m m' va k (step m va p) (λ y q. h y) x (rw (step-same m m' va p h) at (b .1)))
-  below-same m m' va (suc k) p h a x (inr b) = inr (below-same m m' va k (step m va p) h a x (rw (step-same m m' va p h) at b))
 
   -- A place of the way: a step from it, what it comes to, and a change that no walk sees.
   pub on-step : (m : ℕ → Word) (va : Address) (p q : Place) → On W m va p q → On W m va (step m va p) q
@@ -123,6 +125,13 @@ module _ {Word View Address Place Answer : Type 0} (W : Walker Word View Address
   below-reads m va zero p a x b = b
   below-reads m va (suc k) p a x (inl b) = inl (b .0)
   below-reads m va (suc k) p a x (inr b) = inr (below-reads m va k (step m va p) a x b)
+
+  -- and it reads x
+  pub below-read : (m : ℕ → Word) (va : Address) (k : ℕ) (p : Place) (a x : ℕ) → BelowIn W m va k p a x → ReadsIn W m va k p x
+  unfolding BelowIn ReadsIn
+  below-read m va zero p a x b = b
+  below-read m va (suc k) p a x (inl b) = inr (b .1)
+  below-read m va (suc k) p a x (inr b) = inr (below-read m va k (step m va p) a x b)
 
   -- It comes to a place where it reads a, and reads x from there on.
   pub record Parting (m : ℕ → Word) (va : Address) (p : Place) (a x : ℕ) : Type 0 where
