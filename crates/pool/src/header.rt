@@ -84,16 +84,23 @@ pub fn names(mem: &[u8], space: Space) -> Fit
     }
 }
 
-// The header's counts.
-fn counts(mem: &[u8], space: Space) -> Opened
-    ensures { λ r. ⌜ (the.roomOf (holds (now (mem .entry)) (space .origin)) (space .first) (space .pages) ≡ Fits → r ≡ the.countsOf (memory (now (mem .entry)) (space .origin)) space) ⌝ }
+// The counts as they stand, with no test but that the pool lies in the window: for a space in which a page was found.
+pub fn book_now(mem: &[u8], space: Space) -> Book
+    ensures { λ r. ⌜ (the.roomOf (holds (now (mem .entry)) (space .origin)) (space .first) (space .pages) ≡ Fits → r ≡ the.bookOf (memory (now (mem .entry)) (space .origin)) space) ⌝ }
 {
-    let b = Book {
+    Book {
         head: get(mem, space, HEAD_AT),
         free: get(mem, space, FREE_AT),
         aside: get(mem, space, ASIDE_AT),
         tickets: get(mem, space, TICKETS_AT),
-    };
+    }
+}
+
+// The same, where they can be.
+fn counts(mem: &[u8], space: Space) -> Opened
+    ensures { λ r. ⌜ (the.roomOf (holds (now (mem .entry)) (space .origin)) (space .first) (space .pages) ≡ Fits → r ≡ the.countsOf (memory (now (mem .entry)) (space .origin)) space) ⌝ }
+{
+    let b = book_now(mem, space);
     if sound(space.pages, b) {
         return Opened::Book(b);
     }

@@ -22,6 +22,7 @@ use bounds::book_of;
 pub use bounds::entry;
 pub use bounds::in_pool;
 pub use bounds::set_entry;
+pub use header::book_now;
 pub use header::names;
 pub use header::open;
 use layout::ASIDE_AT;
@@ -32,7 +33,6 @@ pub use layout::TICKETS_AT;
 pub use making::create;
 pub use moment::Counts;
 pub use moment::Stated;
-pub use moment::book_now;
 pub use moment::state;
 
 // "the-book" in ASCII.

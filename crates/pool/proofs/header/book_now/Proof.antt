@@ -1,0 +1,32 @@
+use Rattle.pool.specs.Layout.{headAt, freeAt, asideAt, ticketsAt}
+use borrow.Author.Needs.{needs}
+use Rattle.pool.proofs.header.book_now.Statement.{statement}
+use Rattle.pool.proofs.header.book_now.Tie as tie
+use Rattle.pool.proofs.header.book_now.Reads as reads
+use Rattle.pool.proofs.header.book_now.Lts as lts
+use Rattle.pool.proofs.header.get.Reads as get-reads
+
+-- src/header.rt
+get-requires : tie.Need-get-requires
+get-requires c κs = search needs
+
+-- src/header.rt
+get-requires-2 : tie.Need-get-requires-2
+get-requires-2 c κs = search needs
+
+-- src/header.rt
+get-requires-3 : tie.Need-get-requires-3
+get-requires-3 c κs = search needs
+
+-- src/header.rt
+get-requires-4 : tie.Need-get-requires-4
+get-requires-4 c κs = search needs
+
+-- src/header.rt
+returns : tie.Need-returns
+unfolding headAt freeAt asideAt ticketsAt
+returns c = λ h. rw (c .before .before .before .get .ensures h, c .before .before .get2 .ensures h, c .before .get3 .ensures h, c .get4 .ensures h)
+
+pub book-now-spec : {M : Type 1} → statement M
+book-now-spec =
+    tie.close (tie.spec get-requires get-requires-2 get-requires-3 get-requires-4 returns)
