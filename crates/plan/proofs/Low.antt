@@ -26,14 +26,13 @@ use Rattle.pool.specs.declared.Listed.{Listed}
 use Rattle.pool.specs.declared.Listed.the-variants as listed
 use Rattle.pool.proofs.Listing.{listed-usable}
 use Rattle.pool.proofs.Opening as opening
-use Rattle.pool.proofs.Opening.{open-shows}
+use Rattle.pool.proofs.Opening.{open-shows, names-room}
 use Rattle.pool.specs.declared.Reason.the-variants.{BadBook}
 use Rattle.plan.specs.Map as map
 use Rattle.plan.specs.Map.{Low, Buildable}
 use Rattle.plan.specs.Unmap as unmap
 use Rattle.plan.specs.Find.{foundOf}
 use Rattle.plan.proofs.Found.{found-at}
-use Rattle.plan.proofs.Standing.{stands}
 use Rattle.plan.specs.declared.Reason.the-variants.{FrameInPool, NoRoom, Pool}
 use Rattle.plan.specs.declared.maps.Asked.{Asked}
 use Rattle.plan.specs.declared.maps.Mapping.{Mapping}
@@ -217,5 +216,5 @@ module _ (h : ℕ → Bool) (m : ℕ → ℕ) (sp : Space) (va : ℕ) (r : Remov
   unmap-room e = go (foundOf h m sp va) refl e
     where
       go : (x : Sought) → foundOf h m sp va ≡ x → unmap.soughtOf h m sp va x ≡ removing.Go r → roomOf h (sp .first) (sp .pages) ≡ fit.Fits
-      go (sought.Found s) f k = stands h sp (found-at h m sp va s f .stands) .room
+      go (sought.Found s) f k = names-room h m sp (found-at h m sp va s f .names)
       go (sought.Refused y) f k = let z : _≡_ {A = ℕ} 0 1 = cc in absurd (omega arith)
