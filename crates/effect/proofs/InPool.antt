@@ -13,12 +13,10 @@ use Rattle.walk.specs.Walk.{indexOf}
 use Rattle.walk.proofs.Digits.{index-lt}
 use Rattle.pool.specs.Book.{bookOf, ticketIn, openedOf}
 use Rattle.pool.specs.Changes.{releaseWrites}
-use Rattle.pool.specs.Stands.{standsOf}
 use Rattle.pool.specs.declared.Space.{Space}
 use Rattle.pool.specs.declared.Book.{Book}
-use Rattle.pool.specs.declared.Fit.the-variants.{Fits}
 use Rattle.pool.specs.declared.Opened.the-variants as opened
-use Rattle.pool.proofs.Opening.{Fitting, fit-inside, open-shows}
+use Rattle.pool.proofs.Opening.{Fitting, fit-inside, open-shows, names-shows}
 use Rattle.pool.proofs.Proper.{release-proper}
 use Rattle.plan.specs.declared.finding.Spot.{Spot}
 use Rattle.plan.specs.declared.finding.Sought.{Sought}
@@ -34,7 +32,6 @@ use Rattle.plan.specs.Map as map
 use Rattle.plan.specs.Protect as protect
 use Rattle.plan.specs.Unmap as unmap
 use Rattle.plan.proofs.Found.{FoundAt, found-at}
-use Rattle.plan.proofs.Standing.{stands}
 use Rattle.effect.specs.OfPool.{OfPool}
 use Rattle.effect.proofs.MapInPool.{book-in-pool, map-went, map-in-pool}
 use Rattle.effect.proofs.ProtectDone.{with-rights-lt}
@@ -53,7 +50,7 @@ module _ (h : ℕ → Bool) (m : ℕ → ℕ) (sp : Space) (va : ℕ) (g : Right
   change-went : (s : Spot) → FoundAt h m sp va s → ProtectWent h sp (protect.changeOf va s g (ticketIn (bookOf m sp)))
   unfolding protect.changeOf protect.writesOf
   change-went s f = record {
-    fits = stands h sp (f .stands) .fits;
+    fits = names-shows h m sp (f .names) .fits;
     proper =
         let t = spot-through f .inside 0 (omega (arith, f .low)) in
         every-one (s .way .a) (indexOf (s .way .level) va) (withRights (s .way .word) g) (in-of-pool t) (index-lt (s .way .level) va) (with-rights-lt (s .way .word) g);
@@ -81,10 +78,6 @@ module _ (s : List ℕ) (sp : Space) where
   fits-held : Fitting (holds s (sp .origin)) (sp .first) (sp .pages) → (xs : List Write) → Every (OfPool sp) xs → Every (λ q. holds s (sp .origin) q ≡ true) xs
   fits-held f = every-map (λ q u. fit-inside s (sp .origin) (sp .first) (sp .pages) f q (u .0) (u .1))
 
-  -- of a space that stands, every page of the pool lies in the window
-  pub pool-in-window : standsOf (holds s (sp .origin)) sp ≡ Fits → (xs : List Write) → Every (OfPool sp) xs → Every (λ q. holds s (sp .origin) q ≡ true) xs
-  pool-in-window e = fits-held (stands (holds s (sp .origin)) sp e .fits)
-
   module _ (m : ℕ → ℕ) where
     pub map-in-window : (q : Asked) (p : Mapping) → map.decideOf (holds s (sp .origin)) m sp q ≡ map.Go p
         → Every (λ x. holds s (sp .origin) x ≡ true) (map.writesOf sp p)
@@ -93,7 +86,7 @@ module _ (s : List ℕ) (sp : Space) where
     pub unmap-in-window : (va : ℕ) (r : Removal) → unmap.decideOf (holds s (sp .origin)) m sp va ≡ removing.Go r
         → Every (λ x. holds s (sp .origin) x ≡ true) (unmap.writesOf sp va r)
     unmap-in-window va r e =
-        pool-in-window (unmap-went (holds s (sp .origin)) m sp va r e .found .stands) _ (unmap-in-pool (holds s (sp .origin)) m sp va r e)
+        fits-held (names-shows (holds s (sp .origin)) m sp (unmap-went (holds s (sp .origin)) m sp va r e .found .names) .fits) _ (unmap-in-pool (holds s (sp .origin)) m sp va r e)
 
     pub protect-in-window : (va : ℕ) (g : Rights) (c : Change) → protect.decideOf (holds s (sp .origin)) m sp va g ≡ changing.Go c
         → Every (λ x. holds s (sp .origin) x ≡ true) (protect.writesOf c)

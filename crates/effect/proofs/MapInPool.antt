@@ -15,8 +15,7 @@ use Rattle.entry.specs.declared.Made.the-variants as made
 use Rattle.entry.proofs.Written.{fits-true}
 use Rattle.walk.specs.Walk.{indexOf}
 use Rattle.walk.proofs.Digits.{index-lt}
-use Rattle.pool.specs.Book.{openedOf, listedOf}
-use Rattle.pool.specs.Stands.{standsOf}
+use Rattle.pool.specs.Book.{openedOf, listedOf, namesOf}
 use Rattle.pool.specs.declared.Space.{Space}
 use Rattle.pool.specs.declared.Book.{Book}
 use Rattle.pool.specs.declared.Fit.{Fit}
@@ -26,7 +25,7 @@ use Rattle.pool.specs.declared.Listed.the-variants as listed
 use Rattle.pool.specs.declared.Opened.{Opened}
 use Rattle.pool.specs.declared.Opened.the-variants as opened
 use Rattle.pool.proofs.Listing.{listed-usable}
-use Rattle.pool.proofs.Opening.{Fitting}
+use Rattle.pool.proofs.Opening.{Fitting, names-shows}
 use Rattle.pool.proofs.Proper.{OfBook}
 use Rattle.plan.specs.declared.Reason.the-variants.{FrameInPool, NoRoom}
 use Rattle.plan.specs.declared.descent.Way.{Way}
@@ -43,7 +42,6 @@ use Rattle.plan.specs.declared.maps.Supply.{Supply}
 use Rattle.plan.specs.declared.maps.Supply.the-variants.{Pages, Lacking}
 use Rattle.plan.specs.Descend.{wayOf}
 use Rattle.plan.specs.Map.{noBook, shapeOf, meetsOf, nthOf, freshThree, freshOf, stockOf, supplyOf, madeOf, placeOf, becauseOf, stoppedOf, fittingOf, standingOf, shapedOf, decideOf, linkOf, nextOf, growOf, reached0, reached1, reached2, reached3, buildOf, writesOf}
-use Rattle.plan.proofs.Standing.{stands}
 use Rattle.effect.specs.OfPool.{OfPool}
 use Rattle.effect.proofs.MapBook.{bookWrites, book-writes-proper}
 use Rattle.effect.proofs.MapBuilt.{page-word-small}
@@ -165,7 +163,7 @@ module _ (h : ℕ → Bool) (m : ℕ → ℕ) (sp : Space) (q : Asked) (p : Mapp
       let k = way-through h m sp target (q .base) (λ d. let z : _≡_ {A = ℕ} 0 1 = cc in omega arith) in
       in-of-pool (k .1 .inside 0 (omega (arith, k .0)))
 
-  fitting-went : (target : ℕ) (x : Fit) → standsOf h sp ≡ x → fittingOf h m sp q target x ≡ Go p → MapWent h sp p
+  fitting-went : (target : ℕ) (x : Fit) → namesOf h m sp ≡ x → fittingOf h m sp q target x ≡ Go p → MapWent h sp p
   unfolding fittingOf stoppedOf
   fitting-went target (fit.Refused r) s e = clash cc
   fitting-went target fit.Fits s e = go (meetsOf sp (q .frame) (q .size)) e
@@ -174,12 +172,12 @@ module _ (h : ℕ → Bool) (m : ℕ → ℕ) (sp : Space) (q : Asked) (p : Mapp
       go true k = clash cc
       go false k =
           let w : Way = wayOf h m sp (q .base) target in
-          because-went (stands h sp s .fits) target (w .level) (w .a) (w .why) (end-in target) k
+          because-went (names-shows h m sp s .fits) target (w .level) (w .a) (w .why) (end-in target) k
 
   shaped-went : (x : Shape) → shapedOf h m sp q x ≡ Go p → MapWent h sp p
   unfolding shapedOf standingOf
   shaped-went (shape.Bad r) e = clash cc
-  shaped-went (shape.Level n) e = fitting-went n (standsOf h sp) refl e
+  shaped-went (shape.Level n) e = fitting-went n (namesOf h m sp) refl e
 
   pub map-went : decideOf h m sp q ≡ Go p → MapWent h sp p
   unfolding decideOf

@@ -32,7 +32,7 @@ use Rattle.plan.specs.Map.{fitsOf, shapeOf, meetsOf, noBook, nthOf, freshThree,
 use Rattle.effect.specs.MapDone.{Fitted}
 use Rattle.effect.specs.MapRefused.{OfLevel, Meets, FrameApart}
 use Rattle.effect.specs.Whole.{Whole}
-use Rattle.effect.proofs.Wholes.{root-low, owned, book-opens}
+use Rattle.effect.proofs.Wholes.{root-low, owned, book-names, book-opens}
 use Rattle.effect.proofs.Trace.{Traced, traced}
 
 -- Sizes --------------------------------------------------------------------------------------------------------------------------
@@ -164,7 +164,7 @@ module _ {h : ℕ → Bool} {sp : Space} {m : ℕ → ℕ} {role : ℕ → Role}
   module _ (q : Asked) (l : ℕ) (f : Fitted l q) where
     fitted-decides : decideOf h m sp q ≡ cond (meetsOf sp (q .frame) (q .size)) (Refused FrameInPool) (stoppedOf h m sp q l (wayOf h m sp (q .base) l))
     unfolding decideOf shapedOf standingOf fittingOf
-    fitted-decides = rw (shape-fits l q f, w .stands)
+    fitted-decides = rw (shape-fits l q f, book-names w)
 
     pub meets-decides : Meets sp q → decideOf h m sp q ≡ Refused FrameInPool
     meets-decides k = fitted-decides ∙ rw (meets-true sp q k)

@@ -26,7 +26,7 @@ use Rattle.effect.specs.Whole.{Whole}
 use Rattle.plan.proofs.Found.{found-at}
 use Rattle.effect.proofs.Located.{located}
 use Rattle.effect.proofs.Trace.{Traced, Because, at-nothing, at-page, at-table}
-use Rattle.effect.proofs.Wholes.{way-traced}
+use Rattle.effect.proofs.Wholes.{way-traced, book-names}
 
 module _ {h : ℕ → Bool} {sp : Space} {m : ℕ → ℕ} {role : ℕ → Role} (w : Whole h sp m role) (va : ℕ) where
   -- what is found, or why not, and what that means
@@ -55,7 +55,7 @@ module _ {h : ℕ → Bool} {sp : Space} {m : ℕ → ℕ} {role : ℕ → Role}
   -- below 2 ^ 48 the way decides
   found-by : va < 2 ^ 48 → foundOf h m sp va ≡ stoppedOf va (wayOf h m sp va 4)
   unfolding foundOf soughtOf
-  found-by u = rw (w .stands, lt-ltb va (2 ^ 48) u)
+  found-by u = rw (book-names w, lt-ltb va (2 ^ 48) u)
 
   stopped-by : (y : Way) → y .level < 4 → stoppedOf va y ≡ becauseOf va y (y .why)
   unfolding stoppedOf
@@ -87,5 +87,5 @@ module _ {h : ℕ → Bool} {sp : Space} {m : ℕ → ℕ} {role : ℕ → Role}
     | yes u ↦ let t = way-traced w va u in decide (wayOf h m sp va 4) (found-by u ∙ stopped-by (wayOf h m sp va 4) (t .low)) t (t .because)
     | no u ↦
         let high : 2 ^ 48 ≤ va = omega arith in
-        missing (rw (w .stands, le-ltb va (2 ^ 48) high)) (nothing-starts (high-nothing (settingOf h sp) m va high))
+        missing (rw (book-names w, le-ltb va (2 ^ 48) high)) (nothing-starts (high-nothing (settingOf h sp) m va high))
   ]

@@ -18,7 +18,7 @@ use Rattle.pool.specs.declared.Book.{Book}
 use Rattle.pool.specs.declared.Opened.{Opened}
 use Rattle.pool.specs.declared.Opened.the-variants as opened
 use Rattle.pool.specs.declared.Reason.the-variants.{BadBook}
-use Rattle.pool.proofs.Opening.{Fitting}
+use Rattle.pool.proofs.Opening.{Fitting, names-shows}
 use Rattle.pool.proofs.Proper.{aside-proper}
 use Rattle.plan.specs.declared.Reason.the-variants.{Pool}
 use Rattle.plan.specs.declared.finding.Spot.{Spot}
@@ -30,7 +30,6 @@ use Rattle.plan.specs.Find.{foundOf}
 use Rattle.plan.specs.Map.{noBook}
 use Rattle.plan.specs.Unmap.{emptiedOf, bookedOf, openOf, removeOf, soughtOf, decideOf, book1, book2, cutWrites, writesOf}
 use Rattle.plan.proofs.Found.{FoundAt, found-at}
-use Rattle.plan.proofs.Standing.{stands}
 use Rattle.effect.specs.OfPool.{OfPool}
 use Rattle.effect.proofs.Emptying.{tableAt, level-at, emptied}
 use Rattle.effect.proofs.MapInPool.{book-in-pool}
@@ -99,7 +98,7 @@ module _ {h : ℕ → Bool} {m : ℕ → ℕ} (sp : Space) (va : ℕ) (r : Remov
   through = spot-through (k .found)
 
   fits : Fitting h (sp .first) (sp .pages)
-  fits = stands h sp (k .found .stands) .fits
+  fits = names-shows h m sp (k .found .names) .fits
 
   -- a table that becomes empty, and the one above it
   emptied-in : (j : ℕ) → j < r .empties → OfPool sp (tableAt (r .spot .way) (j + 1)) × (tableAt (r .spot .way) j < 2 ^ 64)

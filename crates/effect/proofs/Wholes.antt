@@ -9,13 +9,14 @@ use Rattle.word.specs.Writes.{Write}
 use Rattle.word.proofs.Writes.{Every, every-map}
 use Rattle.tables.specs.Roles.{Role, left}
 use Rattle.tables.specs.Clearing.{Spare, book-spare}
-use Rattle.pool.specs.Book.{bookOf, openedOf}
+use Rattle.pool.specs.Book.{bookOf, namesOf, openedOf}
 use Rattle.pool.specs.Booked.{settingOf, Booked}
 use Rattle.pool.specs.declared.Space.{Space}
+use Rattle.pool.specs.declared.Fit.the-variants as fit
 use Rattle.pool.specs.declared.Opened.the-variants as opened
 use Rattle.pool.proofs.Counts.{InPool, pool-in}
 use Rattle.pool.proofs.Booked.{Beside}
-use Rattle.pool.proofs.Listing.{booked-opens}
+use Rattle.pool.proofs.Listing.{booked-names, booked-opens}
 use Rattle.pool.proofs.Pages.{Owned, built-owned}
 use Rattle.pool.proofs.Proper.{OfBook}
 use Rattle.effect.specs.OfPool.{OfPool}
@@ -38,7 +39,10 @@ module _ {h : ℕ → Bool} {sp : Space} {m : ℕ → ℕ} {role : ℕ → Role}
   pub owned : Owned sp role
   owned = built-owned h sp m role root-low (w .sound .built)
 
-  -- its book opens
+  -- its book names it, and opens
+  pub book-names : namesOf h m sp ≡ fit.Fits
+  book-names = booked-names (w .booked) owned h (stands h sp (w .stands) .fits)
+
   pub book-opens : openedOf h m sp ≡ opened.Book (bookOf m sp)
   book-opens = booked-opens (w .booked) owned h (stands h sp (w .stands) .fits)
 
