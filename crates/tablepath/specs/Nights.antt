@@ -5,13 +5,14 @@ use mathlib.Core.List.{List, [], _∷_, _++_}
 use mathlib.Core.Logic.{_⊎_}
 use mathlib.Core.Path.{_≡_}
 use Rattle.entry.specs.Entry.{everything}
+use Rattle.entry.specs.declared.Entry.{Entry}
 use Rattle.entry.specs.declared.Rights.{Rights}
 use Rattle.walk.specs.declared.Found.{Found}
 use Rattle.walk.specs.declared.Found.the-variants.{Page, Nothing, Outside}
 use Rattle.walk.specs.declared.Place.{Place}
 use Rattle.walk.specs.declared.Place.the-variants.{Going, Ended}
 use Rattle.world.specs.Events.{Event, write, mark, store, after}
-use Rattle.world.specs.Walker.{Gives, Reads}
+use Rattle.world.specs.Walker.{Walker, Gives, Reads}
 use Rattle.world.specs.Walks.{At}
 use Rattle.world.specs.Reports.{History, now, last, Caches, Held}
 use Rattle.world.specs.Reports as world
@@ -46,6 +47,10 @@ history (calls N a) = history N
 history (happens N e) = world.happens (history N) e
 history (begins N) = world.begins (history N)
 history (done N T) = world.done (history N) T
+
+-- memory now
+abbrev pub present : Night → ℕ → ℕ
+present N = now (history N)
 
 -- THE LAST PERIOD: since the shootdown began that was done last
 abbrev pub lastBegan : Night → ℕ → ℕ
@@ -131,6 +136,10 @@ abbrev pub upperDropped : Caches At Found
 upperDropped = record { half = λ p. ⊥; finished = λ p. IsFinished (p .place); page = IsPage }
 
 module _ (h : ℕ → Bool) (sp : Space) where
+  -- the walks of this space
+  abbrev pub walks : Walker ℕ (ℕ → Entry) ℕ At Found
+  walks = walkerOf (settingOf h sp)
+
   -- what waits in the store buffer, the oldest first
   unfoldable pub waiting : Night → List (Event ℕ)
   waiting (dusk m) = []
@@ -143,7 +152,7 @@ module _ (h : ℕ → Bool) (sp : Space) where
 
   -- what the code sees: memory, and over it what waits
   abbrev pub seen : Night → ℕ → ℕ
-  seen N = after (now (history N)) (waiting N)
+  seen N = after (present N) (waiting N)
 
   -- va lies in a page that the call unmapped, by its own answer
   unfoldable pub Unmaps : Call → (ℕ → ℕ) → ℕ → Type 0
@@ -176,14 +185,14 @@ module _ (h : ℕ → Bool) (sp : Space) where
   -- some walk or cache gives o for va now
   pub record Gets (C : Caches At Found) (N : Night) (va : ℕ) (o : Found) : Type 0 where
     pub place : At
-    pub held : Held (walkerOf (settingOf h sp)) C (history N) va place
-    pub gives : Gives (walkerOf (settingOf h sp)) va place o
+    pub held : Held walks C (history N) va place
+    pub gives : Gives walks va place o
 
   -- some walk of va has the word x still to read, perhaps from a cache on
   pub record MayRead (C : Caches At Found) (N : Night) (va x : ℕ) : Type 0 where
     pub place : At
-    pub held : Held (walkerOf (settingOf h sp)) C (history N) va place
-    pub reads : Reads (walkerOf (settingOf h sp)) (now (history N)) va place x
+    pub held : Held walks C (history N) va place
+    pub reads : Reads walks (present N) va place x
 
   -- a word of a page that some walk or cache gives now, for some address
   pub record Given (C : Caches At Found) (N : Night) (a : ℕ) : Type 0 where
@@ -199,7 +208,7 @@ module _ (h : ℕ → Bool) (sp : Space) where
   -- Writes reach memory in their order; marks are marks; another program stores outside the pool, or through a translation that it is given.
   unfoldable pub Allowed : Caches At Found → Night → Event ℕ → Type 0
   Allowed C N (write a v) = (rest : List (Event ℕ)) × (waiting N ≡ write a v ∷ rest)
-  Allowed C N (mark a v) = Remarked sp a (now (history N) a) v
+  Allowed C N (mark a v) = Remarked sp a (present N a) v
   Allowed C N (store a v) = (¬ PoolWord sp a) ⊎ Given C N a
 
   -- AN HONEST NIGHT: what the machine and the caller promise. At first all is whole, and nothing is held. A call sees memory but for marks, and reports

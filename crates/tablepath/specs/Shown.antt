@@ -12,17 +12,16 @@ use Rattle.world.specs.Walker.{Gives, On}
 use Rattle.world.specs.Walks.{At}
 use Rattle.world.specs.Held.{Can, None}
 use Rattle.world.specs.Frozen.{SomeReads}
-use Rattle.world.specs.Reports.{now, next, Caches, Held, Since, Fresh}
+use Rattle.world.specs.Reports.{next, Caches, Held, Since, Fresh}
 use Rattle.tables.specs.Roles.{Role}
 use Rattle.tables.specs.Near.{Near}
-use Rattle.tables.specs.Discipline.{walkerOf}
 use Rattle.pool.specs.Book.{bookOf, ticketOf}
-use Rattle.pool.specs.Booked.{settingOf, Numbered}
+use Rattle.pool.specs.Booked.{Numbered}
 use Rattle.pool.specs.declared.Space.{Space}
 use Rattle.plan.specs.declared.maps.Asked.{Asked}
 use Rattle.effect.specs.Whole.{Whole}
 use Rattle.tablepath.specs.Calls.{means, PoolWord, Remarked, Act, UpTo}
-use Rattle.tablepath.specs.Nights.{Night, done, history, lastBegan, lastSince, covered, uncovered, Some, IsPage, IsHalf, butRights, untoldKept, upperDropped, waiting, seen, Unmaps, Hit, Hits, Ticketed, Gets, MayRead, Given, Onward}
+use Rattle.tablepath.specs.Nights.{Night, done, history, present, lastBegan, lastSince, covered, uncovered, Some, IsPage, IsHalf, butRights, untoldKept, upperDropped, walks, waiting, seen, Unmaps, Hit, Hits, Ticketed, Gets, MayRead, Given, Onward}
 use Rattle.tablepath.specs.Gone.{dawn, Avoids, MappedAt, Maps, Mapped, pageOf, MappedSince, Listed, Links}
 
 module _ (h : ℕ → Bool) (sp : Space) where
@@ -38,12 +37,12 @@ module _ (h : ℕ → Bool) (sp : Space) where
 
   -- WHATEVER IS TOLD, where all upper entries are dropped: what va meant at some moment since the shootdown began that was the last to tell va.
   abbrev pub NightFresh : Night → Type 0
-  NightFresh N = (va : ℕ) (o : Found) → Gets h sp upperDropped N va o → Fresh (walkerOf (settingOf h sp)) upperDropped (history N) va o
+  NightFresh N = (va : ℕ) (o : Found) → Gets h sp upperDropped N va o → Fresh (walks h sp) upperDropped (history N) va o
 
   -- A FULL FLUSH: when it is done, nothing is held but what began since it began.
   abbrev pub NightFlushed : Night → Type 1
-  NightFlushed N = (T : ℕ → Type 0) → ((va : ℕ) → T va) → (C : Caches At Found) (va : ℕ) (p : At) → Held (walkerOf (settingOf h sp)) C (history (done N T)) va p
-      → Since (walkerOf (settingOf h sp)) (next (history N)) va p
+  NightFlushed N = (T : ℕ → Type 0) → ((va : ℕ) → T va) → (C : Caches At Found) (va : ℕ) (p : At) → Held (walks h sp) C (history (done N T)) va p
+      → Since (walks h sp) (next (history N)) va p
 
   -- STORES: whatever page is given, however stale, no word of it is the pool's. So no program's store hits a table or the book.
   abbrev pub StaysOut : Caches At Found → Night → Type 0
@@ -78,37 +77,37 @@ module _ (h : ℕ → Bool) (sp : Space) where
 
   -- WHENEVER NOTHING WAITS, all is whole.
   abbrev pub NightWhole : Night → Type 0
-  NightWhole N = waiting h sp N ≡ [] → (role : ℕ → Role) × Whole h sp (now (history N)) role
+  NightWhole N = waiting h sp N ≡ [] → (role : ℕ → Role) × Whole h sp (present N) role
 
   -- A PAGE SET ASIDE IS NOT WRITTEN at any moment until a report releases it; only the machine marks it. (A report of t releases the numbers below t.)
   abbrev pub NightUnwritten : Night → Night → Type 1
-  NightUnwritten N M = (cs : List Act) (gs : List (Event ℕ)) → Onward N M cs gs → waiting h sp N ≡ [] → (p k i : ℕ) → Numbered (now (history N)) sp p k → UpTo k cs → i < 512
-      → All (now (history N)) gs (λ x. Remarked sp (at p i) (now (history N) (at p i)) (x (at p i)))
+  NightUnwritten N M = (cs : List Act) (gs : List (Event ℕ)) → Onward N M cs gs → waiting h sp N ≡ [] → (p k i : ℕ) → Numbered (present N) sp p k → UpTo k cs → i < 512
+      → All (present N) gs (λ x. Remarked sp (at p i) (present N (at p i)) (x (at p i)))
 
   -- NOR FROM THE MOMENT ON at which no walk that begins reads it: a table, from the write on that unlinks it.
   abbrev pub UnlinkedUnwritten : Night → Night → Type 1
-  UnlinkedUnwritten N M = (cs : List Act) (es fs : List (Event ℕ)) → Onward N M cs (es ++ fs) → waiting h sp N ≡ [] → UpTo (ticketOf (bookOf (now (history N)) sp)) cs
-      → (x : ℕ) → SomeReads (walkerOf (settingOf h sp)) x (now (history N)) → ¬ SomeReads (walkerOf (settingOf h sp)) x (after (now (history N)) es)
-      → All (after (now (history N)) es) fs (λ y. Remarked sp x (after (now (history N)) es x) (y x))
+  UnlinkedUnwritten N M = (cs : List Act) (es fs : List (Event ℕ)) → Onward N M cs (es ++ fs) → waiting h sp N ≡ [] → UpTo (ticketOf (bookOf (present N) sp)) cs
+      → (x : ℕ) → SomeReads (walks h sp) x (present N) → ¬ SomeReads (walks h sp) x (after (present N) es)
+      → All (after (present N) es) fs (λ y. Remarked sp x (after (present N) es x) (y x))
 
   -- After map ----------------------------------------------------------------------------------------------------------------------------
 
   -- ONCE ITS WRITES HAVE REACHED MEMORY the address means the page.
   abbrev pub MappedNow : Night → Type 0
-  MappedNow N = (q : Asked) (va : ℕ) → MappedSince h sp N q va → waiting h sp N ≡ [] → means h sp (now (history N)) va ≡ pageOf q
+  MappedNow N = (q : Asked) (va : ℕ) → MappedSince h sp N q va → waiting h sp N ≡ [] → means h sp (present N) va ≡ pageOf q
 
   -- A WALK THAT BEGINS THEN, with nothing that was held before, ends with the page, while no call touches the address. (It has ended before a report goes
   -- beyond the ticket of that moment.)
   abbrev pub FoundAtOnce : Night → Night → Type 1
-  FoundAtOnce N M = (cs : List Act) (gs : List (Event ℕ)) → Onward N M cs gs → waiting h sp N ≡ [] → UpTo (ticketOf (bookOf (now (history N)) sp)) cs → (va : ℕ) (o : Found) → means h sp (now (history N)) va ≡ o
-      → IsPage o → ¬ Hits h sp (Hit h sp) cs va → (p : At) (o' : Found) → Can (walkerOf (settingOf h sp)) (now (history N)) gs (None (walkerOf (settingOf h sp))) va p
-      → Gives (walkerOf (settingOf h sp)) va p o' → o' ≡ o
+  FoundAtOnce N M = (cs : List Act) (gs : List (Event ℕ)) → Onward N M cs gs → waiting h sp N ≡ [] → UpTo (ticketOf (bookOf (present N) sp)) cs → (va : ℕ) (o : Found) → means h sp (present N) va ≡ o
+      → IsPage o → ¬ Hits h sp (Hit h sp) cs va → (p : At) (o' : Found) → Can (walks h sp) (present N) gs (None (walks h sp)) va p
+      → Gives (walks h sp) va p o' → o' ≡ o
 
   -- AN UPPER ENTRY THAT IS HELD, under which no page was unmapped since the last period began, is on the way of a walk that begins now: who goes on from
   -- it finds what that walk finds. COMPLETE.
   abbrev pub UpperHolds : Night → Type 0
-  UpperHolds N = waiting h sp N ≡ [] → (va : ℕ) (p : At) → Held (walkerOf (settingOf h sp)) untoldKept (history N) va p → IsHalf (p .place)
-      → ((vb : ℕ) → Near (p .levels) va vb → ¬ Hits h sp (Unmaps h sp) (uncovered N) vb) → On (walkerOf (settingOf h sp)) (now (history N)) va p (walkerOf (settingOf h sp) .start va)
+  UpperHolds N = waiting h sp N ≡ [] → (va : ℕ) (p : At) → Held (walks h sp) untoldKept (history N) va p → IsHalf (p .place)
+      → ((vb : ℕ) → Near (p .levels) va vb → ¬ Hits h sp (Unmaps h sp) (uncovered N) vb) → On (walks h sp) (present N) va p (walks h sp .start va)
 
   -- ELSE a cache may lead to nothing still, and to nothing else. EXACT.
   abbrev pub CachedAfterMap : Night → Type 0
