@@ -26,7 +26,7 @@ test:
 	@tools/test
 
 demo:
-	@tools/proved demo tour
+	@tools/proved demo tour abi
 	@tools/run demo
 	@tools/run tour
 	@tools/lib

@@ -45,7 +45,7 @@ use Rattle.effect.proofs.ProtectDone.{protected}
 use Rattle.effect.proofs.ToldDone as effect
 use Rattle.effect.proofs.Wholes.{book-opens}
 use Rattle.tablepath.specs.declared.Mapped.the-variants as mapped′
-use Rattle.tablepath.specs.Answers.{mapAnswer, mapWrites, goneOf, unmapSaid, unmapAnswer, unmapWrites, protectSaid, protectAnswer, protectWrites, toldWrites, toldDid, dueDid}
+use Rattle.tablepath.specs.Answers.{mapAnswer, mapWrites, goneOf, unmapSaid, unmapAnswer, unmapWrites, sameOf, protectSaid, protectAnswer, protectWrites, toldWrites, toldDid, dueDid}
 use Rattle.tablepath.specs.Calls.{means, Call, Within, callWrites, Saw, Act, actWrites}
 use Rattle.tablepath.specs.Calls as calls
 use Rattle.tablepath.specs.Nights.{Unmaps, Protects}
@@ -122,11 +122,11 @@ module _ (h : ℕ → Bool) (sp : Space) where
         turned (calls.unmap va) va (r .spot .way .level) Nothing (d .role') (unmap.writesOf sp va r) (d .changed)
         (λ vb n.
         let i = near-in va (r .spot .way .level) (r .spot .size) vb (d .size-is) (d .aligned) n in
-        gone (goneOf sp r, rw e, i .0, i .1)
+        gone (goneOf (bookOf m sp) r, rw e, i .0, i .1)
         (near-page va (r .spot .way .level) (r .spot .size) (r .spot .frame) (d .had) (d .size-is) (d .aligned) (d .before) vb n) refl)
 
     protect-stirs : (va : ℕ) (g : Rights) (x : Changing) → protect.decideOf h m sp va g ≡ x → Stirs (calls.protect va g) m m (eventsOf (protect.didOf x))
-    unfolding protect.didOf protectAnswer protectSaid Protects
+    unfolding protect.didOf protectAnswer protectSaid sameOf Protects
     protect-stirs va g (changing.Refused y) e = stirs-none (calls.protect va g) m
     protect-stirs va g (changing.Go c) e =
         let d = protected w va g c e in

@@ -205,5 +205,5 @@ module _ (h : ℕ → Bool) (sp : Space) where
     stands = w .stands;
     small = w .small;
     sound = alike-sound (w .sound .built) n (saw-alike k (w .sound .built)) (w .sound .filled);
-    booked = booked-same n (saw-book sp k (book-fits w)) (w .booked);
+    booked = booked-same (saw-book sp k (book-fits w)) (w .booked);
   }

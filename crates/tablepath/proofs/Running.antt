@@ -25,6 +25,7 @@ use Rattle.tables.specs.Clearing.{eventsOf, events-after}
 use Rattle.pool.specs.Book.{bookOf, ticketOf}
 use Rattle.pool.specs.Booked.{settingOf, Booked, Numbered}
 use Rattle.pool.specs.declared.Space.{Space}
+use Rattle.pool.proofs.Booked.{same-counts}
 use Rattle.effect.specs.Whole.{Whole}
 use Rattle.effect.specs.Numbers.{KeepsNumbers}
 use Rattle.effect.proofs.Numbers.{same-keeps}
@@ -65,7 +66,7 @@ module _ (h : ℕ → Bool) (sp : Space) where
 
   -- the ticket
   pub saw-ticket : {m n : ℕ → ℕ} {role : ℕ → Role} → Whole h sp m role → Saw sp m n → ticketOf (bookOf m sp) ≡ ticketOf (bookOf n sp)
-  saw-ticket w k = let e = saw-book sp k (book-fits h sp w) in omega (arith, e 4 (omega arith), e 5 (omega arith))
+  saw-ticket w k = ap ticketOf (sym (same-counts (saw-book sp k (book-fits h sp w))))
 
   -- WHAT A RUN SHOWS, as its writes alone make memory.
   pub record Ran (n : ℕ) (m : ℕ → ℕ) (cs : List Act) : Type 0 where

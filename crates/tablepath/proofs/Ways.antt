@@ -134,11 +134,11 @@ module _ (h : ℕ → Bool) (sp : Space) where
     unmap-ways va (removing.Refused y) e = ways-none (calls.unmap va) m
     unmap-ways va (removing.Go r) e =
         let d = unmapped w va r e in
-        let hit : Unmaps h sp (calls.unmap va) m va = (goneOf sp r, rw e, omega arith, omega (arith, d .size-is, size-pos (r .spot .way .level))) in
+        let hit : Unmaps h sp (calls.unmap va) m va = (goneOf (bookOf m sp) r, rw e, omega arith, omega (arith, d .size-is, size-pos (r .spot .way .level))) in
         changed-ways (calls.unmap va) va (r .spot .way .level) (d .role') (unmap.writesOf sp va r) (d .changed) (λ p live. go d hit p live (d .fate p) (d .on-way p))
       where
         go : (d : UnmapDone h sp m role va r) → Unmaps h sp (calls.unmap va) m va → (p : ℕ) → left (role p) ≢ 0
-            → (d .role' p ≡ role p) ⊎ SetAside sp role (d .role') (word.after m (unmap.writesOf sp va r)) (ticketOf (bookOf m sp)) (ticketOf (unmap.bookAfter sp r)) p
+            → (d .role' p ≡ role p) ⊎ SetAside sp role (d .role') (word.after m (unmap.writesOf sp va r)) (ticketOf (bookOf m sp)) (ticketOf (bookOf m sp) + r .empties) p
             → (d .role' p ≡ role p) ⊎ Comes (settingOf h sp) m va (left (role p)) p
             → (d .role' p ≡ role p) ⊎ ((left (d .role' p) ≡ 0) × Unmaps h sp (calls.unmap va) m va × Comes (settingOf h sp) m va (left (role p)) p)
         go d hit p live (inl f) way = inl f
