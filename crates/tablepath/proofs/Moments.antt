@@ -1,5 +1,5 @@
--- STATE answers what is so; the ticket that a call hands out is that of the moment after it; and tickets never decrease.
-use Prim.Native.Nat.{ℕ, _+_, _≤_}
+-- STATE answers what is so; and the ticket that a call hands out is that of the moment after it.
+use Prim.Native.Nat.{ℕ, _+_}
 use mathlib.Core.Bool.{Bool}
 use mathlib.Core.List.{List}
 use mathlib.Core.Path.{_≡_, refl, sym, ap, _∙_}
@@ -8,10 +8,7 @@ use Rattle.word.specs.Memory.{memory, holds}
 use Rattle.word.specs.Writes as word
 use Rattle.word.specs.Writes.{carried}
 use Rattle.word.proofs.Writes.{holds-carried, memory-carried}
-use Rattle.world.specs.Events.{Event, after}
-use Rattle.world.specs.Marks.{writes}
 use Rattle.tables.specs.Roles.{Role}
-use Rattle.tables.specs.Clearing.{eventsOf}
 use Rattle.pool.specs.Layout.{bookPages}
 use Rattle.pool.specs.Book.{bookOf, ticketOf, openedOf}
 use Rattle.pool.specs.Booked.{tablesOf}
@@ -25,14 +22,11 @@ use Rattle.pool.specs.declared.moment.Stated.the-variants as stated
 use Rattle.pool.proofs.Pages.{free-count, aside-count, adds-up}
 use Rattle.pool.proofs.Tickets.{ticket-sound}
 use Rattle.effect.specs.Whole.{Whole}
-use Rattle.effect.proofs.Numbers.{same-keeps}
 use Rattle.effect.proofs.Wholes.{book-opens, owned}
-use Rattle.tablepath.specs.Calls.{Call, callWrites, Marks}
+use Rattle.tablepath.specs.Calls.{Call, callWrites}
 use Rattle.tablepath.specs.Calls as calls
-use Rattle.tablepath.specs.Tickets.{StateSays, StateOpened, Handed, Later, now, call}
+use Rattle.tablepath.specs.Tickets.{StateSays, StateOpened, Handed}
 use Rattle.tablepath.proofs.Says.{unmap-says, protect-says}
-use Rattle.tablepath.proofs.Running.{Ran, call-ran, call-book}
-use Rattle.tablepath.proofs.Serves.{serves-now}
 use Rattle.tablepath.proofs.Wholes.{WholeBytes, call-leaves}
 
 -- State ----------------------------------------------------------------------------------------------------------------------------
@@ -82,34 +76,6 @@ module _ {h : ℕ → Bool} {sp : Space} {m : ℕ → ℕ} {role : ℕ → Role}
   state-after c t k =
       let s = state-says (call-leaves h sp m role w c .0 .1) in
       (s .counts, s .answered, s .ticket ∙ sym (handed-now c t k))
-
-  -- one call more, with marks: the ticket is no smaller
-  call-later : (c : Call) (es : List (Event ℕ)) → writes es ≡ eventsOf (callWrites h m sp c) → Marks sp m es → Ran h sp (ticketOf (bookOf m sp)) m es
-  call-later c es e k = call-ran h sp (ticketOf (bookOf m sp)) m (callWrites h m sp c) es (serves-now h sp m role c w) e k
-
-  -- and the one that it handed out is no larger than the one after it
-  handed-upto : (c : Call) (t : ℕ) (es : List (Event ℕ)) → Handed h m sp c t → writes es ≡ eventsOf (callWrites h m sp c) → Marks sp m es
-      → t ≤ ticketOf (bookOf (after m es) sp)
-  handed-upto c t es k e marks =
-      let b = same-keeps {m' = after m es} (serves-now h sp m role c w .whole .booked) (call-book sp m (callWrites h m sp c) es e marks) in
-      omega (arith, handed-now c t k, b .tickets, b .more)
-
--- TICKETS NEVER DECREASE, whatever calls come, and whatever they report; and the space stays whole
-pub later-whole : (h : ℕ → Bool) (sp : Space) (m m' : ℕ → ℕ) (role : ℕ → Role) → Whole h sp m role → Later h sp m m'
-    → (role' : ℕ → Role) × Whole h sp m' role' × (ticketOf (bookOf m sp) ≤ ticketOf (bookOf m' sp))
-later-whole h sp m m' role w now = (role, w, omega arith)
-later-whole h sp m m' role w (call c es e k l) =
-    let s = call-later w c es e k in
-    let x = later-whole h sp (after m es) m' (s .role) (s .whole) l in
-    (x .0, x .1, omega (arith, s .ticket, x .2))
-
--- OF TWO TICKETS that are handed out the later one is no smaller
-pub handed-later : (h : ℕ → Bool) (sp : Space) (m m' : ℕ → ℕ) (role : ℕ → Role) → Whole h sp m role → (c c' : Call) (t t' : ℕ) (es : List (Event ℕ))
-    → Handed h m sp c t → writes es ≡ eventsOf (callWrites h m sp c) → Marks sp m es → Later h sp (after m es) m' → Handed h m' sp c' t' → t ≤ t'
-handed-later h sp m m' role w c c' t t' es k e marks l k' =
-    let s = call-later w c es e marks in
-    let x = later-whole h sp (after m es) m' (s .role) (s .whole) l in
-    omega (arith, handed-upto w c t es k e marks, x .2, handed-now (x .1) c' t' k', serves-now h sp m' (x .0) c' (x .1) .ticket)
 
 -- For the bytes --------------------------------------------------------------------------------------------------------------------
 

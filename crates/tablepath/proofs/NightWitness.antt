@@ -189,7 +189,7 @@ module _ (s : List ℕ) (e : length s ≡ 20480) where
       was = five-pages s e .2 j u
 
       go : (removed .role' (pageAt m five j) ≡ five-pages s e .0 (pageAt m five j))
-          ⊎ SetAside five (five-pages s e .0) (removed .role') m₂ (ticketOf (bookOf m₁ five)) (ticketOf (unmap.bookAfter five (removes .0))) (pageAt m five j)
+          ⊎ SetAside five (five-pages s e .0) (removed .role') m₂ (ticketOf (bookOf m₁ five)) (ticketOf (bookOf m₁ five) + removes .0 .empties) (pageAt m five j)
           → (k : ℕ) × Numbered m₂ five (pageAt m five j) k
       go (inr a) = (a .number, a .numbered)
       go (inl f) =

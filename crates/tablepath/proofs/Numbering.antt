@@ -1,13 +1,11 @@
 -- NUMBERS AND TICKETS ALONG A RUN: no ticket falls, a call answers the ticket of the moment after it, and a page with a number below the first ticket had
 -- that number from the beginning, so that no call linked it.
 use Prim.Native.Nat.{ℕ, _+_, _<_, _≤_}
-use mathlib.Core.Bool.{Bool, true, cond}
+use mathlib.Core.Bool.{Bool}
 use mathlib.Core.List.{List, [], _∷_, _++_}
 use mathlib.Core.Logic.{inl, inr}
 use mathlib.Core.Path.{_≡_, refl, sym, ap, _∙_, subst}
 use native.Mathlib.Omega.{arith}
-use lib.Dec.{ltb}
-use borrow.Author.Tests.{lt-ltb}
 use Rattle.word.specs.Writes as word
 use Rattle.world.specs.Events.{Event, after, after-append}
 use Rattle.tables.specs.Roles.{Role, free, aside}
@@ -16,15 +14,15 @@ use Rattle.pool.specs.Book.{bookOf, ticketOf}
 use Rattle.pool.specs.Booked.{Numbered}
 use Rattle.pool.specs.declared.Space.{Space}
 use Rattle.effect.specs.Whole.{Whole}
-use Rattle.tablepath.specs.Answers.{unmapWrites}
-use Rattle.tablepath.specs.Says.{UnmapGone}
 use Rattle.tablepath.specs.Calls.{Call, Within, callWrites, Saw, Act, actWrites, wrote, Runs, UpTo}
 use Rattle.tablepath.specs.Calls as calls
-use Rattle.tablepath.specs.Nights.{Some, Ticketed}
+use Rattle.tablepath.specs.Tickets.{Handed}
+use Rattle.tablepath.specs.Nights.{Some}
 use Rattle.tablepath.specs.Gone.{Links}
 use Rattle.tablepath.proofs.Marking.{saw-back}
 use Rattle.tablepath.proofs.Serving.{numbered-aside}
-use Rattle.tablepath.proofs.Says.{map-says, unmap-says}
+use Rattle.tablepath.proofs.Says.{map-says}
+use Rattle.tablepath.proofs.Moments.{handed-now}
 use Rattle.tablepath.proofs.Running.{act-served, act-whole, act-ticket, seen-whole, saw-act, saw-keeps, saw-ticket}
 use Rattle.tablepath.proofs.Periods.{within-less}
 
@@ -41,19 +39,9 @@ module _ (h : ℕ → Bool) (sp : Space) where
     act-rises = act-ticket h sp (ticketOf (bookOf m sp)) m role w (omega arith) a saw (within-less n (ticketOf (bookOf m sp)) (a .call) u within)
 
     -- A CALL ANSWERS THE TICKET OF THE MOMENT AFTER IT.
-    pub answers-ticket : (t : ℕ) → Ticketed h sp (a .call) (a .saw) t → t ≡ ticketOf (bookOf (after m es) sp)
-    unfolding Ticketed callWrites
-    answers-ticket t k = planned (a .call) refl k ∙ saw-ticket h sp (act-served h sp n m role w u a saw within .whole) saw-end
-      where
-        planned : (c : Call) → a .call ≡ c → Ticketed h sp c (a .saw) t → t ≡ ticketOf (bookOf (word.after (a .saw) (callWrites h (a .saw) sp (a .call))) sp)
-        planned (calls.map q) e k = absurd k
-        planned (calls.protect b r) e k = absurd k
-        planned (calls.told j) e k = absurd k
-        planned (calls.unmap b) e (g, done, some, is) =
-            let x : UnmapGone h sp (a .saw) role b g = unmap-says (seen-whole h sp n m role w u a saw within) b .gone g done in
-            let y : ltb 0 (g .aside) ≡ true = lt-ltb 0 (g .aside) some in
-            sym is ∙ x .ticket ∙ ap (λ z. cond z (ticketOf (bookOf (word.after (a .saw) (unmapWrites h (a .saw) sp b)) sp)) 0) y
-            ∙ ap (λ c. ticketOf (bookOf (word.after (a .saw) (callWrites h (a .saw) sp c)) sp)) (sym e)
+    pub answers-ticket : (t : ℕ) → Handed h (a .saw) sp (a .call) t → t ≡ ticketOf (bookOf (after m es) sp)
+    answers-ticket t k =
+        handed-now (seen-whole h sp n m role w u a saw within) (a .call) t k ∙ saw-ticket h sp (act-served h sp n m role w u a saw within .whole) saw-end
 
     -- A PAGE WITH A NUMBER BELOW THE TICKET had it before, and the call did not link it.
     act-earlier : (p k : ℕ) → Numbered (after m es) sp p k → k < ticketOf (bookOf m sp) → Numbered m sp p k × ¬ Links h sp p a
@@ -89,7 +77,7 @@ module _ (h : ℕ → Bool) (sp : Space) where
 
   -- what the calls answered lies between the first ticket and the last
   pub run-tickets : (n : ℕ) (m : ℕ → ℕ) (role : ℕ → Role) (cs : List Act) → Whole h sp m role → n ≤ ticketOf (bookOf m sp) → Runs h sp m cs → UpTo n cs
-      → (j : ℕ) → Some (λ a. Ticketed h sp (a .call) (a .saw) j) cs → (ticketOf (bookOf m sp) ≤ j) × (j ≤ ticketOf (bookOf (after m (wrote h sp cs)) sp))
+      → (j : ℕ) → Some (λ a. Handed h (a .saw) sp (a .call) j) cs → (ticketOf (bookOf m sp) ≤ j) × (j ≤ ticketOf (bookOf (after m (wrote h sp cs)) sp))
   unfolding wrote Runs UpTo Some
   run-tickets n m role [] w u r t j s = absurd s
   run-tickets n m role (a ∷ cs) w u r t j s = elim s [
@@ -114,6 +102,15 @@ module _ (h : ℕ → Bool) (sp : Space) where
 
       list : ticketOf (bookOf (after m (actWrites h sp a ++ wrote h sp cs)) sp) ≡ ticketOf (bookOf (after (after m (actWrites h sp a)) (wrote h sp cs)) sp)
       list = ap (λ x. ticketOf (bookOf x sp)) (after-append (actWrites h sp a) (wrote h sp cs) m)
+
+  -- OF TWO TICKETS that are handed out in a run the later one is no smaller.
+  pub handed-later : (n : ℕ) (m : ℕ → ℕ) (role : ℕ → Role) (a : Act) (cs : List Act) → Whole h sp m role → n ≤ ticketOf (bookOf m sp) → Runs h sp m (a ∷ cs)
+      → UpTo n (a ∷ cs) → (i j : ℕ) → Handed h (a .saw) sp (a .call) i → Some (λ b. Handed h (b .saw) sp (b .call) j) cs → i ≤ j
+  unfolding Runs UpTo
+  handed-later n m role a cs w u r t i j k s =
+      let later = run-tickets n (after m (actWrites h sp a)) (act-served h sp n m role w u a (r .0) (t .0) .role) cs (act-whole h sp n m role w u a (r .0) (t .0))
+      (act-ticket h sp n m role w u a (r .0) (t .0)) (r .1) (t .1) j s in
+      omega (arith, answers-ticket n m role w u a (r .0) (t .0) i k, later .0)
 
   pub run-earlier : (n : ℕ) (m : ℕ → ℕ) (role : ℕ → Role) (cs : List Act) → Whole h sp m role → n ≤ ticketOf (bookOf m sp) → Runs h sp m cs → UpTo n cs
       → (p k : ℕ) → Numbered (after m (wrote h sp cs)) sp p k → k < ticketOf (bookOf m sp) → Numbered m sp p k × ¬ Some (Links h sp p) cs

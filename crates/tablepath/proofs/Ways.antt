@@ -1,6 +1,6 @@
 -- WHAT EACH CALL DOES TO THE WAYS OF WALKS: a table that a walk comes to at some moment of a call, it comes to at the call's end; or the call
 -- unmapped a page, and set the table aside, whose addresses share the walk's prefix.
-use Prim.Native.Nat.{ℕ, _≤_}
+use Prim.Native.Nat.{ℕ, _+_, _≤_}
 use mathlib.Core.Bool.{Bool}
 use mathlib.Core.List.{List, []}
 use mathlib.Core.Logic.{_⊎_, inl, inr, _≢_}

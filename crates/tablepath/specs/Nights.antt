@@ -175,13 +175,6 @@ module _ (h : ℕ → Bool) (sp : Space) where
   abbrev pub Hits : (Call → (ℕ → ℕ) → ℕ → Type 0) → List Act → ℕ → Type 0
   Hits H cs va = Some (λ a. H (a .call) (a .saw) va) cs
 
-  -- THE TICKET THAT A CALL ANSWERED: unmap's, where it set tables aside
-  unfoldable pub Ticketed : Call → (ℕ → ℕ) → ℕ → Type 0
-  Ticketed (map q) s t = ⊥
-  Ticketed (unmap b) s t = (g : Gone) × (unmapAnswer h s sp b ≡ unmapped.Done g) × (0 < g .aside) × (g .ticket ≡ t)
-  Ticketed (protect b r) s t = ⊥
-  Ticketed (told n) s t = ⊥
-
   -- some walk or cache gives o for va now
   pub record Gets (C : Caches At Found) (N : Night) (va : ℕ) (o : Found) : Type 0 where
     pub place : At

@@ -1,14 +1,10 @@
--- TICKETS: what state answers, which calls hand out a ticket, and what comes later. A ticket may be handed out again, by calls that set nothing
--- aside: it speaks of the last moment at which it was.
+-- TICKETS: what state answers, and which calls hand out a ticket. One may be handed out again, by calls that set nothing aside: it speaks of the
+-- last moment at which it was.
 use Prim.Native.Nat.{ℕ, _+_}
 use mathlib.Core.Bool.{Bool}
-use mathlib.Core.List.{List}
 use mathlib.Core.Logic.{_↔_}
 use mathlib.Core.Path.{_≡_}
-use Rattle.world.specs.Events.{Event, after}
-use Rattle.world.specs.Marks.{writes}
 use Rattle.tables.specs.Roles.{Role}
-use Rattle.tables.specs.Clearing.{eventsOf}
 use Rattle.pool.specs.Layout.{bookPages}
 use Rattle.pool.specs.Book.{bookOf, ticketOf, openedOf}
 use Rattle.pool.specs.Booked.{howMany, isFree, isAside, tablesOf}
@@ -23,7 +19,7 @@ use Rattle.tablepath.specs.declared.Unmapped.the-variants as unmapped
 use Rattle.tablepath.specs.declared.Same.{Same}
 use Rattle.tablepath.specs.declared.Protected.the-variants as protected
 use Rattle.tablepath.specs.Answers.{unmapAnswer, protectAnswer}
-use Rattle.tablepath.specs.Calls.{Call, map, unmap, protect, told, callWrites, Marks}
+use Rattle.tablepath.specs.Calls.{Call, map, unmap, protect, told}
 
 -- State --------------------------------------------------------------------------------------------------------------------------
 
@@ -55,8 +51,3 @@ Handed h m sp (map q) t = ⊥
 Handed h m sp (unmap va) t = (g : Gone) × (unmapAnswer h m sp va ≡ unmapped.Done g) × (g .ticket ≡ t)
 Handed h m sp (protect va r) t = (g : Same) × (protectAnswer h m sp va r ≡ protected.Done g) × (g .ticket ≡ t)
 Handed h m sp (told n) t = ⊥
-
--- LATER: from the memory m on calls came, of any kind, with the machine's marks anywhere between their writes, and left m'
-pub data Later (h : ℕ → Bool) (sp : Space) : (ℕ → ℕ) → (ℕ → ℕ) → Type 0 where
-  now : {m : ℕ → ℕ} → Later h sp m m
-  call : {m m' : ℕ → ℕ} (c : Call) (es : List (Event ℕ)) → writes es ≡ eventsOf (callWrites h m sp c) → Marks sp m es → Later h sp (after m es) m' → Later h sp m m'
