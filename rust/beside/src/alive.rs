@@ -16,7 +16,7 @@ use model::Window;
 use operations::due::due;
 use operations::Operations;
 use std::hint::spin_loop;
-use std::sync::atomic::{fence, AtomicBool, AtomicPtr, AtomicU64, Ordering::SeqCst};
+use std::sync::atomic::{fence, AtomicBool, AtomicPtr, AtomicU64, AtomicUsize, Ordering::SeqCst};
 use std::thread;
 use std::time::{Duration, Instant};
 
@@ -149,6 +149,9 @@ pub fn threads(of: &dyn Operations, seed: u64, room: usize, flaw: Flaw) -> Resul
     })
 }
 
+/// How often there were such rounds.
+static ROUNDS: AtomicUsize = AtomicUsize::new(0);
+
 /// What the interrupt looks for.
 static WALKS: AtomicPtr<Interrupted> = AtomicPtr::new(std::ptr::null_mut());
 
@@ -191,7 +194,8 @@ pub fn interrupted(of: &dyn Operations, seed: u64, room: usize, flaw: Flaw) -> R
         WALKS.store(&mut walks, SeqCst);
         // SAFETY: the handler allocates nothing and takes no lock.
         assert_ne!(unsafe { signal(SIGALRM, interrupt as *const () as usize) }, usize::MAX, "there is a signal");
-        every(10);
+        // By turns few operations between two interrupts, and many: on a busy machine the shorter time may leave hardly any.
+        every([10, 30][ROUNDS.fetch_add(1, SeqCst) % 2]);
         let outcome = between.write(operation);
         every(0);
         WALKS.store(std::ptr::null_mut(), SeqCst);

@@ -23,6 +23,8 @@ pub enum Flaw {
     TicketOfTheEnd,
     /// Reported with the ticket of this moment, though calls came since the shootdown began.
     TicketOfLaterCalls,
+    /// Reported when it is done, though an older shootdown is not.
+    OlderNotDone,
     /// A frame counts as gone when it is unmapped, before the report.
     FrameBeforeReport,
 }

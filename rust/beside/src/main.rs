@@ -103,7 +103,7 @@ fn beside_the_code(of: &dyn Operations, seed: u64) -> Vec<bool> {
                 checks.push(wrong(&format!("{flaw:?}, {name}"), flaw, || some(count, flaw)));
             }
         };
-    both("in interrupts of the writer", 20, 100_000, alive::interrupted);
+    both("in interrupts of the writer", 12, 100_000, alive::interrupted);
     if cfg!(target_arch = "x86_64") || std::env::var_os("TABLEPATH_THREADS").is_some() {
         both("a second thread", 10, 400_000, alive::threads);
     } else {
@@ -131,7 +131,7 @@ fn main() -> ExitCode {
     for flaw in of_writes {
         checks.push(wrong(&format!("{flaw:?}"), flaw, || steps(20, 400, false, flaw)));
     }
-    for flaw in Flaw::OF_REPORTS {
+    for flaw in Flaw::OF_REPORTS.into_iter().chain([Flaw::OlderNotDone]) {
         checks.push(wrong(&format!("{flaw:?}"), flaw, || steps(20, 400, true, flaw)));
     }
     if cfg!(feature = "library") {

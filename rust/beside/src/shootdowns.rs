@@ -168,11 +168,14 @@ impl<'a> Shootdowns<'a> {
 
     /// Looks which are done: they may be reported.
     pub fn collect(&mut self, clock: u64, ticket: u64) {
-        while self.done < self.begun && self.mailboxes.iter().all(|mailbox| mailbox.is_done(self.done)) {
-            self.done += 1;
-        }
-        let soon = self.flaw == Flaw::ToldBeforeCachesDrop;
-        while self.underway.front().is_some_and(|first| first.number < self.done || soon) {
+        let is_done = |number| self.mailboxes.iter().all(|mailbox| mailbox.is_done(number));
+        self.done = (self.done..self.begun).find(|number| !is_done(*number)).unwrap_or(self.begun);
+        let counted = match self.flaw {
+            Flaw::ToldBeforeCachesDrop => self.begun,
+            Flaw::OlderNotDone => (self.done..self.begun).rev().find(|n| is_done(*n)).map_or(self.done, |n| n + 1),
+            _ => self.done,
+        };
+        while self.underway.front().is_some_and(|first| first.number < counted) {
             let mut first = self.underway.pop_front().expect("there is one");
             if self.flaw == Flaw::TicketOfTheEnd {
                 (first.ticket, first.began) = (ticket, clock);
