@@ -58,30 +58,22 @@ fn headed(mem: &[u8], space: Space) -> Fit
     Fit::Fits
 }
 
-// And is the root a page of the pool behind the book?
-fn rooted(space: Space, f: Fit) -> Fit
-    ensures { λ r. ⌜ r ≡ the.rootedIn space f ⌝ }
-{
-    match f {
-        Fit::Refused(r) => Fit::Refused(r),
-        Fit::Fits => {
-            if in_pool(space, space.root) {
-                return Fit::Fits;
-            }
-            Fit::Refused(Reason::BadRoot)
-        }
-    }
-}
-
 // Does the book there name this space? A caller that gives other pages, another root or another pool is refused by it.
 pub fn names(mem: &[u8], space: Space) -> Fit
     ensures { λ r. ⌜ r ≡ the.namesOf (holds (now (mem .entry)) (space .origin)) (memory (now (mem .entry)) (space .origin)) space ⌝ }
 {
     let fit = room(mem, space.origin, space.first, space.pages);
-    match fit {
-        Fit::Refused(r) => Fit::Refused(r),
-        Fit::Fits => rooted(space, headed(mem, space)),
+    let Fit::Fits = fit else {
+        return fit;
+    };
+    let h = headed(mem, space);
+    let Fit::Fits = h else {
+        return h;
+    };
+    if in_pool(space, space.root) {
+        return Fit::Fits;
     }
+    Fit::Refused(Reason::BadRoot)
 }
 
 // The counts as they stand, with no test but that the pool lies in the window: for a space in which a page was found.

@@ -71,6 +71,16 @@ impl<'a> Pool<'a> {
         let all = pages_of(mem, space.origin, space.pool, space.pages)?;
         let behind = book_pages(space.pages);
         let (book, tables) = all.split_at_mut_checked(behind as usize).ok_or(Reason::PoolSmall)?;
+        let header = book.first().ok_or(Reason::NoBook)?;
+        if get(&header[THE_MARK]) != MARK {
+            return Err(Reason::NoBook);
+        }
+        if get(&header[PAGES]) != space.pages {
+            return Err(Reason::OtherBook);
+        }
+        if get(&header[ROOT]) != space.root / PAGE {
+            return Err(Reason::BadRoot);
+        }
         let mut pool = Pool { book, tables, first: space.pool + behind * PAGE, pages: space.pages, root: 0 };
         pool.root = pool.place(space.root);
         if pool.root >= pool.tables.len() {
@@ -115,19 +125,10 @@ impl<'a> Pool<'a> {
         Err(Reason::NothingStarts)
     }
 
-    /// The book, with all that its header says tested.
+    /// The book's counts, tested.
     #[inline]
     fn open(&self) -> Result<Book, Reason> {
         let header = self.book.first().ok_or(Reason::NoBook)?;
-        if get(&header[THE_MARK]) != MARK {
-            return Err(Reason::NoBook);
-        }
-        if get(&header[PAGES]) != self.pages {
-            return Err(Reason::OtherBook);
-        }
-        if get(&header[ROOT]) != self.address(self.root) / PAGE {
-            return Err(Reason::BadRoot);
-        }
         let book = Book {
             pages: self.pages,
             head: get(&header[HEAD]),

@@ -115,11 +115,18 @@ struct Pool<'a> {
 impl<'a> Pool<'a> {
     fn standing(window: Window<'a>, space: Space) -> Result<Pool<'a>, u64> {
         match space.refused(window.bytes.len()) {
-            0 => {
+            // A root that is no page of the pool is refused behind what the book says.
+            reason @ (0 | 19) => {
                 let place = |address: u64| (address - space.origin) as usize;
                 let (start, behind, end) = (place(space.pool), place(space.behind()), place(space.end()));
                 let tables = Window { bytes: &window.bytes[behind..end], origin: space.behind() };
-                Ok(Pool { space, book: &window.bytes[start..behind], tables })
+                let pool = Pool { space, book: &window.bytes[start..behind], tables };
+                pool.named()?;
+                if reason == 0 {
+                    Ok(pool)
+                } else {
+                    Err(reason)
+                }
             }
             reason => Err(reason),
         }
@@ -136,10 +143,11 @@ impl<'a> Pool<'a> {
 
     /// That of this moment, as the book's words have it, whatever they are.
     fn ticket(&self) -> u64 {
-        self.word(4).wrapping_add(self.word(5))
+        self.word(ASIDE).wrapping_add(self.word(TICKETS))
     }
 
-    fn open(&self) -> Result<Book, u64> {
+    /// The book must name this space.
+    fn named(&self) -> Result<(), u64> {
         if !self.book.starts_with(&MARK) {
             return Err(20);
         }
@@ -149,6 +157,10 @@ impl<'a> Pool<'a> {
         if self.word(ROOT) != self.space.root / 4096 {
             return Err(19);
         }
+        Ok(())
+    }
+
+    fn open(&self) -> Result<Book, u64> {
         let book =
             Book { head: self.word(HEAD), free: self.word(FREE), aside: self.word(ASIDE), tickets: self.word(TICKETS) };
         if book.head >= self.space.pages || !self.lists(&book, 0) || book.tickets > 1 << 62 {

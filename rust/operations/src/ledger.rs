@@ -87,8 +87,8 @@ impl Ledger {
         }
     }
 
-    /// What has to be answered where so many bytes of the window are lent, and then holds. Nothing is said of another space
-    /// that makes sense: it is not ours.
+    /// What has to be answered where so many bytes of the window are lent, and then holds. Of a pool that does not begin in ours
+    /// nothing is said, where it makes sense: it is not ours.
     pub fn judge(&mut self, request: &Request, lent: usize) -> Option<Answer> {
         let told = match *request {
             Request::Create { origin, pool, pages } => match create_refused(lent, origin, pool, pages) {
@@ -128,10 +128,14 @@ impl Ledger {
     }
 
     fn standing(&self, space: Space, lent: usize) -> Option<u64> {
+        let ours = self.space;
         match space.refused(lent) {
-            0 if space == self.space => Some(0),
-            0 => None,
-            reason => Some(reason),
+            reason @ 1..=18 => Some(reason),
+            _ if space.origin != ours.origin => None,
+            _ if space.pool != ours.pool => (ours.pool..ours.end()).contains(&space.pool).then_some(20),
+            _ if space.pages != ours.pages => Some(21),
+            _ if space.root != ours.root => Some(19),
+            _ => Some(0),
         }
     }
 
