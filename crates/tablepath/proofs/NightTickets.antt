@@ -1,4 +1,4 @@
--- THE TICKETS OF A NIGHT: what a covered call answered may be reported, and what a report releases nothing that is held reads. Statements: specs/Shown.antt.
+-- THE TICKETS OF A NIGHT: what a covered call handed out may be reported, and what a report releases nothing that is held reads. Statements: specs/Shown.antt.
 use Prim.Native.Nat.{ℕ, _≤_}
 use mathlib.Core.Bool.{Bool}
 use mathlib.Core.List.{List, [], _∷_, _++_}
@@ -13,7 +13,7 @@ use Rattle.pool.specs.Booked.{Numbered}
 use Rattle.pool.specs.declared.Space.{Space}
 use Rattle.effect.specs.Whole.{Whole}
 use Rattle.tablepath.specs.Calls.{Saw, Act, wrote, Reached}
-use Rattle.tablepath.specs.Nights.{Night, dusk, calls, happens, begins, done, history, lastBegan, lastSince, front, joined, Some, lately, due, covered, uncovered, untoldKept, waiting, seen, Ticketed, Honest, Telling, Complete}
+use Rattle.tablepath.specs.Nights.{Night, dusk, calls, happens, begins, done, history, lastBegan, lastSince, front, joined, Some, lately, due, covered, uncovered, untoldKept, waiting, seen, Handed, Honest, Telling, Complete}
 use Rattle.tablepath.specs.Gone.{Links}
 use Rattle.tablepath.specs.Shown.{CoveredTicket, UncoveredTicket, ReleasedUnread}
 use Rattle.tablepath.proofs.Marking.{saw-back, saw-whole}
@@ -60,12 +60,12 @@ module _ (h : ℕ → Bool) (sp : Space) where
       same : ticketOf (bookOf (after (lastBegan N) (wrote h sp D)) sp) ≡ ticketOf (bookOf (next (history N) .began) sp)
       same = saw-ticket h sp (ran .whole) (saw-later h sp (last (history N)) (next (history N)) D (joined Ds ++ lately N) (coming h sp N D Ds e f .later) (f .role) (f .whole) r)
 
-      go : (Some (λ a. Ticketed h sp (a .call) (a .saw) t) (covered N) → t ≤ n) → Some (λ a. Ticketed h sp (a .call) (a .saw) t) (covered N) ⊎ Some (λ a. Ticketed h sp (a .call) (a .saw) t) (front (due N))
+      go : (Some (λ a. Handed h (a .saw) sp (a .call) t) (covered N) → t ≤ n) → Some (λ a. Handed h (a .saw) sp (a .call) t) (covered N) ⊎ Some (λ a. Handed h (a .saw) sp (a .call) t) (front (due N))
           → t ≤ ticketOf (bookOf (next (history N) .began) sp)
       go before (inl x) = omega (arith, before x, same, ran .ticket)
       go before (inr x) =
           let b = run-tickets h sp n (lastBegan N) (f .role) D (f .whole) (omega arith) (runs-front h sp D (joined Ds ++ lately N) (lastBegan N) (r .runs))
-          (upto-front n D (joined Ds ++ lately N) (r .upto)) t (subst (λ l. Some (λ a. Ticketed h sp (a .call) (a .saw) t) (front l)) e x) in
+          (upto-front n D (joined Ds ++ lately N) (r .upto)) t (subst (λ l. Some (λ a. Handed h (a .saw) sp (a .call) t) (front l)) e x) in
           omega (arith, b .1, same)
 
   pub released-unread : (N : Night) → Honest h sp untoldKept N → Complete h sp N → ReleasedUnread h sp N

@@ -1,4 +1,4 @@
--- NUMBERS AND TICKETS ALONG A RUN: no ticket falls, a call answers the ticket of the moment after it, and a page with a number below the first ticket had
+-- NUMBERS AND TICKETS ALONG A RUN: no ticket falls, a call hands out the ticket of the moment after it, and a page with a number below the first ticket had
 -- that number from the beginning, so that no call linked it.
 use Prim.Native.Nat.{ℕ, _+_, _<_, _≤_}
 use mathlib.Core.Bool.{Bool, true, cond}
@@ -20,7 +20,7 @@ use Rattle.tablepath.specs.Answers.{unmapWrites}
 use Rattle.tablepath.specs.Says.{UnmapGone}
 use Rattle.tablepath.specs.Calls.{Call, Within, callWrites, Saw, Act, actWrites, wrote, Runs, UpTo}
 use Rattle.tablepath.specs.Calls as calls
-use Rattle.tablepath.specs.Nights.{Some, Ticketed}
+use Rattle.tablepath.specs.Nights.{Some, Handed}
 use Rattle.tablepath.specs.Gone.{Links}
 use Rattle.tablepath.proofs.Marking.{saw-back}
 use Rattle.tablepath.proofs.Serving.{numbered-aside}
@@ -40,12 +40,12 @@ module _ (h : ℕ → Bool) (sp : Space) where
     act-rises : ticketOf (bookOf m sp) ≤ ticketOf (bookOf (after m es) sp)
     act-rises = act-ticket h sp (ticketOf (bookOf m sp)) m role w (omega arith) a saw (within-less n (ticketOf (bookOf m sp)) (a .call) u within)
 
-    -- A CALL ANSWERS THE TICKET OF THE MOMENT AFTER IT.
-    pub answers-ticket : (t : ℕ) → Ticketed h sp (a .call) (a .saw) t → t ≡ ticketOf (bookOf (after m es) sp)
-    unfolding Ticketed callWrites
-    answers-ticket t k = planned (a .call) refl k ∙ saw-ticket h sp (act-served h sp n m role w u a saw within .whole) saw-end
+    -- A CALL HANDS OUT THE TICKET OF THE MOMENT AFTER IT.
+    pub handed-then : (t : ℕ) → Handed h (a .saw) sp (a .call) t → t ≡ ticketOf (bookOf (after m es) sp)
+    unfolding Handed callWrites
+    handed-then t k = planned (a .call) refl k ∙ saw-ticket h sp (act-served h sp n m role w u a saw within .whole) saw-end
       where
-        planned : (c : Call) → a .call ≡ c → Ticketed h sp c (a .saw) t → t ≡ ticketOf (bookOf (word.after (a .saw) (callWrites h (a .saw) sp (a .call))) sp)
+        planned : (c : Call) → a .call ≡ c → Handed h (a .saw) sp c t → t ≡ ticketOf (bookOf (word.after (a .saw) (callWrites h (a .saw) sp (a .call))) sp)
         planned (calls.map q) e k = absurd k
         planned (calls.protect b r) e k = absurd k
         planned (calls.told j) e k = absurd k
@@ -87,13 +87,13 @@ module _ (h : ℕ → Bool) (sp : Space) where
       let list : ticketOf (bookOf (after m (actWrites h sp a ++ wrote h sp cs)) sp) ≡ ticketOf (bookOf (after (after m (actWrites h sp a)) (wrote h sp cs)) sp) = ap (λ x. ticketOf (bookOf x sp)) (after-append (actWrites h sp a) (wrote h sp cs) m) in
       omega (arith, act-rises n m role w u a (r .0) (t .0), next, list)
 
-  -- what the calls answered lies between the first ticket and the last
+  -- what the calls handed out lies between the first ticket and the last
   pub run-tickets : (n : ℕ) (m : ℕ → ℕ) (role : ℕ → Role) (cs : List Act) → Whole h sp m role → n ≤ ticketOf (bookOf m sp) → Runs h sp m cs → UpTo n cs
-      → (j : ℕ) → Some (λ a. Ticketed h sp (a .call) (a .saw) j) cs → (ticketOf (bookOf m sp) ≤ j) × (j ≤ ticketOf (bookOf (after m (wrote h sp cs)) sp))
+      → (j : ℕ) → Some (λ a. Handed h (a .saw) sp (a .call) j) cs → (ticketOf (bookOf m sp) ≤ j) × (j ≤ ticketOf (bookOf (after m (wrote h sp cs)) sp))
   unfolding wrote Runs UpTo Some
   run-tickets n m role [] w u r t j s = absurd s
   run-tickets n m role (a ∷ cs) w u r t j s = elim s [
-    | inl k ↦ let e = answers-ticket n m role w u a (r .0) (t .0) j k in (omega (arith, rises), omega (arith, list, rest))
+    | inl k ↦ let e = handed-then n m role w u a (r .0) (t .0) j k in (omega (arith, rises), omega (arith, list, rest))
     | inr k ↦ let b = run-tickets n (after m (actWrites h sp a)) served cs whole above (r .1) (t .1) j k in (omega (arith, rises, b .0), omega (arith, list, b .1))
   ]
     where

@@ -135,6 +135,13 @@ untoldKept = record { half = λ p. IsHalf (p .place); finished = λ p. IsFinishe
 abbrev pub upperDropped : Caches At Found
 upperDropped = record { half = λ p. ⊥; finished = λ p. IsFinished (p .place); page = IsPage }
 
+-- THE CALL HANDED OUT the ticket t: unmap, where it set tables aside
+unfoldable pub Handed : (ℕ → Bool) → (ℕ → ℕ) → Space → Call → ℕ → Type 0
+Handed h m sp (map q) t = ⊥
+Handed h m sp (unmap va) t = (g : Gone) × (unmapAnswer h m sp va ≡ unmapped.Done g) × (0 < g .aside) × (g .ticket ≡ t)
+Handed h m sp (protect va r) t = ⊥
+Handed h m sp (told n) t = ⊥
+
 module _ (h : ℕ → Bool) (sp : Space) where
   -- the walks of this space
   abbrev pub walks : Walker ℕ (ℕ → Entry) ℕ At Found
@@ -174,13 +181,6 @@ module _ (h : ℕ → Bool) (sp : Space) where
   -- so of one of the calls
   abbrev pub Hits : (Call → (ℕ → ℕ) → ℕ → Type 0) → List Act → ℕ → Type 0
   Hits H cs va = Some (λ a. H (a .call) (a .saw) va) cs
-
-  -- THE TICKET THAT A CALL ANSWERED: unmap's, where it set tables aside
-  unfoldable pub Ticketed : Call → (ℕ → ℕ) → ℕ → Type 0
-  Ticketed (map q) s t = ⊥
-  Ticketed (unmap b) s t = (g : Gone) × (unmapAnswer h s sp b ≡ unmapped.Done g) × (0 < g .aside) × (g .ticket ≡ t)
-  Ticketed (protect b r) s t = ⊥
-  Ticketed (told n) s t = ⊥
 
   -- some walk or cache gives o for va now
   pub record Gets (C : Caches At Found) (N : Night) (va : ℕ) (o : Found) : Type 0 where

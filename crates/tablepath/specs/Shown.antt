@@ -21,7 +21,7 @@ use Rattle.pool.specs.declared.Space.{Space}
 use Rattle.plan.specs.declared.maps.Asked.{Asked}
 use Rattle.effect.specs.Whole.{Whole}
 use Rattle.tablepath.specs.Calls.{means, PoolWord, Remarked, Act, UpTo}
-use Rattle.tablepath.specs.Nights.{Night, done, history, present, lastBegan, lastSince, covered, uncovered, Some, IsPage, IsHalf, butRights, untoldKept, upperDropped, walks, waiting, seen, Unmaps, Hit, Hits, Ticketed, Gets, MayRead, Given, Onward}
+use Rattle.tablepath.specs.Nights.{Night, done, history, present, lastBegan, lastSince, covered, uncovered, Some, IsPage, IsHalf, butRights, untoldKept, upperDropped, walks, waiting, seen, Unmaps, Hit, Hits, Handed, Gets, MayRead, Given, Onward}
 use Rattle.tablepath.specs.Gone.{dawn, Avoids, MappedAt, Maps, Mapped, pageOf, MappedSince, Listed, Links}
 
 module _ (h : ℕ → Bool) (sp : Space) where
@@ -65,13 +65,13 @@ module _ (h : ℕ → Bool) (sp : Space) where
   abbrev pub ReleasedUnread : Night → Type 0
   ReleasedUnread N = (p k : ℕ) → Numbered (seen h sp N) sp p k → k < ticketOf (bookOf (lastBegan N) sp) → (va i : ℕ) → i < 512 → ¬ MayRead h sp untoldKept N va (at p i)
 
-  -- A TICKET THAT A COVERED CALL ANSWERED may be reported: it is at most that of the moment at which the shootdown began that was done last.
+  -- A TICKET THAT A COVERED CALL HANDED OUT may be reported: it is at most that of the moment at which the shootdown began that was done last.
   abbrev pub CoveredTicket : Night → Type 0
-  CoveredTicket N = (t : ℕ) → Some (λ a. Ticketed h sp (a .call) (a .saw) t) (covered N) → t ≤ ticketOf (bookOf (lastBegan N) sp)
+  CoveredTicket N = (t : ℕ) → Some (λ a. Handed h (a .saw) sp (a .call) t) (covered N) → t ≤ ticketOf (bookOf (lastBegan N) sp)
 
-  -- ONE THAT AN UNCOVERED CALL ANSWERED is at least that: so an honest report covers every call that answered a lower ticket.
+  -- ONE THAT AN UNCOVERED CALL HANDED OUT is at least that: so an honest report covers every call that handed out a lower one.
   abbrev pub UncoveredTicket : Night → Type 0
-  UncoveredTicket N = (t : ℕ) → Some (λ a. Ticketed h sp (a .call) (a .saw) t) (uncovered N) → ticketOf (bookOf (lastBegan N) sp) ≤ t
+  UncoveredTicket N = (t : ℕ) → Some (λ a. Handed h (a .saw) sp (a .call) t) (uncovered N) → ticketOf (bookOf (lastBegan N) sp) ≤ t
 
   -- Between operations ---------------------------------------------------------------------------------------------------------------
 
