@@ -45,11 +45,11 @@ use Rattle.effect.proofs.ProtectDone.{protected}
 use Rattle.effect.proofs.ToldDone as effect
 use Rattle.effect.proofs.Wholes.{book-opens}
 use Rattle.tablepath.specs.declared.Mapped.the-variants as mapped′
-use Rattle.tablepath.specs.Answers.{mapAnswer, mapWrites, goneOf, unmapSaid, unmapAnswer, unmapWrites, sameOf, protectSaid, protectAnswer, protectWrites, toldWrites, toldDid, dueDid}
+use Rattle.tablepath.specs.Answers.{mapAnswer, mapWrites, unmapWrites, protectWrites, toldWrites, toldDid, dueDid}
 use Rattle.tablepath.specs.Calls.{means, Call, Within, callWrites, Saw, Act, actWrites}
 use Rattle.tablepath.specs.Calls as calls
 use Rattle.tablepath.specs.Nights.{Unmaps, Protects}
-use Rattle.tablepath.proofs.SaysAny.{map-goes}
+use Rattle.tablepath.proofs.SaysAny.{map-goes, unmap-goes, protect-goes}
 use Rattle.tablepath.proofs.Marking.{planned-writes, planned-others, saw-back, others-all, saw-alike}
 use Rattle.tablepath.proofs.Serving.{IsBuilt}
 use Rattle.tablepath.proofs.Running.{act-served, seen-whole, saw-act}
@@ -115,25 +115,27 @@ module _ (h : ℕ → Bool) (sp : Space) where
         (λ vb n. mapped (p .fresh .need) (map-goes h m sp q p e) (nothing-mapped (w .sound .built) vb (omega arith) (d .missing .comes) (d .missing .nothing) n) refl)
 
     unmap-stirs : (va : ℕ) (x : Removing) → unmap.decideOf h m sp va ≡ x → Stirs (calls.unmap va) m m (eventsOf (unmap.didOf sp va x))
-    unfolding unmap.didOf unmapAnswer unmapSaid goneOf Unmaps
+    unfolding unmap.didOf Unmaps
     unmap-stirs va (removing.Refused y) e = stirs-none (calls.unmap va) m
     unmap-stirs va (removing.Go r) e =
         let d = unmapped w va r e in
         turned (calls.unmap va) va (r .spot .way .level) Nothing (d .role') (unmap.writesOf sp va r) (d .changed)
         (λ vb n.
         let i = near-in va (r .spot .way .level) (r .spot .size) vb (d .size-is) (d .aligned) n in
-        gone (goneOf (bookOf m sp) r, rw e, i .0, i .1)
+        let g = unmap-goes h m sp va r e in
+        gone (g .0, g .1, i .0, omega (arith, i .1, g .2))
         (near-page va (r .spot .way .level) (r .spot .size) (r .spot .frame) (d .had) (d .size-is) (d .aligned) (d .before) vb n) refl)
 
     protect-stirs : (va : ℕ) (g : Rights) (x : Changing) → protect.decideOf h m sp va g ≡ x → Stirs (calls.protect va g) m m (eventsOf (protect.didOf x))
-    unfolding protect.didOf protectAnswer protectSaid sameOf Protects
+    unfolding protect.didOf Protects
     protect-stirs va g (changing.Refused y) e = stirs-none (calls.protect va g) m
     protect-stirs va g (changing.Go c) e =
         let d = protected w va g c e in
         turned (calls.protect va g) va (d .level) (Page va (c .size) (c .frame) g) role (protect.writesOf c) (d .changed)
         (λ vb n.
         let i = near-in va (d .level) (c .size) vb (d .size-is) (d .aligned) n in
-        changed (_, ap protectSaid e, i .0, i .1)
+        let y = protect-goes h m sp va g c e in
+        changed (y .0, y .1, i .0, omega (arith, i .1, y .2))
         (near-page va (d .level) (c .size) (c .frame) (d .had) (d .size-is) (d .aligned) (d .before) vb n) refl)
 
     due-stirs : (t : ℕ) (x : Due) → dueOf (bookOf m sp) t ≡ x → Stirs (calls.told t) m m (eventsOf (dueDid sp (bookOf m sp) x))

@@ -1,4 +1,4 @@
--- THE TICKETS OF A NIGHT: what a covered call answered may be reported, and what a report releases nothing that is held reads. Statements: specs/Shown.antt.
+-- THE TICKETS OF A NIGHT: what a covered call handed out may be reported, and what a report releases nothing that is held reads. Statements: specs/Shown.antt.
 use Prim.Native.Nat.{ℕ, _≤_}
 use mathlib.Core.Bool.{Bool}
 use mathlib.Core.List.{List, [], _∷_, _++_}

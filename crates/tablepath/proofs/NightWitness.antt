@@ -3,7 +3,7 @@
 use Prim.Native.Nat.{ℕ, _+_, _%_, _<_}
 use mathlib.Core.Bool.{Bool}
 use mathlib.Core.List.{List, [], _∷_, _++_, append-nil}
-use mathlib.Core.Logic.{_⊎_, inl, inr}
+use mathlib.Core.Logic.{inl, inr}
 use mathlib.Core.Path.{_≡_, refl, sym, ap, _∙_, subst}
 use native.Mathlib.Decide.{decLt}
 use native.Mathlib.Omega.{arith}
@@ -34,7 +34,7 @@ use Rattle.plan.specs.Unmap as unmap
 use Rattle.plan.specs.declared.unmaps.Removal.{Removal}
 use Rattle.plan.specs.declared.unmaps.Removing.the-variants as unmap′
 use Rattle.effect.specs.Whole.{Whole}
-use Rattle.effect.specs.UnmapDone.{UnmapDone, SetAside}
+use Rattle.effect.specs.UnmapDone.{UnmapDone}
 use Rattle.effect.proofs.MapDone.{mapped-outside}
 use Rattle.effect.proofs.UnmapDone.{unmapped}
 use Rattle.effect.proofs.Exactly.{unmap-exactly}
@@ -183,16 +183,14 @@ module _ (s : List ℕ) (e : length s ≡ 20480) where
 
   -- and the three tables are set aside
   aside₂ : (j : ℕ) → j < 3 → (k : ℕ) × Numbered m₂ five (pageAt m five j) k
-  aside₂ j u = go (removed .fate (pageAt m five j))
+  aside₂ j u = elim (removed .fate (pageAt m five j)) [ inr a ↦ (a .number, a .numbered) | inl f ↦ absurd (table-still f) ]
     where
       was : (l : ℕ) × (q : ℕ) × (i : ℕ) × (five-pages s e .0 (pageAt m five j) ≡ table l q i)
       was = five-pages s e .2 j u
 
-      go : (removed .role' (pageAt m five j) ≡ five-pages s e .0 (pageAt m five j))
-          ⊎ SetAside five (five-pages s e .0) (removed .role') m₂ (ticketOf (bookOf m₁ five)) (ticketOf (bookOf m₁ five) + removes .0 .empties) (pageAt m five j)
-          → (k : ℕ) × Numbered m₂ five (pageAt m five j) k
-      go (inr a) = (a .number, a .numbered)
-      go (inl f) =
+      -- a table would still lead to a page
+      table-still : removed .role' (pageAt m five j) ≡ five-pages s e .0 (pageAt m five j) → ⊥
+      table-still f =
           let b = removed .whole .sound .built in
           let is = f ∙ was .3 in
           let c = reached b (pageAt m five j) (was .0) (was .1) (was .2) is in
@@ -200,7 +198,7 @@ module _ (s : List ℕ) (e : length s ≡ 20480) where
           let up = b .up (pageAt m five j) (was .0) (was .1) (was .2) is in
           let x = table-mapped b (removed .whole .sound .filled) (p .0) (subst (λ i. entryAt m₂ (was .0) (was .1) i ≡ Table (pageAt m five j) everything) (sym (p .2)) (up .2)) in
           let z : _≡_ {A = ℕ} 0 1 = cc (nothing₂ (x .address), x .means) in
-          absurd (omega arith)
+          omega arith
 
   -- The night ---------------------------------------------------------------------------------------------------------------------------------
 

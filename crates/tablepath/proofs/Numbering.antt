@@ -1,4 +1,4 @@
--- NUMBERS AND TICKETS ALONG A RUN: no ticket falls, a call answers the ticket of the moment after it, and a page with a number below the first ticket had
+-- NUMBERS AND TICKETS ALONG A RUN: no ticket falls, a call hands out the ticket of the moment after it, and a page with a number below the first ticket had
 -- that number from the beginning, so that no call linked it.
 use Prim.Native.Nat.{ℕ, _+_, _<_, _≤_}
 use mathlib.Core.Bool.{Bool}
@@ -38,9 +38,9 @@ module _ (h : ℕ → Bool) (sp : Space) where
     act-rises : ticketOf (bookOf m sp) ≤ ticketOf (bookOf (after m es) sp)
     act-rises = act-ticket h sp (ticketOf (bookOf m sp)) m role w (omega arith) a saw (within-less n (ticketOf (bookOf m sp)) (a .call) u within)
 
-    -- A CALL ANSWERS THE TICKET OF THE MOMENT AFTER IT.
-    pub answers-ticket : (t : ℕ) → Handed h (a .saw) sp (a .call) t → t ≡ ticketOf (bookOf (after m es) sp)
-    answers-ticket t k =
+    -- A CALL HANDS OUT THE TICKET OF THE MOMENT AFTER IT.
+    pub handed-then : (t : ℕ) → Handed h (a .saw) sp (a .call) t → t ≡ ticketOf (bookOf (after m es) sp)
+    handed-then t k =
         handed-now (seen-whole h sp n m role w u a saw within) (a .call) t k ∙ saw-ticket h sp (act-served h sp n m role w u a saw within .whole) saw-end
 
     -- A PAGE WITH A NUMBER BELOW THE TICKET had it before, and the call did not link it.
@@ -75,13 +75,13 @@ module _ (h : ℕ → Bool) (sp : Space) where
       let list : ticketOf (bookOf (after m (actWrites h sp a ++ wrote h sp cs)) sp) ≡ ticketOf (bookOf (after (after m (actWrites h sp a)) (wrote h sp cs)) sp) = ap (λ x. ticketOf (bookOf x sp)) (after-append (actWrites h sp a) (wrote h sp cs) m) in
       omega (arith, act-rises n m role w u a (r .0) (t .0), next, list)
 
-  -- what the calls answered lies between the first ticket and the last
+  -- what the calls handed out lies between the first ticket and the last
   pub run-tickets : (n : ℕ) (m : ℕ → ℕ) (role : ℕ → Role) (cs : List Act) → Whole h sp m role → n ≤ ticketOf (bookOf m sp) → Runs h sp m cs → UpTo n cs
       → (j : ℕ) → Some (λ a. Handed h (a .saw) sp (a .call) j) cs → (ticketOf (bookOf m sp) ≤ j) × (j ≤ ticketOf (bookOf (after m (wrote h sp cs)) sp))
   unfolding wrote Runs UpTo Some
   run-tickets n m role [] w u r t j s = absurd s
   run-tickets n m role (a ∷ cs) w u r t j s = elim s [
-    | inl k ↦ let e = answers-ticket n m role w u a (r .0) (t .0) j k in (omega (arith, rises), omega (arith, list, rest))
+    | inl k ↦ let e = handed-then n m role w u a (r .0) (t .0) j k in (omega (arith, rises), omega (arith, list, rest))
     | inr k ↦ let b = run-tickets n (after m (actWrites h sp a)) served cs whole above (r .1) (t .1) j k in (omega (arith, rises, b .0), omega (arith, list, b .1))
   ]
     where
@@ -110,7 +110,7 @@ module _ (h : ℕ → Bool) (sp : Space) where
   handed-later n m role a cs w u r t i j k s =
       let later = run-tickets n (after m (actWrites h sp a)) (act-served h sp n m role w u a (r .0) (t .0) .role) cs (act-whole h sp n m role w u a (r .0) (t .0))
       (act-ticket h sp n m role w u a (r .0) (t .0)) (r .1) (t .1) j s in
-      omega (arith, answers-ticket n m role w u a (r .0) (t .0) i k, later .0)
+      omega (arith, handed-then n m role w u a (r .0) (t .0) i k, later .0)
 
   pub run-earlier : (n : ℕ) (m : ℕ → ℕ) (role : ℕ → Role) (cs : List Act) → Whole h sp m role → n ≤ ticketOf (bookOf m sp) → Runs h sp m cs → UpTo n cs
       → (p k : ℕ) → Numbered (after m (wrote h sp cs)) sp p k → k < ticketOf (bookOf m sp) → Numbered m sp p k × ¬ Some (Links h sp p) cs

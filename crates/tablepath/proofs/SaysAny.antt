@@ -8,6 +8,7 @@ use native.Mathlib.Omega.{arith}
 use lib.ListN.{length}
 use Rattle.word.specs.Memory.{memory, holds}
 use Rattle.word.specs.Writes.{carried}
+use Rattle.entry.specs.declared.Rights.{Rights}
 use Rattle.pool.specs.Book.{bookOf, openedOf, dueOf}
 use Rattle.pool.specs.Create.{createdOf, createdIn, createWrites, createIn, newSpace, mayCreate}
 use Rattle.pool.specs.declared.Space.{Space}
@@ -78,6 +79,17 @@ pub protect-done-by : (g : Same) (x : Changing) → protectSaid x ≡ protected.
 unfolding protectSaid
 protect-done-by g (changing.Go c) e = (c, refl, cc)
 protect-done-by g (changing.Refused y) e = let z : _≡_ {A = ℕ} 0 1 = cc in absurd (omega arith)
+
+-- where they are done, they answer the size of the page
+pub unmap-goes : (h : ℕ → Bool) (m : ℕ → ℕ) (sp : Space) (va : ℕ) (r : Removal) → unmap.decideOf h m sp va ≡ removing.Go r
+    → (g : Gone) × (unmapAnswer h m sp va ≡ unmapped.Done g) × (g .size ≡ r .spot .size)
+unfolding unmapAnswer unmapSaid goneOf
+unmap-goes h m sp va r e = (_, ap (unmapSaid (bookOf m sp)) e, refl)
+
+pub protect-goes : (h : ℕ → Bool) (m : ℕ → ℕ) (sp : Space) (va : ℕ) (rights : Rights) (c : Change) → protect.decideOf h m sp va rights ≡ changing.Go c
+    → (g : Same) × (protectAnswer h m sp va rights ≡ protected.Done g) × (g .size ≡ c .size)
+unfolding protectAnswer protectSaid sameOf
+protect-goes h m sp va rights c e = (_, ap protectSaid e, refl)
 
 pub due-unknown : (x : Due) → dueSaid x ≡ told.Unknown → x ≡ due.Unknown
 unfolding dueSaid

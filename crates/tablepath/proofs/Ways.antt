@@ -38,15 +38,16 @@ use Rattle.plan.specs.declared.unmaps.Removing.the-variants as removing
 use Rattle.plan.specs.declared.protects.Changing.{Changing}
 use Rattle.plan.specs.declared.protects.Changing.the-variants as changing
 use Rattle.effect.specs.Whole.{Whole}
-use Rattle.effect.specs.UnmapDone.{SetAside, UnmapDone}
+use Rattle.effect.specs.UnmapDone.{UnmapDone}
 use Rattle.effect.proofs.MapDone.{decided-done}
 use Rattle.effect.proofs.UnmapDone.{unmapped}
 use Rattle.effect.proofs.ProtectDone.{protected}
 use Rattle.effect.proofs.Wholes.{book-opens}
-use Rattle.tablepath.specs.Answers.{mapWrites, goneOf, unmapSaid, unmapAnswer, unmapWrites, protectWrites, toldWrites, toldDid, dueDid}
+use Rattle.tablepath.specs.Answers.{mapWrites, unmapWrites, protectWrites, toldWrites, toldDid, dueDid}
 use Rattle.tablepath.specs.Calls.{Call, Within, callWrites, Saw, Act, actWrites}
 use Rattle.tablepath.specs.Calls as calls
 use Rattle.tablepath.specs.Nights.{Unmaps}
+use Rattle.tablepath.proofs.SaysAny.{unmap-goes}
 use Rattle.tablepath.proofs.Marking.{planned-writes, planned-others, saw-back, others-all, saw-alike}
 use Rattle.tablepath.proofs.Serving.{IsBuilt}
 use Rattle.tablepath.proofs.Serves.{release-spare}
@@ -130,20 +131,20 @@ module _ (h : ℕ → Bool) (sp : Space) where
 
     unmap-ways : (va : ℕ) (x : Removing) → unmap.decideOf h m sp va ≡ x
         → All m (eventsOf (unmap.didOf sp va x)) (WaysTo (calls.unmap va) m (after m (eventsOf (unmap.didOf sp va x))))
-    unfolding unmap.didOf unmapAnswer unmapSaid goneOf Unmaps
+    unfolding unmap.didOf Unmaps
     unmap-ways va (removing.Refused y) e = ways-none (calls.unmap va) m
     unmap-ways va (removing.Go r) e =
         let d = unmapped w va r e in
-        let hit : Unmaps h sp (calls.unmap va) m va = (goneOf (bookOf m sp) r, rw e, omega arith, omega (arith, d .size-is, size-pos (r .spot .way .level))) in
-        changed-ways (calls.unmap va) va (r .spot .way .level) (d .role') (unmap.writesOf sp va r) (d .changed) (λ p live. go d hit p live (d .fate p) (d .on-way p))
+        let g = unmap-goes h m sp va r e in
+        let hit : Unmaps h sp (calls.unmap va) m va = (g .0, g .1, omega arith, omega (arith, g .2, d .size-is, size-pos (r .spot .way .level))) in
+        changed-ways (calls.unmap va) va (r .spot .way .level) (d .role') (unmap.writesOf sp va r) (d .changed) (λ p live. go d hit p (elim (d .fate p) [ inl f ↦ inl f | inr f ↦ inr (ap left (f .is)) ]) (d .on-way p))
       where
-        go : (d : UnmapDone h sp m role va r) → Unmaps h sp (calls.unmap va) m va → (p : ℕ) → left (role p) ≢ 0
-            → (d .role' p ≡ role p) ⊎ SetAside sp role (d .role') (word.after m (unmap.writesOf sp va r)) (ticketOf (bookOf m sp)) (ticketOf (bookOf m sp) + r .empties) p
+        go : (d : UnmapDone h sp m role va r) → Unmaps h sp (calls.unmap va) m va → (p : ℕ) → (d .role' p ≡ role p) ⊎ (left (d .role' p) ≡ 0)
             → (d .role' p ≡ role p) ⊎ Comes (settingOf h sp) m va (left (role p)) p
             → (d .role' p ≡ role p) ⊎ ((left (d .role' p) ≡ 0) × Unmaps h sp (calls.unmap va) m va × Comes (settingOf h sp) m va (left (role p)) p)
-        go d hit p live (inl f) way = inl f
-        go d hit p live (inr f) (inl g) = inl g
-        go d hit p live (inr f) (inr g) = inr (ap left (f .is), hit, g)
+        go d hit p (inl f) way = inl f
+        go d hit p (inr f) (inl g) = inl g
+        go d hit p (inr f) (inr g) = inr (f, hit, g)
 
     protect-ways : (va : ℕ) (g : Rights) (x : Changing) → protect.decideOf h m sp va g ≡ x
         → All m (eventsOf (protect.didOf x)) (WaysTo (calls.protect va g) m (after m (eventsOf (protect.didOf x))))

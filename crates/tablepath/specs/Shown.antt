@@ -66,11 +66,11 @@ module _ (h : ℕ → Bool) (sp : Space) where
   abbrev pub ReleasedUnread : Night → Type 0
   ReleasedUnread N = (p k : ℕ) → Numbered (seen h sp N) sp p k → k < ticketOf (bookOf (lastBegan N) sp) → (va i : ℕ) → i < 512 → ¬ MayRead h sp untoldKept N va (at p i)
 
-  -- A TICKET THAT A COVERED CALL ANSWERED may be reported: it is at most that of the moment at which the shootdown began that was done last.
+  -- A TICKET THAT A COVERED CALL HANDED OUT may be reported: it is at most that of the moment at which the shootdown began that was done last.
   abbrev pub CoveredTicket : Night → Type 0
   CoveredTicket N = (t : ℕ) → Some (λ a. Handed h (a .saw) sp (a .call) t) (covered N) → t ≤ ticketOf (bookOf (lastBegan N) sp)
 
-  -- ONE THAT AN UNCOVERED CALL ANSWERED is at least that: so an honest report covers every call that answered a lower ticket.
+  -- ONE THAT AN UNCOVERED CALL HANDED OUT is at least that: so an honest report covers every call that handed out a lower one.
   abbrev pub UncoveredTicket : Night → Type 0
   UncoveredTicket N = (t : ℕ) → Some (λ a. Handed h (a .saw) sp (a .call) t) (uncovered N) → ticketOf (bookOf (lastBegan N) sp) ≤ t
 
