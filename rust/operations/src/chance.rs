@@ -217,7 +217,7 @@ impl Scene {
         match random.below(16) {
             0 => random.below(4),
             1 => random.pick(&[u64::MAX, 1 << 62, (1 << 62) + 1, (1 << 62) - 1, random_word(last)]),
-            2 => last + 1,
+            2 => last.wrapping_add(1),
             3 => last.saturating_sub(1),
             4..=9 if all > 0 => hints.tickets[all - 1 - random.index(all.min(6))],
             _ => last,

@@ -52,7 +52,7 @@ impl Hints {
             }
             (Request::Unmap { base, .. }, Answer::Unmapped(unmapped)) if unmapped.reason == 0 => {
                 self.pages.retain(|page| page.0 != base);
-                if unmapped.ticket != 0 {
+                if self.tickets.last() != Some(&unmapped.ticket) {
                     self.tickets.push(unmapped.ticket);
                 }
             }
