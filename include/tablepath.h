@@ -269,7 +269,7 @@ static inline const char *tp_reason_text(uint64_t reason) {
     case TP_POOL_LARGE: return "more pages than a book can list";
     case TP_POOL_SMALL: return "no room for the book and a root";
     case TP_POOL_OUTSIDE: return "the pool does not lie in the window";
-    case TP_BAD_ROOT: return "the root is no page of the pool behind its book";
+    case TP_BAD_ROOT: return "the root is no page of the pool behind its book, or not the book's";
     case TP_NO_BOOK: return "no pool was made here";
     case TP_OTHER_BOOK: return "a pool of another size was made here";
     case TP_BAD_BOOK: return "the book does not add up";
