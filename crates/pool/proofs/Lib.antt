@@ -15,4 +15,5 @@ pub mod Proper
 pub mod NewRoles
 pub mod Fresh
 pub mod Makes
+pub mod Alone
 pub mod Interrupted
