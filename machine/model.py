@@ -70,11 +70,11 @@ class Tables:
         return found
 
     def ticket(self):
-        return self.header(4) + self.header(5)
+        return self.header(TICKETS_AT) + self.header(ASIDE_AT)
 
     def state(self):
         """Pages, free, set aside, tables but for the root, ticket."""
-        return self.pages, self.header(3), self.header(4), len(self.linked()) - 1, self.ticket()
+        return self.pages, self.header(FREE_AT), self.header(ASIDE_AT), len(self.linked()) - 1, self.ticket()
 
     def slot(self, k):
         head = self.header(HEAD_AT)
