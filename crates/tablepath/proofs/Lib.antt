@@ -6,6 +6,7 @@ pub mod Serves
 pub mod Beside
 pub mod RoundTrips
 pub mod Wholes
+pub mod Handles
 pub mod Reported
 pub mod MapUnmap
 pub mod InPool

@@ -20,15 +20,17 @@ use Rattle.pool.specs.Layout.{bookPages}
 use Rattle.pool.specs.declared.Space.{Space}
 use Rattle.tablepath.specs.Calls.{Marks}
 
--- n' is n with marks: it says the same everywhere, a 0 is a 0, what is as we write it is so, and the book's words are the same
+-- n' is n with marks: it says the same everywhere, a 0 is a 0, what is as we write it is so, the book's words are the same, and a word that is
+-- another is odd
 pub record MarkedFrom (sp : Space) (n n' : ℕ → ℕ) : Type 0 where
   pub same : (x l : ℕ) → says l (n' x) ≡ says l (n x)
   pub zeros : (x : ℕ) → n x ≡ 0 → n' x ≡ 0
   pub clean : (x l : ℕ) → Clean l (n x) → Clean l (n' x)
   pub books : (x : ℕ) → sp .first ≤ x / 512 → x / 512 < sp .first + bookPages (sp .pages) → n' x ≡ n x
+  pub odds : (x : ℕ) → (n' x ≡ n x) ⊎ (n' x % 2 ≡ 1)
 
 marked-self : (sp : Space) (m : ℕ → ℕ) → MarkedFrom sp m m
-marked-self sp m = record { same = λ x l. refl; zeros = λ x e. e; clean = λ x l c. c; books = λ x u v. refl }
+marked-self sp m = record { same = λ x l. refl; zeros = λ x e. e; clean = λ x l c. c; books = λ x u v. refl; odds = λ x. inl refl }
 
 -- the same write to both
 marked-write : (sp : Space) (n n' : ℕ → ℕ) (a v : ℕ) → MarkedFrom sp n n' → MarkedFrom sp (set n a v) (set n' a v)
@@ -37,6 +39,7 @@ marked-write sp n n' a v k = record {
   zeros = λ x e. zeros x e (ℕ-discrete a x);
   clean = λ x l c. clean x l c (ℕ-discrete a x);
   books = λ x u w. books x u w (ℕ-discrete a x);
+  odds = λ x. odds x (ℕ-discrete a x) (k .odds x);
 }
   where
     same : (x l : ℕ) → Dec (a ≡ x) → says l (set n' a v x) ≡ says l (set n a v x)
@@ -55,6 +58,11 @@ marked-write sp n n' a v k = record {
     books x u w (yes p) = set-at n' a v x p ∙ sym (set-at n a v x p)
     books x u w (no d) = set-other n' a v x d ∙ k .books x u w ∙ sym (set-other n a v x d)
 
+    odds : (x : ℕ) → Dec (a ≡ x) → (n' x ≡ n x) ⊎ (n' x % 2 ≡ 1) → (set n' a v x ≡ set n a v x) ⊎ (set n' a v x % 2 ≡ 1)
+    odds x (yes p) o = inl (set-at n' a v x p ∙ sym (set-at n a v x p))
+    odds x (no d) (inl e) = inl (set-other n' a v x d ∙ e ∙ sym (set-other n a v x d))
+    odds x (no d) (inr e) = inr (ap (λ y. y % 2) (set-other n' a v x d) ∙ e)
+
 -- a mark
 marked-mark : (sp : Space) (n n' : ℕ → ℕ) (a v : ℕ) → Marked v (n' a) → n' a % 2 ≡ 1 → (a / 512 < sp .first) ⊎ (sp .first + bookPages (sp .pages) ≤ a / 512)
     → MarkedFrom sp n n' → MarkedFrom sp n (set n' a v)
@@ -63,6 +71,7 @@ marked-mark sp n n' a v o p f k = record {
   zeros = λ x e. zeros x e (ℕ-discrete a x);
   clean = λ x l c. clean x l c (ℕ-discrete a x);
   books = λ x u w. books x u w f (ℕ-discrete a x);
+  odds = λ x. odds x (ℕ-discrete a x) (k .odds x);
 }
   where
     same : (x l : ℕ) → Dec (a ≡ x) → says l (set n' a v x) ≡ says l (n x)
@@ -82,6 +91,11 @@ marked-mark sp n n' a v o p f k = record {
     books x u w (inl g) (yes q) = let z : a / 512 ≡ x / 512 = ap (λ y. y / 512) q in absurd (omega arith)
     books x u w (inr g) (yes q) = let z : a / 512 ≡ x / 512 = ap (λ y. y / 512) q in absurd (omega arith)
     books x u w g (no d) = set-other n' a v x d ∙ k .books x u w
+
+    odds : (x : ℕ) → Dec (a ≡ x) → (n' x ≡ n x) ⊎ (n' x % 2 ≡ 1) → (set n' a v x ≡ n x) ⊎ (set n' a v x % 2 ≡ 1)
+    odds x (yes q) u = inr (ap (λ y. y % 2) (set-at n' a v x q) ∙ omega (arith, o .low, p))
+    odds x (no d) (inl e) = inl (set-other n' a v x d ∙ e)
+    odds x (no d) (inr e) = inr (ap (λ y. y % 2) (set-other n' a v x d) ∙ e)
 
 marks-over : (sp : Space) (es : List (Event ℕ)) (n n' : ℕ → ℕ) → MarkedFrom sp n n' → Marks sp n' es → MarkedFrom sp (after n (writes es)) (after n' es)
 unfolding Marks after writes happen

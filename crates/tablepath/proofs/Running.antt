@@ -1,8 +1,10 @@
 -- A run of calls, with the machine's marks anywhere: what holds between operations holds at its end, and all of it obeys from the ticket on.
-use Prim.Native.Nat.{ℕ, _/_, _≤_}
+use Prim.Native.Nat.{ℕ, _+_, _/_, _%_, _<_, _≤_}
 use mathlib.Core.Bool.{Bool}
 use mathlib.Core.List.{List, [], _++_}
+use mathlib.Core.Logic.{_⊎_, inl, inr}
 use mathlib.Core.Path.{_≡_, sym, ap, _∙_, subst}
+use native.Mathlib.Omega.{arith}
 use Rattle.word.specs.Memory.{at}
 use Rattle.word.specs.Writes as word
 use Rattle.world.specs.Events.{Event, after, after-append}
@@ -12,7 +14,8 @@ use Rattle.tables.specs.Roles.{Role}
 use Rattle.tables.specs.Unseen.{Alike, alike-sound}
 use Rattle.tables.specs.Discipline.{walkerOf}
 use Rattle.tables.specs.Clearing.{eventsOf, events-after}
-use Rattle.pool.specs.Book.{wordOf, bookOf, ticketOf}
+use Rattle.pool.specs.Layout.{markAt}
+use Rattle.pool.specs.Book.{wordOf, mark, bookOf, ticketOf}
 use Rattle.pool.specs.Booked.{settingOf, SameBook}
 use Rattle.pool.specs.declared.Space.{Space}
 use Rattle.pool.proofs.Booked.{same-counts, booked-same}
@@ -35,8 +38,13 @@ marked-whole h sp m m' role k w = record {
   small = w .small;
   sound = alike-sound (w .sound .built) m' alike (w .sound .filled);
   booked = booked-same (marked-book sp m m' k) (w .booked);
+  alone = λ p u v e. alone p u v e (k .odds (at p markAt));
 }
   where
+    alone : (p : ℕ) → sp .first < p → p < sp .first + sp .pages → m' (at p markAt) ≡ mark → (m' (at p markAt) ≡ m (at p markAt)) ⊎ (m' (at p markAt) % 2 ≡ 1) → ⊥
+    alone p u v e (inl f) = w .alone p u v (sym f ∙ e)
+    alone p u v e (inr f) = omega (arith, e, f)
+
     alike : Alike role m m'
     alike q l i live u = (λ j. k .same (at q i) j, k .zeros (at q i), k .clean (at q i))
 
