@@ -9,6 +9,7 @@ pub mod Says
 pub mod RoundTrips
 pub mod Created
 pub mod Refusals
+pub mod Handles
 pub mod Causes
 pub mod Counted
 pub mod Witness

@@ -5,3 +5,4 @@ pub mod Walked
 pub mod Relied
 pub mod Reasons
 pub mod EntrySays
+pub mod Handles

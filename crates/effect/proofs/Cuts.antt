@@ -1,5 +1,5 @@
 -- Unmap, all the way: after the page's entry each empty table is unlinked and set aside; and that this is what is written.
-use Prim.Native.Nat.{ℕ, zero, suc, _+_, _<_, _≤_}
+use Prim.Native.Nat.{ℕ, zero, suc, _+_, _^_, _<_, _≤_}
 use mathlib.Core.Bool.{Bool, true}
 use mathlib.Core.List.{List, [], _∷_, _++_, append-assoc, append-nil}
 use mathlib.Core.Logic.{_⊎_, inl, inr}
@@ -16,6 +16,7 @@ use Rattle.tables.specs.Roles.{Role, aside}
 use Rattle.tables.specs.Way.{Comes, comes-left}
 use Rattle.tables.specs.Up.{Stays, up-start, up-bare, up-holds, unmap-done}
 use Rattle.tables.specs.Operation.{Changed}
+use Rattle.pool.proofs.Alone.{Unmarking, unmarking-one, unmarking-append, aside-unmarking}
 use Rattle.pool.specs.Book.{bookOf}
 use Rattle.pool.specs.Booked.{settingOf}
 use Rattle.pool.specs.Changes.{asideBook}
@@ -80,6 +81,14 @@ clear va y = write (y .a) (indexOf (y .level) va) 0 ∷ []
 pub cuts : Space → (ℕ → ℕ) → ℕ → Way → ℕ → List Write
 cuts sp m va y zero = clear va y
 cuts sp m va y (suc j) = cuts sp m va y j ++ cutting sp (tableAt y (suc j)) (indexOf (suc (levelAt y j)) va) (tableAt y j) (bookOf (after m (cuts sp m va y j)) sp)
+
+-- none of it is the mark: the numbers of the tables are small
+pub cuts-unmarking : (sp : Space) (m : ℕ → ℕ) (va : ℕ) (y : Way) (n : ℕ) → ((j : ℕ) → j < n → tableAt y j < 2 ^ 40) → Unmarking (cuts sp m va y n)
+unfolding cuts cutting
+cuts-unmarking sp m va y zero u = unmarking-one _ _ 0 (λ e. omega arith)
+cuts-unmarking sp m va y (suc n) u =
+    unmarking-append (cuts sp m va y n) _ (cuts-unmarking sp m va y n (λ j v. u j (omega arith)))
+    (unmarking-append (write _ _ 0 ∷ []) _ (unmarking-one _ _ 0 (λ e. omega arith)) (aside-unmarking sp _ (tableAt y n) (λ e. omega (arith, e, u n (omega arith)))))
 
 -- the roles then
 pub cutRoles : (ℕ → Role) → Way → ℕ → ℕ → Role

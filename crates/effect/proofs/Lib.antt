@@ -3,6 +3,7 @@ pub mod Trace
 pub mod MapPlan
 pub mod MapSteps
 pub mod MapBook
+pub mod Unmarking
 pub mod MapBuilt
 pub mod MapVerdict
 pub mod MapDone

@@ -26,6 +26,7 @@ use Rattle.tables.specs.Clearing.{book-spare}
 use Rattle.tables.specs.Down.{down-start, map-done}
 use Rattle.tables.specs.Operation.{Changed, changed-sound, changed-spare}
 use Rattle.tables.specs.Overlap.{aligned-base}
+use Rattle.pool.proofs.Alone.{alone-after}
 use Rattle.pool.specs.Layout.{bookPages}
 use Rattle.pool.specs.Book.{bookOf, pageAt}
 use Rattle.pool.specs.Booked.{settingOf, Booked, Taken, tablesOf}
@@ -35,6 +36,7 @@ use Rattle.plan.specs.declared.maps.Asked.{Asked}
 use Rattle.plan.specs.declared.maps.Mapping.{Mapping}
 use Rattle.plan.specs.declared.building.Reached.{Reached}
 use Rattle.plan.specs.Map.{nextOf, growOf, reached0, reached1, reached2, reached3, buildOf, writesOf}
+use Rattle.effect.proofs.Unmarking.{page-unmarked, map-unmarking}
 use Rattle.effect.specs.MapDone.{Misses, MapDone}
 use Rattle.effect.specs.Whole.{Whole}
 use Rattle.effect.specs.Numbers.{KeepsNumbers}
@@ -187,7 +189,7 @@ module _ {h : ℕ → Bool} {sp : Space} {m : ℕ → ℕ} {role : ℕ → Role}
       (every-map (λ x u. book-spare (grown3 .roles) x (booked .in-book x (u .0) (u .1))) _ (book-writes-proper sp (p .fresh .book) (p .fresh .need))))
 
   whole : Whole h sp (after m (writesOf sp p)) (grown3 .roles)
-  whole = record { stands = w .stands; small = w .small; sound = changed-sound changed; booked = booked }
+  whole = record { stands = w .stands; small = w .small; sound = changed-sound changed; booked = booked; alone = alone-after sp m (writesOf sp p) (map-unmarking sp p (page-unmarked (p .target) (p .word) _ _ word-says)) (w .alone) }
 
   counts : (bookOf m sp .free ≡ bookOf (after m (writesOf sp p)) sp .free + p .fresh .need) × (bookOf (after m (writesOf sp p)) sp .aside ≡ bookOf m sp .aside)
   unfolding writesOf

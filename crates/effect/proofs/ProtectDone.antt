@@ -22,6 +22,7 @@ use Rattle.tables.specs.Roles.{Role}
 use Rattle.tables.specs.Operation.{Changed, changed-sound}
 use Rattle.tables.specs.Down.{protect-done}
 use Rattle.pool.specs.Book.{bookOf, ticketIn}
+use Rattle.pool.proofs.Alone.{unmarking-one, alone-after}
 use Rattle.pool.specs.Booked.{settingOf}
 use Rattle.pool.specs.declared.Space.{Space}
 use Rattle.pool.proofs.Booked.{Beside, book-beside, numbered-beside, booked-beside}
@@ -34,6 +35,7 @@ use Rattle.plan.specs.declared.protects.Change.{Change}
 use Rattle.plan.specs.declared.protects.Changing.the-variants.{Go, Refused}
 use Rattle.plan.specs.Find.{foundOf}
 use Rattle.plan.specs.Protect.{changeOf, changingOf, decideOf, writesOf}
+use Rattle.effect.proofs.Unmarking.{page-unmarked}
 use Rattle.effect.specs.ProtectDone.{ProtectDone}
 use Rattle.effect.specs.Whole.{Whole}
 use Rattle.plan.proofs.Found.{found-at}
@@ -69,7 +71,7 @@ module _ {h : ℕ → Bool} {sp : Space} {m : ℕ → ℕ} {role : ℕ → Role}
     had = k .rights;
     before = k .means;
     changed = done;
-    whole = record { stands = w .stands; small = w .small; sound = changed-sound done; booked = booked-beside sp m xs beside (w .booked) };
+    whole = record { stands = w .stands; small = w .small; sound = changed-sound done; booked = booked-beside sp m xs beside (w .booked); alone = alone-after sp m xs (unmarking-one q i v (page-unmarked l v _ _ says-it)) (w .alone) };
     kept = rw (← k .traced .word) (with-rights-kept (s .way .word) r);
     marks = rw (← k .traced .word) (with-rights-marks (s .way .word) r);
     proper = every-one q i v (in-of-pool here) (index-lt l va) (with-rights-lt (s .way .word) r);

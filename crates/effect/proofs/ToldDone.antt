@@ -9,6 +9,7 @@ use Rattle.word.proofs.Writes.{Every}
 use Rattle.tables.specs.Roles.{Role, left, Sound}
 use Rattle.tables.specs.Clearing.{Untouched, spare-untouched, untouched-holds}
 use Rattle.tables.specs.Unseen.{shift-sound}
+use Rattle.pool.proofs.Alone.{alone-after, release-unmarking}
 use Rattle.pool.specs.Book.{bookOf, dueOf}
 use Rattle.pool.specs.Booked.{settingOf, Booked, released}
 use Rattle.pool.specs.Changes.{releaseWrites}
@@ -55,6 +56,7 @@ module _ {h : ℕ → Bool} {sp : Space} {m : ℕ → ℕ} {role : ℕ → Role}
       small = w .small;
       sound = record { built = still .built; filled = λ p l q i e. untouched-holds still p l (ap left e) (shifted .filled p l q i e) };
       booked = booked;
+      alone = alone-after sp m (releaseWrites sp (bookOf m sp) k) (release-unmarking sp (bookOf m sp) k) (w .alone);
     };
     same = before .same;
     quiet = before .quiet;

@@ -1,5 +1,5 @@
 -- UNMAP, DONE, from its decision; and that it is decided wherever a page was found.
-use Prim.Native.Nat.{ℕ, _+_, _<_, _≤_}
+use Prim.Native.Nat.{ℕ, _+_, _^_, _<_, _≤_}
 use mathlib.Core.Bool.{Bool, true, cond}
 use mathlib.Core.Logic.{_⊎_, inl, inr}
 use mathlib.Core.Path.{_≡_, refl, sym, ap, _∙_, subst}
@@ -12,6 +12,7 @@ use Rattle.word.proofs.Writes.{Every}
 use Rattle.tables.specs.Roles.{Role}
 use Rattle.walk.specs.declared.Found.the-variants as found
 use Rattle.tables.specs.Operation.{Changed, changed-sound}
+use Rattle.pool.proofs.Alone.{alone-after}
 use Rattle.pool.specs.Layout.{bookPages}
 use Rattle.pool.specs.Book.{bookOf, ticketOf}
 use Rattle.pool.specs.Booked.{settingOf, Numbered, tablesOf}
@@ -27,13 +28,14 @@ use Rattle.plan.specs.declared.finding.Sought.{Sought}
 use Rattle.plan.specs.declared.finding.Sought.the-variants as sought
 use Rattle.plan.specs.declared.unmaps.Removal.{Removal}
 use Rattle.plan.specs.declared.unmaps.Removing.the-variants.{Go, Refused}
+use Rattle.effect.proofs.WayInPool.{spot-through}
 use Rattle.effect.specs.OfPool.{OfPool}
 use Rattle.plan.specs.Find.{foundOf}
 use Rattle.plan.specs.Map.{noBook}
 use Rattle.plan.specs.Unmap.{emptiedOf, bookedOf, openOf, removeOf, soughtOf, decideOf, writesOf}
 use Rattle.effect.specs.UnmapDone.{asideMore, SetAside, UnmapDone}
 use Rattle.effect.specs.Whole.{Whole}
-use Rattle.effect.proofs.Cuts.{cuts, cutRoles, risen, last-level, cut-changed, removal, writes-are}
+use Rattle.effect.proofs.Cuts.{cuts, cutRoles, risen, last-level, cut-changed, removal, writes-are, cuts-unmarking}
 use Rattle.effect.proofs.Emptying.{tableAt, levelAt, level-at, Emptied, emptied}
 use Rattle.plan.proofs.Found.{found-at}
 use Rattle.effect.proofs.Located.{Located, located}
@@ -59,8 +61,9 @@ refusal-clash r y e = cc
 module _ {h : ℕ → Bool} {sp : Space} {m : ℕ → ℕ} {role : ℕ → Role} (w : Whole h sp m role) (va : ℕ) where
   module _ (s : Spot) (k : Located (settingOf h sp) m role va s) where
     -- the removal of n tables, all of them
-    removed : (n : ℕ) (b : Book) → Emptied h m va (s .way) n → (0 < n → b ≡ bookOf m sp) → UnmapDone h sp m role va (removal s n b)
-    removed n b e f = record {
+    removed : (n : ℕ) (b : Book) → Emptied h m va (s .way) n → (0 < n → b ≡ bookOf m sp) → ((j : ℕ) → j < n → tableAt (s .way) j < 2 ^ 40)
+        → UnmapDone h sp m role va (removal s n b)
+    removed n b e f low = record {
       role' = role';
       size-is = k .size-is;
       aligned = rw (k .size-is) (k .aligned);
@@ -88,7 +91,7 @@ module _ {h : ℕ → Bool} {sp : Space} {m : ℕ → ℕ} {role : ℕ → Role}
         same = sym (writes-are w va s k n b (e .empty) f (e .three))
 
         whole : Whole h sp (after m (cuts sp m va (s .way) n)) role'
-        whole = record { stands = w .stands; small = w .small; sound = changed-sound (cut-changed w va s k n e); booked = d .booked }
+        whole = record { stands = w .stands; small = w .small; sound = changed-sound (cut-changed w va s k n e); booked = d .booked; alone = alone-after sp m (cuts sp m va (s .way) n) (cuts-unmarking sp m va (s .way) n low) (w .alone) }
 
         -- so many pages more are set aside, and the pool has them
         counts : bookOf (after m (writesOf sp va (removal s n b))) sp ≡ asideMore n (bookOf m sp)
@@ -149,7 +152,8 @@ module _ {h : ℕ → Bool} {sp : Space} {m : ℕ → ℕ} {role : ℕ → Role}
     unmapped-at f r e =
         let n = emptiedOf h m va (s .way) in
         subst (UnmapDone h sp m role va) (same-removal _ r (sym (unmap-decided f) ∙ e))
-        (removed n (bookRead m sp n) (emptied h m va (s .way)) (book-read m sp n))
+        (removed n (bookRead m sp n) (emptied h m va (s .way)) (book-read m sp n)
+        (λ j u. spot-through (found-at h m sp va s f) .small j (omega (arith, emptied h m va (s .way) .empty j u .0, level-at (s .way) j))))
 
   -- UNMAP, DONE
   pub unmapped : (r : Removal) → decideOf h m sp va ≡ Go r → UnmapDone h sp m role va r

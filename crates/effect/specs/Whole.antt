@@ -1,9 +1,10 @@
--- WHAT HOLDS BETWEEN OPERATIONS: the space makes sense, the tables are built and none but the root is empty, and the book tells the truth.
+-- WHAT HOLDS BETWEEN OPERATIONS: the space makes sense, the tables are built and none but the root is empty, the book tells the truth, and
+-- there is no other in the pool.
 use Prim.Native.Nat.{ℕ, _+_, _^_, _≤_}
 use mathlib.Core.Bool.{Bool}
 use mathlib.Core.Path.{_≡_}
 use Rattle.tables.specs.Roles.{Role, Sound}
-use Rattle.pool.specs.Booked.{settingOf, Booked}
+use Rattle.pool.specs.Booked.{settingOf, Booked, Alone}
 use Rattle.pool.specs.Stands.{standsOf}
 use Rattle.pool.specs.declared.Space.{Space}
 use Rattle.pool.specs.declared.Fit.the-variants.{Fits}
@@ -13,3 +14,4 @@ pub record Whole (h : ℕ → Bool) (sp : Space) (m : ℕ → ℕ) (role : ℕ �
   pub small : sp .first + sp .pages ≤ 2 ^ 40
   pub sound : Sound (settingOf h sp) m role
   pub booked : Booked sp m role
+  pub alone : Alone sp m

@@ -22,6 +22,7 @@ pub mod AfterMap
 pub mod NightWitness
 pub mod RoundTrips
 pub mod Wholes
+pub mod Handles
 pub mod Reported
 pub mod MapUnmap
 pub mod InPool

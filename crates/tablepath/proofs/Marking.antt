@@ -23,8 +23,9 @@ use Rattle.tables.specs.Meaning.{live-home}
 use Rattle.tables.specs.Unseen.{Alike, alike-sound}
 use Rattle.tables.specs.Discipline.{walkerOf}
 use Rattle.tables.specs.Clearing.{eventsOf}
-use Rattle.pool.specs.Layout.{bookPages}
+use Rattle.pool.specs.Layout.{markAt, bookPages}
 use Rattle.pool.specs.Book.{wordOf}
+use Rattle.pool.specs.Book as book
 use Rattle.pool.specs.Booked.{settingOf, SameBook}
 use Rattle.pool.proofs.Words.{word-in}
 use Rattle.pool.specs.declared.Space.{Space}
@@ -201,9 +202,15 @@ module _ (h : ℕ → Bool) (sp : Space) where
 
   -- ALL THAT HOLDS BETWEEN OPERATIONS holds of the one as of the other.
   pub saw-whole : {m n : ℕ → ℕ} {role : ℕ → Role} → Saw sp m n → Whole h sp m role → Whole h sp n role
+  unfolding markAt
   saw-whole {m} {n} {role} k w = record {
     stands = w .stands;
     small = w .small;
     sound = alike-sound (w .sound .built) n (saw-alike k (w .sound .built)) (w .sound .filled);
     booked = booked-same (saw-book sp k (book-fits w)) (w .booked);
+    alone = λ p u v e. alone p u v e (k (at p markAt) (omega (arith, page-of p markAt (omega arith)), omega (arith, page-of p markAt (omega arith))));
   }
+    where
+      alone : (p : ℕ) → sp .first < p → p < sp .first + sp .pages → n (at p markAt) ≡ book.mark → Remarked sp (at p markAt) (m (at p markAt)) (n (at p markAt)) → ⊥
+      alone p u v e (inl f) = w .alone p u v (sym f ∙ e)
+      alone p u v e (inr (j, o, b)) = omega (arith, e, marked-odd (n (at p markAt)) (m (at p markAt)) j o)

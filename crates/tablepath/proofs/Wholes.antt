@@ -84,6 +84,7 @@ module _ (s : List ℕ) (origin first pages : ℕ) where
           small = fit-small s origin first pages f;
           sound = k .1 .sound;
           booked = k .1 .booked;
+          alone = k .1 .alone;
         },
       )
 

@@ -5,3 +5,4 @@ pub mod Tickets
 pub mod Nights
 pub mod Gone
 pub mod Shown
+pub mod Handles
