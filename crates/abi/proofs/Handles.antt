@@ -19,22 +19,23 @@ use Rattle.abi.specs.Calls.{siteOf, shapedSite, askedSite, ask, mapAnswe
 use Rattle.abi.specs.Relied as c
 use Rattle.abi.specs.Relied.{Numbers, Aligned, spaceOf, WholeAt, Call, callOf, leaves, reason}
 use Rattle.abi.specs.Handles.{Rejected, Disjoint}
-use Rattle.abi.specs.declared.Sited.{Sited}
-use Rattle.abi.specs.declared.Sited.the-variants.{At, Refused}
+use Rattle.abi.specs.declared.sites.Sited.{Sited}
+use Rattle.abi.specs.declared.sites.Sited.the-variants.{At, Refused}
 use Rattle.abi.proofs.Named.{call-leaves, map-answers, unmap-answers, protect-answers, told-answers}
 use Rattle.abi.proofs.Reasons.{never-done, pool-never-done}
 use Rattle.abi.proofs.Refusals.{call-refused}
+use Rattle.abi.proofs.Meant.{meant, meant-or-same, map-meant, protect-meant}
 
 module _ (s : List ℕ) (n : Numbers) where
   -- what tablepath rejects has a reason
   given : Aligned n → (x : Call) → the.Rejected (holds s (n .origin)) (memory s (n .origin)) (spaceOf n) (callOf x) → reason s n x ≢ 0
   unfolding reason callOf mapped unmapped protected told
   given a (c.map base frame size rights) k e =
-      never-done (k .refused .0) (ap (λ y. mapped y .reason) (sym (k .refused .1)) ∙ ap (λ y. y .reason) (sym (map-answers n a s base frame size rights)) ∙ e)
+      never-done (k .refused .0) (ap (λ y. mapped y .reason) (sym (k .refused .1)) ∙ ap (λ y. y .reason) (sym (map-answers n a s base frame size rights (map-meant s n base frame size rights e))) ∙ e)
   given a (c.unmap base) k e =
       never-done (k .refused .0) (ap (λ y. unmapped y .reason) (sym (k .refused .1)) ∙ ap (λ y. y .reason) (sym (unmap-answers n a s base)) ∙ e)
   given a (c.protect base rights) k e =
-      never-done (k .refused .0) (ap (λ y. protected y .reason) (sym (k .refused .1)) ∙ ap (λ y. y .reason) (sym (protect-answers n a s base rights)) ∙ e)
+      never-done (k .refused .0) (ap (λ y. protected y .reason) (sym (k .refused .1)) ∙ ap (λ y. y .reason) (sym (protect-answers n a s base rights (protect-meant s n base rights e))) ∙ e)
   given a (c.told ticket) k e =
       pool-never-done (k .refused .0) (ap (λ y. told y .reason) (sym (k .refused .1)) ∙ ap (λ y. y .reason) (sym (told-answers n a s ticket)) ∙ e)
 
@@ -48,9 +49,13 @@ module _ (s : List ℕ) (n : Numbers) where
   unfolding reason unmapAnswer protectAnswer toldAnswer askedSite
   astray y d e (c.map base frame size rights) k =
       let q = ask base frame size rights in
-      shaped-astray q (shapeOf size base frame) y d (subst (λ (z : Sited). mapAnswer s q (shapedSite (shapeOf size base frame) z) .reason ≡ 0) e k)
+      let m = meant rights (askedSite (n .origin) (n .pool) (n .pages) (n .root) q) (map-meant s n base frame size rights k) in
+      let j : mapAnswer s q (shapedSite (shapeOf size base frame) (siteOf (n .origin) (n .pool) (n .pages) (n .root))) .reason ≡ 0 = subst (λ (z : Sited). mapAnswer s q z .reason ≡ 0) m k in
+      shaped-astray q (shapeOf size base frame) y d (subst (λ (z : Sited). mapAnswer s q (shapedSite (shapeOf size base frame) z) .reason ≡ 0) e j)
   astray y d e (c.unmap base) k = d (subst (λ (z : Sited). unmapAnswer s base z .reason ≡ 0) e k)
-  astray y d e (c.protect base rights) k = d (subst (λ (z : Sited). protectAnswer s base (rightsIn rights) z .reason ≡ 0) e k)
+  astray y d e (c.protect base rights) k =
+      let m = meant rights (siteOf (n .origin) (n .pool) (n .pages) (n .root)) (protect-meant s n base rights k) in
+      d (subst (λ (z : Sited). protectAnswer s base (rightsIn rights) z .reason ≡ 0) (m ∙ e) k)
   astray y d e (c.told ticket) k = d (subst (λ (z : Sited). toldAnswer s ticket z .reason ≡ 0) e k)
 
   rejected : (x : Call) → reason s n x ≢ 0 → Rejected s n x
@@ -103,9 +108,12 @@ module _ (s : List ℕ) (n : Numbers) (w : WholeAt s n) (other : Numbers) (same 
       apart a (inr u) = inr (omega (arith, u, a .pool, w .aligned .pool))
 
       go : Alignment s other → WholeAt (leaves s other x) n
-      go (aligned a) = record {
-        aligned = w .aligned;
-        role = w .role;
-        whole = rw (call-leaves other a s x) (others-kept s (spaceOf n) (spaceOf other) (w .role) same (apart a d) (w .whole) (callOf x));
-      }
+      go (aligned a) = elim (meant-or-same s other x) [
+        | inl m ↦ record {
+          aligned = w .aligned;
+          role = w .role;
+          whole = rw (call-leaves other a s x m) (others-kept s (spaceOf n) (spaceOf other) (w .role) same (apart a d) (w .whole) (callOf x));
+        }
+        | inr e ↦ subst (λ (t : List ℕ). WholeAt t n) (sym e) w
+      ]
       go (unaligned y z e) = subst (λ (t : List ℕ). WholeAt t n) (sym (call-refused s other x (astray s other y z e x) .bytes)) w
