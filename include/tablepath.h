@@ -20,7 +20,8 @@
  *   3. the report: tp_told with the ticket that the last of these calls answered, or with any other from before the shootdown began.
  * The report also frees the pages of tables that became empty: until then they are set aside, and nothing writes or hands out such a page.
  * Many calls may share a shootdown, and shootdowns may overlap: a ticket speaks of the last moment at which it was answered, and no report
- * frees what was set aside later. INVLPG is enough on Intel, where it also drops all upper entries of the current PCID, and on AMD, where
+ * frees what was set aside later. Calls that set no table aside answer the ticket of before: a frame is free when a shootdown that began
+ * after its own unmap is done, whatever numbers were told meanwhile. INVLPG is enough on Intel, where it also drops all upper entries of the current PCID, and on AMD, where
  * with EFER.TCE it drops those that lead to the address. So is a write of CR3, since no page is global. Every PCID under which these tables
  * may be cached must be told.
  *
@@ -269,7 +270,7 @@ static inline const char *tp_reason_text(uint64_t reason) {
     case TP_POOL_LARGE: return "more pages than a book can list";
     case TP_POOL_SMALL: return "no room for the book and a root";
     case TP_POOL_OUTSIDE: return "the pool does not lie in the window";
-    case TP_BAD_ROOT: return "the root is no page of the pool behind its book";
+    case TP_BAD_ROOT: return "the root is no page of the pool behind its book, or not the book's";
     case TP_NO_BOOK: return "no pool was made here";
     case TP_OTHER_BOOK: return "a pool of another size was made here";
     case TP_BAD_BOOK: return "the book does not add up";

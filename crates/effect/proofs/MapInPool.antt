@@ -41,7 +41,8 @@ use Rattle.plan.specs.declared.maps.Shape.the-variants as shape
 use Rattle.plan.specs.declared.maps.Supply.{Supply}
 use Rattle.plan.specs.declared.maps.Supply.the-variants.{Pages, Lacking}
 use Rattle.plan.specs.Descend.{wayOf}
-use Rattle.plan.specs.Map.{noBook, shapeOf, meetsOf, nthOf, freshThree, freshOf, stockOf, supplyOf, madeOf, placeOf, becauseOf, stoppedOf, fittingOf, standingOf, shapedOf, decideOf, linkOf, nextOf, growOf, reached0, reached1, reached2, reached3, buildOf, writesOf}
+use Rattle.plan.specs.Map.{noBook, shapeOf, meetsOf, nthOf, freshThree, freshOf, stockOf, supplyOf, sparedOf, madeOf, placeOf, becauseOf, stoppedOf, fittingOf, standingOf, shapedOf, decideOf, linkOf, nextOf, growOf, reached0, reached1, reached2, reached3, buildOf, writesOf}
+use Rattle.plan.proofs.Sparing.{spared-same}
 use Rattle.effect.specs.OfPool.{OfPool}
 use Rattle.effect.proofs.MapBook.{bookWrites, book-writes-proper}
 use Rattle.effect.proofs.MapBuilt.{page-word-small}
@@ -150,12 +151,16 @@ module _ (h : ℕ → Bool) (m : ℕ → ℕ) (sp : Space) (q : Asked) (p : Mapp
     place-went (Pages f) t k e =
         made-went f (madePage target (q .frame) (q .rights)) t (supply-spares h m sp (level - target) f k) refl e
 
-    because-went : (y : Why) → (y ≡ why.Nothing → OfPool sp table) → becauseOf h m sp q target level table y ≡ Go p → MapWent h sp p
-    unfolding becauseOf
-    because-went why.Nothing t e = place-went (supplyOf h m sp (level - target)) (t refl) refl e
-    because-went why.Page t e = clash cc
-    because-went why.Table t e = clash cc
-    because-went why.Stray t e = clash cc
+  because-went : Fitting h (sp .first) (sp .pages) → (target : ℕ) (w : Way) (y : Why) → (y ≡ why.Nothing → OfPool sp (w .a)) → becauseOf h m sp q target w y ≡ Go p → MapWent h sp p
+  unfolding becauseOf placeOf
+  because-went s target w why.Nothing t e = spared (sparedOf w (supplyOf h m sp (w .level - target))) refl e
+    where
+      spared : (x : Supply) → sparedOf w (supplyOf h m sp (w .level - target)) ≡ x → placeOf q target (w .level) (w .a) x ≡ Go p → MapWent h sp p
+      spared (Lacking y) k e = clash cc
+      spared (Pages f) k e = place-went s target (w .level) (w .a) (Pages f) (t refl) (spared-same w (supplyOf h m sp (w .level - target)) f k) e
+  because-went s target w why.Page t e = clash cc
+  because-went s target w why.Table t e = clash cc
+  because-went s target w why.Stray t e = clash cc
 
   -- the way's table, where nothing is
   end-in : (target : ℕ) → wayOf h m sp (q .base) target .why ≡ why.Nothing → OfPool sp (wayOf h m sp (q .base) target .a)
@@ -172,7 +177,7 @@ module _ (h : ℕ → Bool) (m : ℕ → ℕ) (sp : Space) (q : Asked) (p : Mapp
       go true k = clash cc
       go false k =
           let w : Way = wayOf h m sp (q .base) target in
-          because-went (names-shows h m sp s .fits) target (w .level) (w .a) (w .why) (end-in target) k
+          because-went (names-shows h m sp s .fits) target w (w .why) (end-in target) k
 
   shaped-went : (x : Shape) → shapedOf h m sp q x ≡ Go p → MapWent h sp p
   unfolding shapedOf standingOf

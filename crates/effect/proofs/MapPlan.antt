@@ -12,8 +12,8 @@ use Rattle.entry.specs.Words.{fits, pageWord, madePage}
 use Rattle.entry.specs.declared.Made.the-variants as made
 use Rattle.entry.specs.declared.Entry.the-variants.{Nothing}
 use Rattle.walk.specs.Walk.{indexOf}
-use Rattle.tables.specs.Roles.{Role, entryAt}
-use Rattle.tables.specs.Way.{Comes}
+use Rattle.tables.specs.Roles.{Role, left, entryAt}
+use Rattle.tables.specs.Way.{Comes, comes-left}
 use Rattle.pool.specs.Book.{bookOf, pageAt, listedOf}
 use Rattle.pool.specs.Booked.{settingOf}
 use Rattle.pool.specs.declared.Space.{Space}
@@ -21,6 +21,7 @@ use Rattle.pool.specs.declared.Listed.the-variants as listed
 use Rattle.pool.specs.declared.Opened.the-variants as opened
 use Rattle.pool.proofs.Listing.{listed-free}
 use Rattle.plan.specs.declared.Reason.the-variants.{Size, FrameInPool, NoRoom}
+use Rattle.plan.specs.declared.descent.Way.{Way}
 use Rattle.plan.specs.declared.maps.Asked.{Asked}
 use Rattle.plan.specs.declared.maps.Fresh.{Fresh}
 use Rattle.plan.specs.declared.maps.Mapping.{Mapping}
@@ -28,12 +29,14 @@ use Rattle.plan.specs.Map.{Go, Refused}
 use Rattle.plan.specs.declared.maps.Shape.the-variants.{Level, Bad}
 use Rattle.plan.specs.declared.maps.Supply.the-variants.{Pages, Lacking}
 use Rattle.plan.specs.Descend.{wayOf}
-use Rattle.plan.specs.Map.{fitsOf, shapeOf, meetsOf, noBook, nthOf, freshThree, freshOf, stockOf, supplyOf, madeOf, placeOf, stoppedOf, fittingOf, standingOf, shapedOf, decideOf}
+use Rattle.plan.specs.Map.{fitsOf, shapeOf, meetsOf, noBook, nthOf, freshThree, freshOf, stockOf, supplyOf, sparedOf, madeOf, placeOf, stoppedOf, fittingOf, standingOf, shapedOf, decideOf}
 use Rattle.effect.specs.MapDone.{Fitted}
 use Rattle.effect.specs.MapRefused.{OfLevel, Meets, FrameApart}
 use Rattle.effect.specs.Whole.{Whole}
 use Rattle.effect.proofs.Wholes.{root-low, owned, book-names, book-opens}
 use Rattle.effect.proofs.Trace.{Traced, traced}
+use Rattle.plan.specs.Spare.{OnWay, last, second, third, fourth, Spared}
+use Rattle.plan.proofs.Sparing.{spares}
 
 -- Sizes --------------------------------------------------------------------------------------------------------------------------
 
@@ -159,6 +162,36 @@ module _ {h : ℕ → Bool} {sp : Space} {m : ℕ → ℕ} {role : ℕ → Role}
   unfolding supplyOf stockOf
   lacks need u = rw (ne-eqb need 0 (λ e. omega arith), book-opens w, lt-ltb (bookOf m sp .free) need u)
 
+  -- the free pages differ, and no table of the way is free
+  module _ (va target : ℕ) (x : Way) (t : Traced (settingOf h sp) m va target x) where
+    on-live : (p : ℕ) → OnWay x p → (l : ℕ) × (left (role p) ≡ suc l)
+    on-live p last = (_, comes-left (w .sound .built) (t .comes))
+    on-live p (second u) = (_, comes-left (w .sound .built) (t .second u .comes))
+    on-live p (third u) = (_, comes-left (w .sound .built) (t .third u .comes))
+    on-live p (fourth u) = (_, comes-left (w .sound .built) (t .fourth u .comes))
+
+    free-off : (p j : ℕ) → p ≡ pageAt m sp j → j < bookOf m sp .free → ¬ OnWay x p
+    free-off p j e u o = let k = on-live p o in omega (arith, k .1, ap left (ap role e ∙ w .booked .lists .frees j u))
+
+    two-free : (p q i j : ℕ) → p ≡ pageAt m sp i → q ≡ pageAt m sp j → i < bookOf m sp .free → j < bookOf m sp .free → i ≢ j → p ≢ q
+    two-free p q i j e f u v d k = d (w .booked .lists .once i j (omega arith) (omega arith) (sym e ∙ k ∙ f))
+
+    supply-spared : (need : ℕ) (f : Fresh) → Supplied m sp need f → Spared x f
+    supply-spared need f s = record {
+      first-off = λ u. free-off (f .a) 0 (s .first (more u)) (room (more u));
+      second-off = λ u. free-off (f .b) 1 (s .second (more u)) (room (more u));
+      third-off = λ u. free-off (f .c) 2 (s .third (more u)) (room (more u));
+      two = λ u. two-free (f .a) (f .b) 0 1 (s .first (omega (arith, more u))) (s .second (more u)) (room (omega (arith, more u))) (room (more u)) (λ e. omega arith);
+      ends = λ u. two-free (f .a) (f .c) 0 2 (s .first (omega (arith, more u))) (s .third (more u)) (room (omega (arith, more u))) (room (more u)) (λ e. omega arith);
+      three = λ u. two-free (f .b) (f .c) 1 2 (s .second (omega (arith, more u))) (s .third (more u)) (room (omega (arith, more u))) (room (more u)) (λ e. omega arith);
+    }
+      where
+        more : {n : ℕ} → n < f .need → n < need
+        more u = omega (arith, u, s .need-is)
+
+        room : {n : ℕ} → n < need → n < bookOf m sp .free
+        room u = omega (arith, u, s .room)
+
   -- The decision ---------------------------------------------------------------------------------------------------------------------
 
   module _ (q : Asked) (l : ℕ) (f : Fitted l q) where
@@ -180,12 +213,12 @@ module _ {h : ℕ → Bool} {sp : Space} {m : ℕ → ℕ} {role : ℕ → Role}
           (omega (arith, f .base-fits, size-small l (q .size) (f .level) (f .size-is) .0)) (root-low w) (inl (omega (arith, f .level)))
 
       -- it stops where nothing is, and there are pages for the tables that are missing
-      pub room-decides : (level table : ℕ) → l ≤ level → level < 4 → Comes (settingOf h sp) m (q .base) (suc level) table
-          → entryAt m level table (indexOf level (q .base)) ≡ Nothing → (s : Fresh) → supplyOf h m sp (level - l) ≡ Pages s → Supplied m sp (level - l) s
-          → (p : Mapping) × (placeOf q l level table (supplyOf h m sp (level - l)) ≡ Go p) × Planned h sp m q p
+      pub room-decides : (x : Way) → Traced (settingOf h sp) m (q .base) l x → l ≤ x .level
+          → entryAt m (x .level) (x .a) (indexOf (x .level) (q .base)) ≡ Nothing → (s : Fresh) → supplyOf h m sp (x .level - l) ≡ Pages s → Supplied m sp (x .level - l) s
+          → (p : Mapping) × (placeOf q l (x .level) (x .a) (sparedOf x (supplyOf h m sp (x .level - l))) ≡ Go p) × Planned h sp m q p
       unfolding placeOf madeOf
-      room-decides level table u v c n s e o = (
-        record { base = q .base; target = l; level = level; table = table; word = pageWord l (q .frame) (q .rights); fresh = s },
-        rw (e, page-made l q f),
-        record { fitted = f; apart = k; base-is = refl; low = v; above = u; comes = c; nothing = n; word-is = refl; supplied = o },
+      room-decides x t u n s e o = (
+        record { base = q .base; target = l; level = x .level; table = x .a; word = pageWord l (q .frame) (q .rights); fresh = s },
+        rw (e, spares x s (supply-spared (q .base) l x t (x .level - l) s o), page-made l q f),
+        record { fitted = f; apart = k; base-is = refl; low = t .low; above = u; comes = t .comes; nothing = n; word-is = refl; supplied = o },
       )

@@ -19,12 +19,13 @@ use Rattle.pool.specs.declared.Space.{Space}
 use Rattle.plan.specs.declared.Reason.{Reason}
 use Rattle.plan.specs.declared.Reason.the-variants.{Size, BaseUnaligned, FrameUnaligned, BaseRange, FrameRange, FrameInPool, Overlap, NoRoom}
 use Rattle.plan.specs.declared.descent.Way.{Way}
+use Rattle.plan.specs.declared.descent.Why.{Why}
 use Rattle.plan.specs.declared.maps.Asked.{Asked}
 use Rattle.plan.specs.declared.maps.Mapping.{Mapping}
 use Rattle.plan.specs.Map.{Placed}
 use Rattle.plan.specs.Map.{Go, Refused}
 use Rattle.plan.specs.Descend.{wayOf}
-use Rattle.plan.specs.Map.{fitsOf, supplyOf, placeOf, becauseOf, stoppedOf, shapedOf, decideOf}
+use Rattle.plan.specs.Map.{fitsOf, supplyOf, sparedOf, placeOf, becauseOf, stoppedOf, shapedOf, decideOf}
 use Rattle.effect.specs.MapDone.{Fitted, Misses}
 use Rattle.effect.specs.MapRefused.{OfLevel, Meets, FrameApart, Mapped, Cause, no-size, base-unaligned, frame-unaligned, base-high, frame-high, frame-in-pool, mapped, no-room}
 use Rattle.effect.specs.Whole.{Whole}
@@ -80,8 +81,8 @@ apart-or-meets h sp q = go (decLt (sp .first * 4096) (q .frame + q .size)) (decL
 
 -- what is decided where the tests of numbers hold: by how the way of the base ends
 data Ending (h : ℕ → Bool) (sp : Space) (m : ℕ → ℕ) (q : Asked) (l : ℕ) : Placed → Type 0 where
-  bare : (level table : ℕ) → l ≤ level → level < 4 → Comes (settingOf h sp) m (q .base) (suc level) table
-      → entryAt m level table (indexOf level (q .base)) ≡ Nothing → Ending h sp m q l (placeOf q l level table (supplyOf h m sp (level - l)))
+  bare : (x : Way) → l ≤ x .level → Traced (settingOf h sp) m (q .base) l x → entryAt m (x .level) (x .a) (indexOf (x .level) (q .base)) ≡ Nothing
+      → Ending h sp m q l (placeOf q l (x .level) (x .a) (sparedOf x (supplyOf h m sp (x .level - l))))
   occupied : Mapped h sp m q → Ending h sp m q l (Refused Overlap)
 
 -- WHAT IS DECIDED: a refusal for its cause, or a plan
@@ -107,14 +108,17 @@ module _ {h : ℕ → Bool} {sp : Space} {m : ℕ → ℕ} {role : ℕ → Role}
     unfolding stoppedOf becauseOf
     ending-of x t = go (t .because)
       where
-        go : Because m l x → Ending h sp m q l (becauseOf h m sp q l (x .level) (x .a) (x .why))
+        by : {y : Why} → x .why ≡ y → Ending h sp m q l (becauseOf h m sp q l x y) → Ending h sp m q l (becauseOf h m sp q l x (x .why))
+        by e k = subst (λ (y : Why). Ending h sp m q l (becauseOf h m sp q l x y)) (sym e) k
+
+        go : Because m l x → Ending h sp m q l (becauseOf h m sp q l x (x .why))
         go (at-nothing y (inr u) e) = absurd (omega (arith, f .level))
-        go (at-nothing y (inl u) e) = rw y (bare (x .level) (x .a) u (t .low) (t .comes) (ap (says (x .level)) (sym (t .word)) ∙ e))
+        go (at-nothing y (inl u) e) = by y (bare x u t (ap (says (x .level)) (sym (t .word)) ∙ e))
         go (at-page a g y (inr u) e) = absurd (omega (arith, f .level))
         go (at-page a g y (inl u) e) =
-            rw y (occupied (overlapping (at-page-above (x .level) (x .a) a g u (t .comes) (ap (says (x .level)) (sym (t .word)) ∙ e)) tt))
+            by y (occupied (overlapping (at-page-above (x .level) (x .a) a g u (t .comes) (ap (says (x .level)) (sym (t .word)) ∙ e)) tt))
         go (at-table s g y u e) =
-            rw y (occupied (overlapping (at-table-there (x .a) s g (subst (λ n. Comes (settingOf h sp) m (q .base) (suc n) (x .a)) u (t .comes))
+            by y (occupied (overlapping (at-table-there (x .a) s g (subst (λ n. Comes (settingOf h sp) m (q .base) (suc n) (x .a)) u (t .comes))
             (subst (λ n. entryAt m n (x .a) (indexOf n (q .base)) ≡ Table s g) u (ap (says (x .level)) (sym (t .word)) ∙ e))) tt))
 
     ending : Ending h sp m q l (decideOf h m sp q)
@@ -124,42 +128,42 @@ module _ {h : ℕ → Bool} {sp : Space} {m : ℕ → ℕ} {role : ℕ → Role}
     overlap-refuses k = go (decideOf h m sp q) ending
       where
         go : (d : Placed) → Ending h sp m q l d → d ≡ Refused Overlap
-        go d (bare level table u v a e) = absurd (bare-unmapped level table u a e k)
+        go d (bare x u t e) = absurd (bare-unmapped (x .level) (x .a) u (t .comes) e k)
         go d (occupied k') = refl
 
     room-refuses : (n : ℕ) → ¬ Mapped h sp m q → Misses (settingOf h sp) m (q .base) l n → bookOf m sp .free < n → decideOf h m sp q ≡ Refused NoRoom
-    unfolding placeOf
+    unfolding placeOf sparedOf
     room-refuses n none k u = go (decideOf h m sp q) ending
       where
         go : (d : Placed) → Ending h sp m q l d → d ≡ Refused NoRoom
-        go d (bare level table x v a e) =
-            let y : level ≡ l + n = stops-once a e (k .comes) (k .nothing) in
-            let z : level - l ≡ n = omega arith in
+        go d (bare x v t e) =
+            let y : x .level ≡ l + n = stops-once (t .comes) e (k .comes) (k .nothing) in
+            let z : x .level - l ≡ n = omega arith in
             rw (z, lacks w n u)
         go d (occupied k') = absurd (none k')
 
     fitted-verdict : Verdict h sp m q (decideOf h m sp q)
-    unfolding placeOf
+    unfolding placeOf sparedOf
     fitted-verdict = go (decideOf h m sp q) ending
       where
         go : (d : Placed) → Ending h sp m q l d → Verdict h sp m q d
         go d (occupied k) = refuses Overlap (mapped l f c k)
-        go d (bare level table x v a e) = supply (decLe (level - l) (bookOf m sp .free))
+        go d (bare x v t e) = supply (decLe (x .level - l) (bookOf m sp .free))
           where
-            supply : Dec (level - l ≤ bookOf m sp .free) → Verdict h sp m q (placeOf q l level table (supplyOf h m sp (level - l)))
+            supply : Dec (x .level - l ≤ bookOf m sp .free) → Verdict h sp m q (placeOf q l (x .level) (x .a) (sparedOf x (supplyOf h m sp (x .level - l))))
             supply (yes u) =
-                let s = supplies w (level - l) u in
-                let r = room-decides w q l f c level table x v a e (s .0) (s .1) (s .2) in
+                let s = supplies w (x .level - l) u in
+                let r = room-decides w q l f c x t v e (s .0) (s .1) (s .2) in
                 rw (r .1) (goes (r .0) (r .2))
             supply (no u) =
-                let few : bookOf m sp .free < level - l = omega arith in
-                let y : level ≡ l + (level - l) = omega arith in
-                rw (lacks w (level - l) few)
-                (refuses NoRoom (no-room l (level - l) f c (bare-unmapped level table x a e)
+                let few : bookOf m sp .free < x .level - l = omega arith in
+                let y : x .level ≡ l + (x .level - l) = omega arith in
+                rw (lacks w (x .level - l) few)
+                (refuses NoRoom (no-room l (x .level - l) f c (bare-unmapped (x .level) (x .a) v (t .comes) e)
                 (record {
-                  table = table;
-                  comes = subst (λ n. Comes (settingOf h sp) m (q .base) (suc n) table) y a;
-                  nothing = subst (λ n. entryAt m n table (indexOf n (q .base)) ≡ Nothing) y e;
+                  table = x .a;
+                  comes = subst (λ n. Comes (settingOf h sp) m (q .base) (suc n) (x .a)) y (t .comes);
+                  nothing = subst (λ n. entryAt m n (x .a) (indexOf n (q .base)) ≡ Nothing) y e;
                 }) few))
 
   -- A CAUSE IS A REFUSAL

@@ -71,14 +71,14 @@ module _ (left rest : ℕ) (s after : List ℕ) (sp : Space) (q : Asked) (n x : 
   at-once d once.Done e f =
       record {
         leaf = record { table = f .table; index = indexOf n (q .base); word = x };
-        decided = rw (e, f .why, f .level, f .last) (sym (place-here q n n (f .table) x made-so H M sp (indexOf n (q .base)) (omega arith) refl));
+        decided = rw (e, f .why, f .level, f .last) (sym (place-here q n n (f .table) x made-so H M sp _ (indexOf n (q .base)) (omega arith) refl));
         order = f .order;
       }
-  at-once d once.Overlap e f = (rw (e, f .why) (go (f .by)), f .order)
+  at-once d once.Overlap e f = (rw (e, f .why) (go _ (f .by)), f .order)
     where
-      go : (b : Bool) → becauseOf H M sp q n (wayOf H M sp (q .base) n .level) (wayOf H M sp (q .base) n .a) (cond b why.Page why.Table) ≡ Refused Overlap
-      go true = refl
-      go false = refl
+      go : (v : Way) (b : Bool) → becauseOf H M sp q n v (cond b why.Page why.Table) ≡ Refused Overlap
+      go v true = refl
+      go v false = refl
   at-once d once.Unsaid e f = f
 
   -- the tests in the order of the code: size, alignment and range, the pool, whether the frame meets it

@@ -8,5 +8,6 @@ pub mod Leads
 pub mod Directly
 pub mod Standing
 pub mod Carrying
+pub mod Sparing
 pub mod Low
 pub mod Unmappings

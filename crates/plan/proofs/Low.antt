@@ -51,6 +51,7 @@ use Rattle.plan.specs.declared.descent.Way.{Way}
 use Rattle.plan.specs.declared.descent.Why.{Why}
 use Rattle.plan.specs.declared.descent.Why.the-variants as why
 use Rattle.plan.proofs.Ways.{way-low}
+use Rattle.plan.proofs.Sparing.{spared-same}
 
 -- Map --------------------------------------------------------------------------------------------------------------------------
 
@@ -114,12 +115,14 @@ module _ (h : ℕ → Bool) (m : ℕ → ℕ) (sp : Space) (small : (x : ℕ) �
     place-low target level table (supply.Lacking y) u l e = none-built cc
     place-low target level table (supply.Pages f) u l e = made-low target level table f (madePage target (q .frame) (q .rights)) u (l f refl) e
 
-    because-low : (target level table : ℕ) (y : Why) → level < 4 → map.becauseOf h m sp q target level table y ≡ map.Go p → Buildable p
+    because-low : (target : ℕ) (w : Way) (y : Why) → w .level < 4 → map.becauseOf h m sp q target w y ≡ map.Go p → Buildable p
     unfolding map.becauseOf
-    because-low target level table why.Nothing u e = place-low target level table (map.supplyOf h m sp (level - target)) u (supply-low (level - target)) e
-    because-low target level table why.Page u e = none-built cc
-    because-low target level table why.Table u e = none-built cc
-    because-low target level table why.Stray u e = none-built cc
+    because-low target w why.Nothing u e =
+        place-low target (w .level) (w .a) (map.sparedOf w (map.supplyOf h m sp (w .level - target))) u
+        (λ f k. supply-low (w .level - target) f (spared-same w (map.supplyOf h m sp (w .level - target)) f k)) e
+    because-low target w why.Page u e = none-built cc
+    because-low target w why.Table u e = none-built cc
+    because-low target w why.Stray u e = none-built cc
 
     fitting-low : (target : ℕ) (x : Fit) → map.fittingOf h m sp q target x ≡ map.Go p → Buildable p
     unfolding map.fittingOf map.stoppedOf
@@ -130,7 +133,7 @@ module _ (h : ℕ → Bool) (m : ℕ → ℕ) (sp : Space) (small : (x : ℕ) �
         go true k = none-built cc
         go false k =
             let w : Way = wayOf h m sp (q .base) target in
-            because-low target (w .level) (w .a) (w .why) (way-low h m sp (q .base) target) k
+            because-low target w (w .why) (way-low h m sp (q .base) target) k
 
     shaped-low : (x : Shape) → map.shapedOf h m sp q x ≡ map.Go p → Buildable p
     unfolding map.shapedOf map.standingOf

@@ -14,6 +14,7 @@ use Rattle.walk.specs.Walk.{indexOf}
 use Rattle.walk.proofs.Digits.{size-pos}
 use Rattle.pool.specs.declared.Space.{Space}
 use Rattle.plan.specs.declared.Reason.{Reason}
+use Rattle.plan.specs.declared.descent.Way.{Way}
 use Rattle.plan.specs.declared.maps.Asked.{Asked}
 use Rattle.plan.specs.declared.maps.Fresh.{Fresh}
 use Rattle.plan.specs.declared.maps.Mapping.{Mapping}
@@ -23,7 +24,7 @@ use Rattle.plan.specs.declared.maps.Leaf.{Leaf}
 use Rattle.plan.specs.declared.building.Making.the-variants as making
 use Rattle.plan.specs.declared.maps.Placing.{Placing}
 use Rattle.plan.specs.declared.maps.Placing.the-variants as placing
-use Rattle.plan.specs.Map.{Placed, Go, Refused, supplyOf, madeOf, placeOf, nextOf, growOf, buildOf, writesOf, leafOf, leafWrites, didOf, makingOf, placingOf}
+use Rattle.plan.specs.Map.{Placed, Go, Refused, supplyOf, apartOf, sparedOf, madeOf, placeOf, nextOf, growOf, buildOf, writesOf, leafOf, leafWrites, didOf, makingOf, placingOf}
 use Rattle.plan.proofs.Shapes.{Shaped}
 
 pub refused-placing : (r : Reason) → placingOf (Refused r) ≡ placing.Refused r
@@ -41,10 +42,10 @@ module _ (q : Asked) (target level table x : ℕ) where
     unfolding placeOf madeOf placingOf
     place-pages s f e u = rw e (simp (made-so, lt-leb level target u))
 
-    pub place-here : (h : ℕ → Bool) (m : ℕ → ℕ) (sp : Space) (i : ℕ) → level ≤ target → i ≡ indexOf level (q .base)
-        → placing.Here (record { table = table; index = i; word = x }) ≡ placingOf (placeOf q target level table (supplyOf h m sp (level - target)))
-    unfolding supplyOf placeOf madeOf placingOf
-    place-here h m sp i u e =
+    pub place-here : (h : ℕ → Bool) (m : ℕ → ℕ) (sp : Space) (w : Way) (i : ℕ) → level ≤ target → i ≡ indexOf level (q .base)
+        → placing.Here (record { table = table; index = i; word = x }) ≡ placingOf (placeOf q target level table (sparedOf w (supplyOf h m sp (level - target))))
+    unfolding supplyOf sparedOf apartOf placeOf madeOf placingOf
+    place-here h m sp w i u e =
         let z : level - target ≡ 0 = omega arith in
         rw (z, e) (simp (eq-eqb 0 0 refl, made-so, le-leb level target u))
 

@@ -2,5 +2,6 @@ pub mod Descend
 pub mod Find
 pub mod Protect
 pub mod Map
+pub mod Spare
 pub mod AtOnce
 pub mod Unmap

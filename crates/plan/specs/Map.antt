@@ -83,6 +83,28 @@ unfoldable pub stockOf : (ℕ → Bool) → (ℕ → ℕ) → Space → ℕ → 
 stockOf h m sp need (opened.Book b) = cond (ltb (b .free) need) (Lacking NoRoom) (freshOf h m sp b need)
 stockOf h m sp need (opened.Refused r) = Lacking (Pool r)
 
+-- page p is one of the tables that the way came through
+unfoldable pub wayHas : Way → ℕ → Bool
+wayHas w p =
+    cond (eqb p (w .a)) true
+    (cond (leb 3 (w .level)) false
+    (cond (eqb p (w .b)) true (cond (leb 2 (w .level)) false (cond (eqb p (w .c)) true (cond (leb 1 (w .level)) false (eqb p (w .d)))))))
+
+-- the pages that are needed differ, from each other and from the tables of the way: of a damaged book they need not
+unfoldable pub apartOf : Way → Fresh → Bool
+apartOf w f =
+    cond (leb (f .need) 0) true
+    (cond (wayHas w (f .a)) false
+    (cond (leb (f .need) 1) true
+    (cond (eqb (f .a) (f .b)) false
+    (cond (wayHas w (f .b)) false
+    (cond (leb (f .need) 2) true
+    (cond (eqb (f .a) (f .c)) false (cond (eqb (f .b) (f .c)) false (cond (wayHas w (f .c)) false true))))))))
+
+unfoldable pub sparedOf : Way → Supply → Supply
+sparedOf w (Pages f) = cond (apartOf w f) (Pages f) (Lacking BadList)
+sparedOf w (Lacking y) = Lacking y
+
 abbrev pub noneOf : Supply
 noneOf = Pages (record { need = 0; a = 0; b = 0; c = 0; book = noBook })
 
@@ -105,14 +127,14 @@ unfoldable pub placeOf : Asked → ℕ → ℕ → ℕ → Supply → Placed
 placeOf q target level table (Lacking y) = Refused y
 placeOf q target level table (Pages f) = madeOf q target level table f (madePage target (q .frame) (q .rights))
 
-unfoldable pub becauseOf : (ℕ → Bool) → (ℕ → ℕ) → Space → Asked → ℕ → ℕ → ℕ → Why → Placed
-becauseOf h m sp q target level table why.Nothing = placeOf q target level table (supplyOf h m sp (level - target))
-becauseOf h m sp q target level table why.Page = Refused Overlap
-becauseOf h m sp q target level table why.Table = Refused Overlap
-becauseOf h m sp q target level table why.Stray = Refused Stray
+unfoldable pub becauseOf : (ℕ → Bool) → (ℕ → ℕ) → Space → Asked → ℕ → Way → Why → Placed
+becauseOf h m sp q target w why.Nothing = placeOf q target (w .level) (w .a) (sparedOf w (supplyOf h m sp (w .level - target)))
+becauseOf h m sp q target w why.Page = Refused Overlap
+becauseOf h m sp q target w why.Table = Refused Overlap
+becauseOf h m sp q target w why.Stray = Refused Stray
 
 unfoldable pub stoppedOf : (ℕ → Bool) → (ℕ → ℕ) → Space → Asked → ℕ → Way → Placed
-stoppedOf h m sp q target w = becauseOf h m sp q target (w .level) (w .a) (w .why)
+stoppedOf h m sp q target w = becauseOf h m sp q target w (w .why)
 
 unfoldable pub fittingOf : (ℕ → Bool) → (ℕ → ℕ) → Space → Asked → ℕ → Fit → Placed
 fittingOf h m sp q target fit.Fits =

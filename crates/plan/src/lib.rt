@@ -5,6 +5,7 @@ mod direct;
 mod finding;
 mod maps;
 mod protects;
+mod spare;
 mod unmaps;
 
 pub use building::Making;

@@ -12,6 +12,7 @@ use crate::Reason;
 use crate::descent::Arrival;
 use crate::descent::Why;
 use crate::descent::descend;
+use crate::spare::spared;
 use entry::Made;
 use entry::Rights;
 use pool::Book;
@@ -237,7 +238,7 @@ fn place(q: Asked, target: u64, level: u64, table: u64, x: u64, s: Supply) -> Pl
 // The entry is free.
 fn vacant(mem: &[u8], space: Space, q: Asked, target: u64, x: u64, t: Arrival) -> Placing
     requires { ⌜ made.madePage target (q .frame) (q .rights) ≡ Word x ⌝ }
-    ensures { λ r. ⌜ ((w : Way) → t ≡ stopAt (q .base) w → r ≡ the.placingOf (the.placeOf q target (w .level) (w .a) (the.supplyOf (holds (now (mem .entry)) (space .origin)) (memory (now (mem .entry)) (space .origin)) space (w .level - target)))) ⌝ }
+    ensures { λ r. ⌜ ((w : Way) → t ≡ stopAt (q .base) w → r ≡ the.placingOf (the.placeOf q target (w .level) (w .a) (the.sparedOf w (the.supplyOf (holds (now (mem .entry)) (space .origin)) (memory (now (mem .entry)) (space .origin)) space (w .level - target))))) ⌝ }
 {
     let w = t.way;
     if w.level <= target {
@@ -253,7 +254,7 @@ fn vacant(mem: &[u8], space: Space, q: Asked, target: u64, x: u64, t: Arrival) -
         w.level,
         w.a,
         x,
-        supplied(mem, space, w.level - target),
+        spared(w, supplied(mem, space, w.level - target)),
     )
 }
 

@@ -2,26 +2,27 @@
 use Prim.Native.Nat.{ℕ, _+_, _-_, _*_, _/_, _%_, _<_, _≤_}
 use mathlib.Core.List.{List, [], _∷_, _++_}
 use mathlib.Core.Logic.{inl, inr, _≢_}
-use mathlib.Core.Path.{_≡_, ap, _∙_}
+use mathlib.Core.Path.{_≡_, sym, ap, _∙_}
+use native.Mathlib.Decide.{decLt}
 use native.Mathlib.Omega.{arith}
 use borrow.Author.Tests.{ne-eqb}
 use Rattle.word.specs.Memory.{at}
-use Rattle.word.specs.Writes.{after, zeros}
-use Rattle.word.proofs.Writes.{every-map, every-zeros, after-append, after-other, after-zeros}
+use Rattle.word.specs.Writes.{Write, after, zeros}
+use Rattle.word.proofs.Writes.{Every, every-append, every-map, every-zeros, after-append, after-other, after-zeros}
 use Rattle.tables.specs.Roles.{Zero}
 use Rattle.pool.specs.declared.Space.{Space}
 use Rattle.pool.specs.declared.Book.{Book}
-use Rattle.pool.specs.Layout.{markAt, pagesAt, rootAt, ticketsAt, freeAt, asideAt, headAt, headerWords, slotAt, countAt, bookWords}
+use Rattle.pool.specs.Layout.{markAt, pagesAt, rootAt, ticketsAt, freeAt, asideAt, headAt, headerWords, slotAt, countAt, bookWords, bookPages}
 use Rattle.pool.specs.Book.{wordOf, mark, bookOf, spotOf, pageAt}
 use Rattle.pool.specs.Changes.{put}
 use Rattle.pool.specs.Create.{fills, blanks, unmarks, bared, slots, header, newFree, layOut, Roomy}
-use Rattle.pool.specs.Booked.{Lists, Booked, newRole}
+use Rattle.pool.specs.Booked.{Lists, Booked, Alone, newRole}
 use Rattle.pool.proofs.Far.{word-at}
 use Rattle.pool.proofs.Counts.{spot-ahead}
 use Rattle.pool.proofs.Words.{word-page, header-word, slot-word, puts, becomes, puts-word}
-use Rattle.pool.proofs.Rows.{put-same, put-other, row-word, row-other}
+use Rattle.pool.proofs.Rows.{put-same, put-other, row-word, row-other, unmarks-first}
 use Rattle.pool.proofs.Booked.{booked-by}
-use Rattle.pool.proofs.Proper.{mark-proper}
+use Rattle.pool.proofs.Proper.{OfBook, fills-proper, rest-proper, header-writes-proper, mark-proper}
 use Rattle.pool.proofs.NewRoles.{New, new-book, new-free, book-lies, free-lies, never-aside}
 
 -- The header ----------------------------------------------------------------------------------------------------------------------
@@ -153,6 +154,55 @@ module _ (m : ℕ → ℕ) (sp : Space) (r : Roomy sp) (n : New sp) where
       ap (λ (f : ℕ → ℕ). f (at (sp .root) j)) laid-is
       ∙ after-other cleared (put sp markAt mark ∷ []) (sp .root) j u (every-map (λ q e x. omega (arith, e .1, n .behind)) (put sp markAt mark ∷ []) (mark-proper sp mark (omega arith)))
       ∙ after-zeros headed (sp .root) 512 j u (omega arith)
+
+  -- a page of the book but the first begins with a slot or a count
+  book-alone : (j : ℕ) → 0 < j → j < bookPages (sp .pages) → after m (layOut sp) (wordOf sp (512 * j)) ≢ mark
+  unfolding filled counted headed markAt slotAt headerWords bookWords bookPages
+  book-alone j u v = go (decLt (512 * j) (slotAt (newFree sp)))
+    where
+      k : ℕ
+      k = 512 * j
+
+      here : after m (layOut sp) (wordOf sp k) ≡ counted (wordOf sp k)
+      here = laid-word k (omega arith) (omega arith) ∙ headed-behind counted sp (newFree sp) k (omega arith)
+
+      go : Dec (k < slotAt (newFree sp)) → after m (layOut sp) (wordOf sp k) ≢ mark
+      go (yes a) e =
+          let w = row-other filled sp (slotAt (newFree sp)) (λ i. 0) (2 * sp .pages - newFree sp) k (inl a) in
+          let z = row-word bare sp (slotAt 0) (λ i. sp .root + 1 + i) (newFree sp) k (omega arith) (omega arith) in
+          omega (arith, sym (here ∙ w ∙ z) ∙ e, r .low, r .small, a)
+      go (no a) e =
+          omega (arith, sym (here ∙ row-word filled sp (slotAt (newFree sp)) (λ i. 0) (2 * sp .pages - newFree sp) k (omega arith) (omega arith)) ∙ e)
+
+  -- a page behind the root begins with 0
+  free-alone : (p : ℕ) → sp .root < p → p < sp .first + sp .pages → after m (layOut sp) (at p 0) ≡ 0
+  unfolding layOut slots bare bared
+  free-alone p u v =
+      ap (λ (f : ℕ → ℕ). f (at p 0)) (after-append m (bared sp (newFree sp)) _)
+      ∙ after-other bare _ p 0 (omega arith) behind
+      ∙ ap (λ (f : ℕ → ℕ). f (at p 0)) (after-append m (put sp markAt 0 ∷ []) (unmarks (sp .root + 1) (newFree sp)))
+      ∙ unmarks-first (after m (put sp markAt 0 ∷ [])) (sp .root + 1) (newFree sp) p (omega arith) (omega (arith, n .behind))
+    where
+      off : (xs : List Write) → Every (OfBook sp) xs → Every (λ q. q ≢ p) xs
+      off xs h = every-map (λ q k e. omega (arith, k .1, e, n .behind)) xs h
+
+      behind : Every (λ q. q ≢ p) (slots sp (newFree sp) ++ (header sp (newFree sp) ++ (zeros (sp .root) 512 ++ (put sp markAt mark ∷ []))))
+      behind =
+          every-append (slots sp (newFree sp)) _
+          (every-append (fills sp (sp .root + 1) (newFree sp)) _ (off _ (fills-proper sp (sp .root + 1) (newFree sp) (omega arith) (omega (arith, r .small, r .low))))
+          (off _ (rest-proper sp (newFree sp) (omega arith))))
+          (every-append (header sp (newFree sp)) _ (off _ (header-writes-proper sp (newFree sp) (omega (arith, r .small)) (omega (arith, r .low)) (omega (arith, r .small))))
+          (every-append (zeros (sp .root) 512) _ (every-zeros (sp .root) 512 (λ e. omega arith) (omega arith)) (off _ (mark-proper sp mark (omega arith)))))
+
+  -- ONE BOOK: no other page of a new pool begins as one
+  pub laid-alone : Alone sp (after m (layOut sp))
+  unfolding markAt
+  laid-alone p u v e = go (decLt p (sp .root)) (decLt (sp .root) p)
+    where
+      go : Dec (p < sp .root) → Dec (sp .root < p) → ⊥
+      go (yes a) b = book-alone (p - sp .first) (omega arith) (omega (arith, n .behind)) (ap (after m (layOut sp)) (omega arith) ∙ e)
+      go (no a) (yes b) = omega (arith, sym (free-alone p b v) ∙ e)
+      go (no a) (no b) = omega (arith, sym (laid-root 0 (omega arith)) ∙ ap (λ x. after m (layOut sp) (at x 0)) (omega arith) ∙ e)
 
   laid-lists : Lists (pageAt (after m (layOut sp)) sp) (newFree sp) 0 (newRole sp)
   laid-lists = record {

@@ -15,5 +15,6 @@ pub mod Proper
 pub mod NewRoles
 pub mod Fresh
 pub mod Makes
+pub mod Alone
 pub mod Interrupted
 pub mod Tickets

@@ -17,12 +17,12 @@ use Rattle.pool.specs.Layout.{markAt, headAt, headerWords, slotAt, count
 use Rattle.pool.specs.Book.{wordOf, mark, roomOf}
 use Rattle.pool.specs.Changes.{put}
 use Rattle.pool.specs.Create.{mayCreate, newSpace, fills, blanks, unmarks, bared, slots, header, newFree, layOut, Roomy, createdOf, createdIn, createWrites, createIn}
-use Rattle.pool.specs.Booked.{settingOf, Booked, newRole}
+use Rattle.pool.specs.Booked.{settingOf, Booked, Alone, newRole}
 use Rattle.pool.proofs.Opening.{Fitting, may-fit, fit-small, fit-inside, roomy}
 use Rattle.pool.proofs.Proper.{OfBook, fills-proper, rest-proper, header-writes-proper, mark-proper}
 use Rattle.pool.proofs.Rows.{unmarks-proper}
 use Rattle.pool.proofs.NewRoles.{New, new-sound}
-use Rattle.pool.proofs.Fresh.{laid-booked, laid-rest, laid-counts, laid-root}
+use Rattle.pool.proofs.Fresh.{laid-booked, laid-alone, laid-rest, laid-counts, laid-root}
 
 -- every write of a layout goes to the pool
 pub laid-proper : (sp : Space) → Roomy sp → New sp → Every (λ p. (sp .first ≤ p) × (p < sp .first + sp .pages)) (layOut sp)
@@ -48,6 +48,7 @@ laid-proper sp r n =
 pub record Fresh (s : List ℕ) (sp : Space) : Type 0 where
   pub sound : tables.Sound (settingOf (holds s (sp .origin)) sp) (memory s (sp .origin)) (newRole sp)
   pub booked : Booked sp (memory s (sp .origin)) (newRole sp)
+  pub alone : Alone sp (memory s (sp .origin))
   pub rest : (k : ℕ) → headAt < k → k < headerWords → memory s (sp .origin) (wordOf sp k) ≡ 0
   pub counts : (k : ℕ) → k < sp .pages → memory s (sp .origin) (wordOf sp (countAt (sp .pages) k)) ≡ 0
 
@@ -58,6 +59,7 @@ module _ (s : List ℕ) (origin first pages : ℕ) where
         rw (holds-carried s origin (layOut sp), bytes)
         (new-sound n (holds s origin) (after (memory s origin) (layOut sp)) (omega (arith, fit-small s origin first pages f, f .enough)) window (laid-root (memory s origin) sp r n));
     booked = rw bytes (laid-booked (memory s origin) sp r n);
+    alone = rw bytes (laid-alone (memory s origin) sp r n);
     rest = rw bytes (laid-rest (memory s origin) sp r n);
     counts = rw bytes (laid-counts (memory s origin) sp r n);
   }

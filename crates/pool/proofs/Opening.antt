@@ -6,6 +6,7 @@ use mathlib.Core.Path.{_≡_, refl, sym, ap, _∙_, subst}
 use native.Mathlib.Omega.{arith}
 use lib.Dec.{leb, eqb}
 use Rattle.word.specs.Memory.{memory, holds, readOf}
+use Rattle.word.specs.declared.Cell.{Cell}
 use Rattle.word.specs.declared.Cell.the-variants as cell
 use Rattle.word.proofs.Memory.{read-word, read-outside, held}
 use Rattle.word.specs.Runs.{amongOf}
@@ -16,8 +17,9 @@ use Rattle.pool.specs.declared.Fit.{Fit}
 use Rattle.pool.specs.declared.Fit.the-variants as fit
 use Rattle.pool.specs.declared.Reason.{Reason}
 use Rattle.pool.specs.declared.Listed.the-variants.{Bad}
-use Rattle.pool.specs.Layout.{markAt, pagesAt, rootAt, bookPages}
+use Rattle.pool.specs.Layout.{markAt, pagesAt, rootAt, headAt, freeAt, asideAt, ticketsAt, bookPages}
 use Rattle.pool.specs.Book.{wordOf, mark, bookOf, roomOf, inPool, soundOf, Sound, headedOf, rootedIn, namesOf, namesIn, openedOf, openedIn, countsOf, namedOf, usableOf}
+use Rattle.pool.specs.State.{wordIn, wordNow, bookNow}
 use Rattle.pool.specs.Stands.{standsOf}
 use Rattle.pool.specs.Create.{mayCreate, newSpace, Roomy}
 use Rattle.pool.proofs.Far.{word-at}
@@ -93,6 +95,18 @@ module _ (s : List ℕ) (sp : Space) (i : ℕ) where
   pub head-out : i < 512 → amongOf s (sp .origin) (sp .first) 0 (sp .pages) (sp .first) i ≡ cell.Outside
       → roomOf (holds s (sp .origin)) (sp .first) (sp .pages) ≡ fit.Fits → ⊥
   head-out u e f = outside-among s (sp .origin) (sp .first) (sp .pages) 0 (sp .first) i e (head-among s sp i u f)
+
+-- THE COUNTS AS THEY STAND are the book's, where the pool lies in the window.
+pub now-is : (s : List ℕ) (sp : Space) → roomOf (holds s (sp .origin)) (sp .first) (sp .pages) ≡ fit.Fits → bookNow s sp ≡ bookOf (memory s (sp .origin)) sp
+unfolding bookNow wordNow wordIn headAt freeAt asideAt ticketsAt
+now-is s sp f = rw (word 6 (omega arith), word 4 (omega arith), word 5 (omega arith), word 3 (omega arith))
+  where
+    word : (i : ℕ) → i < 512 → wordIn (amongOf s (sp .origin) (sp .first) 0 (sp .pages) (sp .first) i) ≡ memory s (sp .origin) (wordOf sp i)
+    word i u = go (amongOf s (sp .origin) (sp .first) 0 (sp .pages) (sp .first) i) refl
+      where
+        go : (x : Cell) → amongOf s (sp .origin) (sp .first) 0 (sp .pages) (sp .first) i ≡ x → wordIn x ≡ memory s (sp .origin) (wordOf sp i)
+        go (cell.Word w) e = head-is s sp i w e
+        go cell.Outside e = absurd (head-out s sp i u e f)
 
 -- A BOOK THAT NAMES A SPACE, for any bytes
 pub record Names (h : ℕ → Bool) (m : ℕ → ℕ) (sp : Space) : Type 0 where

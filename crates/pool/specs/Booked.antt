@@ -4,7 +4,7 @@ use mathlib.Core.Bool.{Bool, true, false, cond, _&&_}
 use mathlib.Core.Logic.{_≢_}
 use mathlib.Core.Path.{_≡_}
 use lib.Dec.{leb, ltb, eqb}
-use Rattle.word.specs.Memory.{set}
+use Rattle.word.specs.Memory.{at, set}
 use Rattle.tables.specs.Roles.{Setting, Role, foreign, free, aside, book, root, table}
 use Rattle.pool.specs.declared.Space.{Space}
 use Rattle.pool.specs.Layout.{markAt, pagesAt, rootAt, bookWords, bookPages}
@@ -30,6 +30,10 @@ pub record Booked (sp : Space) (m : ℕ → ℕ) (role : ℕ → Role) : Type 0 
   pub lists : Lists (pageAt m sp) (bookOf m sp .free) (bookOf m sp .aside) role
   pub in-book : (p : ℕ) → sp .first ≤ p → p < sp .first + bookPages (sp .pages) → role p ≡ book
   pub no-other : (p : ℕ) → role p ≡ book → (sp .first ≤ p) × (p < sp .first + bookPages (sp .pages))
+
+-- no other page of the pool begins as a book does
+abbrev pub Alone : Space → (ℕ → ℕ) → Type 0
+Alone sp m = (p : ℕ) → sp .first < p → p < sp .first + sp .pages → m (at p markAt) ≢ mark
 
 -- the two memories have the same words in the book
 pub record SameBook (sp : Space) (m m' : ℕ → ℕ) : Type 0 where

@@ -4,6 +4,7 @@ ghost use Prim.Native.Nat.{_<_};
 ghost use Rattle.word.specs.Memory.{memory, holds};
 ghost use Rattle.pool.specs.declared.Fit.the-variants.{Fits};
 ghost use Rattle.pool.specs.Book as the;
+ghost use Rattle.pool.specs.State as say;
 use crate::Book;
 use crate::Fit;
 use crate::MARK;
@@ -26,6 +27,7 @@ use word::Cell;
 fn get(mem: &[u8], space: Space, i: u64) -> u64
     requires { ⌜ i < 512 ⌝ }
     ensures { λ r. ⌜ (the.roomOf (holds (now (mem .entry)) (space .origin)) (space .first) (space .pages) ≡ Fits → r ≡ memory (now (mem .entry)) (space .origin) (the.wordOf space i)) ⌝ }
+    ensures { λ r. ⌜ r ≡ say.wordNow (now (mem .entry)) space i ⌝ }
 {
     let c = word::read_among(
         mem,
@@ -76,9 +78,9 @@ pub fn names(mem: &[u8], space: Space) -> Fit
     Fit::Refused(Reason::BadRoot)
 }
 
-// The counts as they stand, with no test but that the pool lies in the window: for a space in which a page was found.
+// The counts as they stand: for a space in which a page was found, whose book was asked before.
 pub fn book_now(mem: &[u8], space: Space) -> Book
-    ensures { λ r. ⌜ (the.roomOf (holds (now (mem .entry)) (space .origin)) (space .first) (space .pages) ≡ Fits → r ≡ the.bookOf (memory (now (mem .entry)) (space .origin)) space) ⌝ }
+    ensures { λ r. ⌜ r ≡ say.bookNow (now (mem .entry)) space ⌝ }
 {
     Book {
         head: get(mem, space, HEAD_AT),

@@ -245,9 +245,11 @@ pub fn map(mem: &mut [u8], space: &Space, base: u64, frame: u64, size: u64, righ
         return Err(Reason::FrameInPool);
     }
     let page = page_word(target, frame, rights);
+    let mut way = [usize::MAX; ROOT_LEVEL + 1];
     let mut at = pool.root;
     let mut level = ROOT_LEVEL;
     let entry = loop {
+        way[level] = at;
         let entry = &mut pool.tables.get_mut(at).ok_or(Reason::Stray)?[index(level, base)];
         let word = get(entry);
         if !present(word) {
@@ -269,20 +271,25 @@ pub fn map(mem: &mut [u8], space: &Space, base: u64, frame: u64, size: u64, righ
         put(entry, page);
         return Ok(0);
     }
-    grow(pool, at, level, target, base, page)
+    grow(pool, &way, level, target, base, page)
 }
 
 /// Makes the tables that are missing below the entry of a level, and then writes the page's entry.
-fn grow(mut pool: Pool, mut at: usize, level: usize, target: usize, base: u64, page: u64) -> Result<u64, Reason> {
+fn grow(mut pool: Pool, way: &[usize], level: usize, target: usize, base: u64, page: u64) -> Result<u64, Reason> {
     let book = pool.open()?;
     let need = level - target;
     if book.free < need as u64 {
         return Err(Reason::NoRoom);
     }
     let mut new = [0; ROOT_LEVEL];
-    for (position, place) in new[..need].iter_mut().enumerate() {
-        *place = pool.listed(&book, position as u64)?;
+    for position in 0..need {
+        let place = pool.listed(&book, position as u64)?;
+        if way.contains(&place) || new[..position].contains(&place) {
+            return Err(Reason::BadList);
+        }
+        new[position] = place;
     }
+    let mut at = way[level];
     for (down, place) in new[..need].iter().enumerate() {
         // Before it is linked: a walk may come at once.
         pool.tables[*place] = [[0; 8]; 512];

@@ -180,8 +180,8 @@ impl<'a> Pool<'a> {
         HEADER + (book.head + position) % self.space.pages
     }
 
-    /// The physical addresses of so many of the oldest free pages.
-    fn take(&self, book: &Book, need: u64) -> Result<Vec<u64>, u64> {
+    /// The physical addresses of so many of the oldest free pages: each once, and none a table of the way.
+    fn take(&self, book: &Book, need: u64, way: &[u64]) -> Result<Vec<u64>, u64> {
         if book.free < need {
             return Err(8);
         }
@@ -189,7 +189,8 @@ impl<'a> Pool<'a> {
         let usable = |number: &u64| {
             (self.space.behind() / 4096..self.space.end() / 4096).contains(number) && *number != self.space.root / 4096
         };
-        if numbers.iter().all(usable) {
+        let once = |(at, number): (usize, &u64)| !numbers[..at].contains(number) && !way.contains(&(number * 4096));
+        if numbers.iter().all(usable) && numbers.iter().enumerate().all(once) {
             Ok(numbers.iter().map(|number| number * 4096).collect())
         } else {
             Err(11)
@@ -225,7 +226,8 @@ impl<'a> Pool<'a> {
         let mut after = vec![];
         if need > 0 {
             let book = self.open()?;
-            for (down, page) in (1..).zip(self.take(&book, need)?) {
+            let way: Vec<u64> = walk.way.iter().flatten().map(|read| read.address / 4096 * 4096).collect();
+            for (down, page) in (1..).zip(self.take(&book, need, &way)?) {
                 writes.extend([Clear(page), Word(at, page + 7)]);
                 at = page + 8 * index(level(kind) - down, base);
             }

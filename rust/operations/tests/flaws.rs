@@ -296,7 +296,7 @@ impl Operations for Flawed {
             (RoomTooLate, 8) => {
                 let mut words = words(mem, space);
                 if let Some(page) = words.free().first() {
-                    words.put(*page, 0);
+                    words.put(*page + 8, 0);
                 }
             }
             (RangeBeforeAlignment, 2) if base >= TOP => return refused(4),

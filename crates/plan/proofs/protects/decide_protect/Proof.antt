@@ -1,5 +1,5 @@
 use Rattle.plan.proofs.Found.{found-at}
-use Rattle.pool.proofs.Opening.{names-room}
+use Rattle.pool.proofs.Opening.{names-room, now-is}
 use Rattle.plan.specs.Protect.{decideOf, changingOf}
 use mathlib.Core.Path.{_≡_, sym, _∙_}
 use borrow.Author.Needs.{needs}
@@ -44,7 +44,7 @@ returns c = rw (sym (c .before .before .before .find .ensures) ∙ c .before .s 
 -- src/protects.rt:44:1
 returns-2 : tie.Need-returns-2
 unfolding decideOf changingOf
-returns-2 c = let e = sym (c .before .before .before .before .before .before .find .ensures) ∙ c .before .before .before .before .s2 .given .1 in let k = found-at _ _ _ _ _ e in rw (e, c .changed .ensures (k .index), c .before .ticket .ensures, c .before .before .book-now .ensures (names-room _ _ _ (k .names)))
+returns-2 c = let e = sym (c .before .before .before .before .before .before .find .ensures) ∙ c .before .before .before .before .s2 .given .1 in let k = found-at _ _ _ _ _ e in rw (e, c .changed .ensures (k .index), c .before .ticket .ensures, c .before .before .book-now .ensures ∙ now-is _ _ (names-room _ _ _ (k .names)))
 
 pub decide-protect-spec : {M : Type 1} → statement M
 decide-protect-spec =

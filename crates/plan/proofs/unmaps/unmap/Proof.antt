@@ -1,3 +1,4 @@
+use Rattle.pool.proofs.Opening.{now-is}
 use mathlib.Core.Path.{sym, _∙_}
 use Rattle.word.proofs.Budget.{wrote-none}
 use Rattle.plan.specs.Unmap.{didOf, unmappingOf}
@@ -52,7 +53,7 @@ same-length-2 c = search needs
 -- src/unmaps.rt:159:1
 returns-2 : tie.Need-returns-2
 unfolding didOf unmappingOf
-returns-2 c = let e = sym (c .before .before .before .before .before .before .before .before .before .before .before .decide-unmap .ensures) ∙ c .before .before .before .before .before .before .before .before .before .d2 .given .1 in (rw (e, c .before .before .before .before .before .ticket-after .ensures, c .before .before .before .before .before .before .book-now .ensures (unmap-room _ _ _ _ _ e)), rw e (c .before .before .carry-unmap .ensures))
+returns-2 c = let e = sym (c .before .before .before .before .before .before .before .before .before .before .before .decide-unmap .ensures) ∙ c .before .before .before .before .before .before .before .before .before .d2 .given .1 in (rw (e, c .before .before .before .before .before .ticket-after .ensures, c .before .before .before .before .before .before .book-now .ensures ∙ now-is _ _ (unmap-room _ _ _ _ _ e)), rw e (c .before .before .carry-unmap .ensures))
 
 pub unmap-spec : {M : Type 1} → statement M
 unmap-spec =

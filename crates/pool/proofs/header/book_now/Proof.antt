@@ -1,4 +1,5 @@
 use Rattle.pool.specs.Layout.{headAt, freeAt, asideAt, ticketsAt}
+use Rattle.pool.specs.State.{bookNow}
 use borrow.Author.Needs.{needs}
 use Rattle.pool.proofs.header.book_now.Statement.{statement}
 use Rattle.pool.proofs.header.book_now.Tie as tie
@@ -24,8 +25,8 @@ get-requires-4 c κs = search needs
 
 -- src/header.rt
 returns : tie.Need-returns
-unfolding headAt freeAt asideAt ticketsAt
-returns c = λ h. rw (c .before .before .before .get .ensures h, c .before .before .get2 .ensures h, c .before .get3 .ensures h, c .get4 .ensures h)
+unfolding bookNow headAt freeAt asideAt ticketsAt
+returns c = rw (c .before .before .before .get .ensures .1, c .before .before .get2 .ensures .1, c .before .get3 .ensures .1, c .get4 .ensures .1)
 
 pub book-now-spec : {M : Type 1} → statement M
 book-now-spec =

@@ -1,4 +1,5 @@
 use mathlib.Core.Path.{sym, _∙_}
+use Rattle.pool.proofs.Opening.{now-is}
 use Rattle.pool.specs.Book.{countsOf}
 use borrow.Author.Needs.{needs}
 use Rattle.pool.proofs.header.counts.Statement.{statement}
@@ -19,12 +20,12 @@ sound-requires c κs = search needs
 -- src/header.rt
 returns : tie.Need-returns
 unfolding countsOf
-returns c = λ f. rw (← c .before .before .book-now .ensures f) (simp (sym (c .before .sound .ensures) ∙ c .if1 .taken))
+returns c = λ f. rw (← (c .before .before .book-now .ensures ∙ now-is _ _ f)) (simp (sym (c .before .sound .ensures) ∙ c .if1 .taken))
 
 -- src/header.rt
 returns-2 : tie.Need-returns-2
 unfolding countsOf
-returns-2 c = λ f. rw (← c .before .before .book-now .ensures f) (simp (sym (c .before .sound .ensures) ∙ c .if1 .left))
+returns-2 c = λ f. rw (← (c .before .before .book-now .ensures ∙ now-is _ _ f)) (simp (sym (c .before .sound .ensures) ∙ c .if1 .left))
 
 pub counts-spec : {M : Type 1} → statement M
 counts-spec = tie.close (tie.spec book-now-requires sound-requires returns returns-2)

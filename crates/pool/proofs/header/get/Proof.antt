@@ -1,4 +1,5 @@
 use mathlib.Core.Path.{sym, _∙_}
+use Rattle.pool.specs.State.{wordNow, wordIn}
 use Rattle.pool.proofs.Opening.{head-is, head-out}
 use borrow.Author.Needs.{needs}
 use Rattle.pool.proofs.header.get.Statement.{statement}
@@ -21,11 +22,13 @@ enum-told c = search needs
 
 -- src/header.rt:26:1
 returns : tie.Need-returns
-returns c = λ f. head-is _ (c .before .before .before .before .before .args .space) _ _ (sym (c .before .before .before .read-among .ensures) ∙ c .before .c .given .1)
+unfolding wordNow wordIn
+returns c = (λ f. head-is _ (c .before .before .before .before .before .args .space) _ _ (sym (c .before .before .before .read-among .ensures) ∙ c .before .c .given .1), rw (sym (c .before .before .before .read-among .ensures) ∙ c .before .c .given .1))
 
 -- src/header.rt:26:1
 returns-2 : tie.Need-returns-2
-returns-2 c = λ f. absurd (head-out _ (c .before .before .before .before .args .space) _ (c .before .before .before .before .pre) (sym (c .before .before .read-among .ensures) ∙ c .enum-told .given .1) f)
+unfolding wordNow wordIn
+returns-2 c = (λ f. absurd (head-out _ (c .before .before .before .before .args .space) _ (c .before .before .before .before .pre) (sym (c .before .before .read-among .ensures) ∙ c .enum-told .given .1) f), rw (sym (c .before .before .read-among .ensures) ∙ c .enum-told .given .1))
 
 pub get-spec : {M : Type 1} → statement M
 get-spec = tie.close (tie.spec read-among-requires enum-known-c enum-told returns returns-2)
