@@ -131,7 +131,11 @@ fn a_million_calls_with_wrong_handles() {
             }
             assert!(pool.mem == before, "seed {seed}: bytes have changed, where {:x?} is right", pool.handle);
         }
-        assert!(!pool.maps_itself(pool.handle.root, 3), "seed {seed}: a page of the pool is mapped in {:x?}", pool.handle);
+        assert!(
+            !pool.maps_itself(pool.handle.root, 3),
+            "seed {seed}: a page of the pool is mapped in {:x?}",
+            pool.handle
+        );
         assert!(pool.slack_is_kept(), "seed {seed}: a byte outside the pool of {:x?} has changed", pool.handle);
     }
 }
