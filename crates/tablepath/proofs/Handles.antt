@@ -6,6 +6,7 @@ use mathlib.Core.List.{List, []}
 use mathlib.Core.Logic.{_⊎_, inl, inr, _≢_}
 use mathlib.Core.Path.{_≡_, refl, sym, ap, _∙_, subst}
 use native.Mathlib.Omega.{arith}
+use borrow.Author.Tests.{eq-eqb, ne-eqb}
 use Rattle.word.specs.Memory.{at, memory, holds}
 use Rattle.word.specs.Writes.{Write, after, carried}
 use Rattle.word.proofs.Writes.{Every, none, every-map, after-other, holds-carried, memory-carried}
@@ -15,7 +16,7 @@ use Rattle.entry.specs.Entry.{says}
 use Rattle.tables.specs.Roles.{Role, left}
 use Rattle.tables.specs.Unseen.{Alike, alike-sound}
 use Rattle.pool.specs.Layout.{markAt, pagesAt, rootAt}
-use Rattle.pool.specs.Book.{wordOf, mark, namesOf, openedOf, openedIn}
+use Rattle.pool.specs.Book.{wordOf, mark, roomOf, headedOf, rootedIn, namesIn, namesOf, openedOf, openedIn}
 use Rattle.pool.specs.Booked.{settingOf, SameBook}
 use Rattle.pool.specs.declared.Space.{Space}
 use Rattle.pool.specs.declared.Fit.{Fit}
@@ -40,7 +41,7 @@ use Rattle.effect.specs.Whole.{Whole}
 use Rattle.tablepath.specs.Answers.{mapAnswer, mapWrites, mapSaid, unmapAnswer, unmapWrites, unmapSaid, protectAnswer, protectWrites, protectSaid, toldAnswer, toldWrites, toldSaid, toldDid}
 use Rattle.tablepath.specs.Calls.{Call, callWrites}
 use Rattle.tablepath.specs.Calls as calls
-use Rattle.tablepath.specs.Handles.{Refuses, Rejected, BookAt, Disjoint}
+use Rattle.tablepath.specs.Handles.{Refuses, Rejected, NamedNot, RefusedFor, BookAt, Disjoint}
 use Rattle.tablepath.proofs.InPool.{call-in-pool}
 use Rattle.tablepath.proofs.Wholes.{WholeBytes}
 
@@ -70,6 +71,25 @@ module _ (h : ℕ → Bool) (m : ℕ → ℕ) (sp : Space) (r : PoolReason) (e :
   unnamed-rejected (calls.unmap va) = record { refused = (Pool r, rw (not-unmapped va)); nothing = rw (not-unmapped va) }
   unnamed-rejected (calls.protect va g) = record { refused = (Pool r, rw (not-found va)); nothing = rw (not-found va) }
   unnamed-rejected (calls.told t) = record { refused = (r, rw e); nothing = rw e }
+
+  -- AND FOR THAT REASON
+  pub unnamed-reason : RefusedFor r h m sp
+  unfolding mapAnswer mapSaid map.decideOf map.shapedOf map.standingOf map.fittingOf unmapAnswer unmapSaid unmap.soughtOf protectAnswer protectSaid protect.decideOf protect.changingOf toldAnswer toldSaid openedOf openedIn
+  unnamed-reason = record {
+    map = λ q l s. rw (s, e);
+    unmap = λ va. rw (not-unmapped va);
+    protect = λ va g. rw (not-found va);
+    told = λ t. rw e;
+  }
+
+-- THE REASON, by the header's words
+pub named-not : (h : ℕ → Bool) (m : ℕ → ℕ) (sp : Space) → roomOf h (sp .first) (sp .pages) ≡ fit.Fits → NamedNot h m sp
+unfolding namesOf namesIn headedOf rootedIn
+named-not h m sp f = record {
+  no-book = λ a. rw (f, ne-eqb _ _ a);
+  other-book = λ a b. rw (f, eq-eqb _ _ a, ne-eqb _ _ b);
+  bad-root = λ a b c. rw (f, eq-eqb _ _ a, eq-eqb _ _ b, ne-eqb _ _ c);
+}
 
 -- A CALL IS REJECTED, or there is a book with exactly its numbers: for any memory
 module _ (h : ℕ → Bool) (m : ℕ → ℕ) (sp : Space) where

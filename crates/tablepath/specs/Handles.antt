@@ -2,13 +2,20 @@
 use Prim.Native.Nat.{ℕ, _+_, _≤_}
 use mathlib.Core.Bool.{Bool}
 use mathlib.Core.List.{List, []}
-use mathlib.Core.Logic.{_⊎_}
+use mathlib.Core.Logic.{_⊎_, _≢_}
 use mathlib.Core.Path.{_≡_}
 use Rattle.pool.specs.Layout.{markAt, pagesAt, rootAt}
-use Rattle.pool.specs.Book.{wordOf, mark}
+use Rattle.pool.specs.Book.{wordOf, mark, namesOf}
 use Rattle.pool.specs.declared.Space.{Space}
+use Rattle.pool.specs.declared.Fit.the-variants as fit
 use Rattle.pool.specs.declared.Reason.{Reason as PoolReason}
+use Rattle.pool.specs.declared.Reason.the-variants.{NoBook, OtherBook, BadRoot}
+use Rattle.entry.specs.declared.Rights.{Rights}
+use Rattle.plan.specs.Map.{shapeOf}
 use Rattle.plan.specs.declared.Reason.{Reason}
+use Rattle.plan.specs.declared.Reason.the-variants.{Pool}
+use Rattle.plan.specs.declared.maps.Asked.{Asked}
+use Rattle.plan.specs.declared.maps.Shape.the-variants.{Level}
 use Rattle.tablepath.specs.declared.Mapped.the-variants as mapped
 use Rattle.tablepath.specs.declared.Unmapped.the-variants as unmapped
 use Rattle.tablepath.specs.declared.Protected.the-variants as protected
@@ -28,6 +35,19 @@ Refuses h m sp (calls.told t) = (y : PoolReason) × (toldAnswer h m sp t ≡ tol
 pub record Rejected (h : ℕ → Bool) (m : ℕ → ℕ) (sp : Space) (c : Call) : Type 0 where
   pub refused : Refuses h m sp c
   pub nothing : callWrites h m sp c ≡ []
+
+-- WHY a space is not named, where its pool lies in the window: no mark; a mark, but other pages; these, but another root
+pub record NamedNot (h : ℕ → Bool) (m : ℕ → ℕ) (sp : Space) : Type 0 where
+  pub no-book : m (wordOf sp markAt) ≢ mark → namesOf h m sp ≡ fit.Refused NoBook
+  pub other-book : m (wordOf sp markAt) ≡ mark → m (wordOf sp pagesAt) ≢ sp .pages → namesOf h m sp ≡ fit.Refused OtherBook
+  pub bad-root : m (wordOf sp markAt) ≡ mark → m (wordOf sp pagesAt) ≡ sp .pages → m (wordOf sp rootAt) ≢ sp .root → namesOf h m sp ≡ fit.Refused BadRoot
+
+-- and that is the reason that every operation answers; of map, where size, alignment and range fit
+pub record RefusedFor (y : PoolReason) (h : ℕ → Bool) (m : ℕ → ℕ) (sp : Space) : Type 0 where
+  pub map : (q : Asked) (l : ℕ) → shapeOf (q .size) (q .base) (q .frame) ≡ Level l → mapAnswer h m sp q ≡ mapped.Refused (Pool y)
+  pub unmap : (va : ℕ) → unmapAnswer h m sp va ≡ unmapped.Refused (Pool y)
+  pub protect : (va : ℕ) (r : Rights) → protectAnswer h m sp va r ≡ protected.Refused (Pool y)
+  pub told : (t : ℕ) → toldAnswer h m sp t ≡ told.Refused y
 
 -- there is a book with exactly these numbers
 pub record BookAt (m : ℕ → ℕ) (sp : Space) : Type 0 where
