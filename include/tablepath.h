@@ -4,34 +4,43 @@
  * pool (pages of 4096 bytes from the physical address pool on, inside the window), and the physical address of the root, which goes into
  * CR3. The pool's first pages hold a book: which pages are free, which are set aside. No other memory is used.
  *
- * ANY BYTES AND ANY NUMBERS may be given: every call ends, reads and writes inside the window alone, and writes words of the pool alone.
- * What can't be done is refused with a reason, and then no byte has changed. tp_reason_text says the reason.
+ * ANY BYTES AND ANY NUMBERS may be given, where mem and len are true: every call ends, reads and writes inside the window alone, and writes
+ * words of the pool alone. What can't be done is refused with a reason, and then no byte has changed. tp_reason_text says the reason. What a
+ * struct names is compared with the book at each call that writes: other pages, another root or another address in the pool are refused.
  *
  * LOCKS. One call that writes at a time on a pool; a lock is the caller's. Pools that share no page may be written at the same time, in one
  * window too. tp_state reads several words of the book and takes the same lock. Processors may walk the tables meanwhile, since words of a
  * table are written one by one, each by one store. tp_look_up and tp_entry may run without the lock: they read one entry at a time, each by
  * one load, as a processor does, and what tp_look_up answers is what the tables meant at some moment while it ran (docs/PROVED.md,
- * each-walk-ends). Such a look-up counts as a walk: let it run with interrupts off, so that its processor answers a shootdown after it.
+ * each-walk-ends). Such a look-up counts as a walk: let it run with interrupts off, on a processor that the shootdowns interrupt, so that it
+ * has ended when that one answers; else take the lock.
  *
  * AFTER tp_unmap AND tp_protect processors may still use what they hold in caches. So, before a frame is used anew:
- *   1. a fence, MFENCE or any locked instruction, so that the stores have left this processor's buffer (sending an x2APIC IPI does not
- *      serialise);
- *   2. the shootdown: INVLPG of each page, one address of it, on every processor that uses these tables; and all have answered;
+ *   1. a fence, so that the stores have left this processor's buffer: MFENCE or any locked instruction; MFENCE and LFENCE behind it where the
+ *      interrupt is sent by WRMSR (x2APIC);
+ *   2. the shootdown: INVLPG of each page, one address of it, on every processor that uses these tables; and all have answered. INVLPG takes
+ *      the canonical address: bit 47 repeated above;
  *   3. the report: tp_told with the ticket that the last of these calls answered, or with any other from before the shootdown began.
- * The report also frees the pages of tables that became empty: until then they are set aside, and nothing writes or hands out such a page.
- * Many calls may share a shootdown, and shootdowns may overlap: a ticket speaks of the last moment at which it was answered, and no report
- * frees what was set aside later. Calls that set no table aside answer the ticket of before: a frame is free when a shootdown that began
- * after its own unmap is done, whatever numbers were told meanwhile. INVLPG is enough on Intel, where it also drops all upper entries of the current PCID, and on AMD, where
- * with EFER.TCE it drops those that lead to the address. So is a write of CR3, since no page is global. Every PCID under which these tables
- * may be cached must be told.
+ * The report frees the pages of tables that became empty: until then they are set aside, and nothing writes or hands out such a page. It
+ * speaks for all calls up to its ticket, whichever thread made them: each shootdown tells every page that was unmapped since the one before
+ * it began, and no ticket is reported while an older shootdown is not done. Shootdowns may overlap, and many calls may share one.
+ * A ticket counts the tables that were set aside so far, and calls that set none aside answer the ticket of before. So a frame is free when a
+ * shootdown that began after its own unmap is done, whatever numbers were told meanwhile.
+ * INVLPG is enough on Intel, where it also drops all upper entries of the current PCID, and on AMD, where with EFER.TCE it drops those that
+ * lead to the address. So is a write of CR3 with bit 63 clear, since no page is global. Every PCID under which these tables may be cached
+ * must be told, and a PCID that is used again begins with nothing cached.
  *
- * AFTER tp_map a walk that begins after the call finds the page (on another processor: once the stores have left the buffer). A cached
- * upper entry that leads to a table set aside may give "nothing" until its report: such a fault is spurious, and INVLPG of the address
- * ends it.
+ * AFTER tp_map a walk that begins when the call's stores have left the buffer finds the page. A cached upper entry that leads to a table set
+ * aside may give "nothing" until its shootdown: such a fault is spurious, and INVLPG of the address ends it. Where the address was unmapped
+ * before and its shootdown is not done, a cache may still give the old page; so map a page of another size only after that shootdown.
+ *
+ * MARKS. tp_protect keeps the accessed and dirty bits of the entry that it read; one that a processor sets between its read and its write is
+ * lost, and tp_unmap answers none: who must not lose one keeps the processors from the page.
  *
  * LIMITS. Levels: four. Sizes: 4096, 2 MiB, 1 GiB. Virtual addresses: 0 to 2^48 - 1. Physical addresses: 0 to 2^52 - 1.
- * The library calls no function but memset, for pages that are no table yet. Its code uses general registers alone, and nothing below the
- * stack pointer: interrupts may come while it runs. */
+ * The library calls no function but memset, for pages that are no table yet. The window is write-back memory, and memset makes ordinary
+ * stores. The code uses general registers alone, and nothing below the stack pointer: interrupts may come while it runs. That no frame is
+ * mapped which lies in another space's pool is the caller's. */
 #ifndef TABLEPATH_H
 #define TABLEPATH_H
 
@@ -140,7 +149,7 @@ struct tp_counts {
     uint64_t free;
     uint64_t aside;
     uint64_t tables; /* but for the root */
-    uint64_t ticket; /* of this moment: what tp_unmap or tp_protect answered last */
+    uint64_t ticket; /* of this moment: what tp_unmap or tp_protect answered last, or 0 */
 };
 
 /* What a walk finds, or an entry says. */
@@ -185,7 +194,8 @@ struct tp_said tp_raw_entry(const uint8_t *mem, size_t len, uint64_t origin, uin
 
 static inline int tp_agrees(const struct tp_space *space) { return (TP_NUMBER(space->mem) ^ space->origin) % 4096 == 0; }
 
-/* Makes a pool of these pages, with its book and an empty root, and sets the root. What the pages held is lost. Answers the reason. */
+/* Makes a pool of these pages, with its book and an empty root, and sets the root (0 where it is refused). What the pages held is lost: no
+ * processor may use tables that were there, and no other pool may share a page. Answers the reason. */
 TP_CHECKED static inline uint64_t tp_create(struct tp_space *space) {
     struct tp_created created = {TP_POINTER_UNALIGNED, 0};
     if (tp_agrees(space)) created = tp_raw_create(space->mem, space->len, space->origin, space->pool, space->pages);
@@ -217,8 +227,8 @@ TP_CHECKED static inline struct tp_protected tp_protect(const struct tp_space *s
     return answer;
 }
 
-/* Reports that every processor has dropped what it held of the pages that were unmapped or protected up to this ticket. Tables set aside
- * before it are free again. */
+/* Reports that a shootdown is done that began when this ticket was answered or later, and every older one too. Tables set aside before it are
+ * free again. */
 TP_CHECKED static inline struct tp_report tp_told(const struct tp_space *space, uint64_t ticket) {
     struct tp_report answer = {TP_POINTER_UNALIGNED, 0};
     if (tp_agrees(space)) answer = tp_raw_told(space->mem, space->len, space->origin, space->pool, space->pages, space->root, ticket);

@@ -1,4 +1,4 @@
--- THE THEOREMS OF A NIGHT, as statements. N is an honest night, complete or exact where that is said; the proofs have the same names in small letters.
+-- THE THEOREMS OF A NIGHT, as statements. N is an honest night, and complete (exact where that is said, not even complete where "whatever is told" is); the proofs have the same names in small letters.
 use Prim.Native.Nat.{ℕ, _+_, _<_, _≤_}
 use mathlib.Core.Bool.{Bool}
 use mathlib.Core.List.{List, [], _++_}

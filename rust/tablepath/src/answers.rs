@@ -10,7 +10,7 @@ pub struct Mapped {
 }
 
 /// A page was unmapped.
-#[must_use = "the frame is yours again only after a shootdown and its report, which needs the ticket"]
+#[must_use = "the frame is yours again only after a shootdown, and the tables only after its report, which needs the ticket"]
 #[derive(Clone, Copy, PartialEq, Eq, Hash, Debug)]
 pub struct Unmapped {
     /// Where it lay in physical memory: yours again after the shootdown.
@@ -50,8 +50,8 @@ pub struct State {
     pub ticket: Ticket,
 }
 
-/// The last moment at which it was answered: what [`Space::told`](crate::Space::told) speaks of. A later one is no smaller, and is larger
-/// where a table was set aside in between.
+/// How many tables were set aside so far: what [`Space::told`](crate::Space::told) speaks of. A later one is no smaller, and is larger where a
+/// table was set aside in between; calls that set none aside answer the same.
 #[must_use]
 #[derive(Clone, Copy, PartialEq, Eq, PartialOrd, Ord, Hash, Debug)]
 pub struct Ticket(u64);

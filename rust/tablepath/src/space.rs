@@ -87,8 +87,9 @@ impl Space {
 
     /// Maps the frame at the base: the whole page, or nothing where one of its addresses is mapped.
     ///
-    /// A walk that begins after it finds the page. A cached upper entry of a table that is set aside may say "nothing" until its report:
-    /// such a fault is spurious, and INVLPG of the address ends it.
+    /// A walk that begins when its stores have left the buffer finds the page. A cached upper entry of a table that is set aside may say
+    /// "nothing" until its shootdown: such a fault is spurious, and INVLPG of the address ends it. Where the address was unmapped before and its
+    /// shootdown is not done, a cache may still give the old page; so map a page of another size only after that.
     ///
     /// ```
     /// use tablepath::{Found, Page, Pages, Reason, Rights, Size, Space};
@@ -158,12 +159,13 @@ impl Space {
         Ok(Protected { frame, size: Size::answered(size), ticket: ticket.into() })
     }
 
-    /// Reports a shootdown: every processor has dropped what it held of the pages that were unmapped or protected up to this ticket. What was
-    /// set aside before it is free again: the answer says how many pages.
+    /// Reports a shootdown that is done, and every older one too. Tables that were set aside before its ticket are free again: the answer says
+    /// how many.
     ///
-    /// The shootdown: a fence, so that the stores have left this processor's buffer (MFENCE, or any locked instruction; sending an x2APIC IPI
-    /// does not serialise); then INVLPG of each such page on every processor that uses these tables, and a wait until all have answered. The
-    /// ticket is one that was answered before it began.
+    /// The shootdown: a fence, so that the stores have left this processor's buffer (MFENCE, or any locked instruction; MFENCE and LFENCE where
+    /// the interrupt is sent by WRMSR, as with x2APIC); then INVLPG of each page that was unmapped since the shootdown before began, by its
+    /// canonical address, on every processor that uses these tables, and a wait until all have answered. The ticket is one that was answered
+    /// before it began. A frame is free when a shootdown that began after its own unmap is done, whatever tickets were told meanwhile.
     ///
     /// ```
     /// use tablepath::{Pages, Reason, Space, Ticket};
