@@ -24,7 +24,8 @@
  * The report frees the pages of tables that became empty: until then they are set aside, and nothing writes or hands out such a page. It
  * speaks for all calls up to its ticket, whichever thread made them: each shootdown tells every page that was unmapped since the one before
  * it began, and no ticket is reported while an older shootdown is not done. Shootdowns may overlap, and many calls may share one.
- * A ticket counts the tables that were set aside so far, and calls that set none aside answer the ticket of before. So a frame is free when a
+ * A ticket counts the tables that were set aside so far, and calls that set none aside answer the ticket of before; any number up to the
+ * present one is taken, also one that no call answered, and frees what was set aside before so many were. So a frame is free when a
  * shootdown that began after its own unmap is done, whatever numbers were told meanwhile.
  * INVLPG is enough on Intel, where it also drops all upper entries of the current PCID, and on AMD, where with EFER.TCE it drops those that
  * lead to the address. So is a write of CR3 with bit 63 clear, since no page is global. Every PCID under which these tables may be cached

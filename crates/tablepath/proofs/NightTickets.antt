@@ -16,7 +16,7 @@ use Rattle.tablepath.specs.Calls.{Saw, Act, wrote, Reached}
 use Rattle.tablepath.specs.Tickets.{Handed}
 use Rattle.tablepath.specs.Nights.{Night, dusk, calls, happens, begins, done, history, lastBegan, lastSince, front, joined, Some, lately, due, covered, uncovered, untoldKept, waiting, seen, Honest, Telling, Complete}
 use Rattle.tablepath.specs.Gone.{Links}
-use Rattle.tablepath.specs.Shown.{CoveredTicket, UncoveredTicket, ReleasedUnread}
+use Rattle.tablepath.specs.Shown.{CoveredTicket, UncoveredTicket, TicketCovers, ReleasedUnread}
 use Rattle.tablepath.proofs.Marking.{saw-back, saw-whole}
 use Rattle.tablepath.proofs.Serving.{numbered-aside}
 use Rattle.tablepath.proofs.Running.{Ran, reached-ran, saw-keeps, saw-ticket}
@@ -37,6 +37,12 @@ module _ (h : ℕ → Bool) (sp : Space) where
   uncovered-ticket N k c t s =
       let f = night-facts h sp N k c in
       run-tickets h sp (ticketOf (bookOf (lastBegan N) sp)) (lastBegan N) (f .role) (uncovered N) (f .whole) (omega arith) (f .reached .0 .runs) (f .reached .0 .upto) t s .0
+
+  pub ticket-covers : (N : Night) → Honest h sp untoldKept N → Complete h sp N → TicketCovers h sp N
+  ticket-covers N k c t u none j v s =
+      let x = uncovered-ticket N k c j s in
+      let same : j ≡ t = omega (arith, x, u, v) in
+      none (subst (λ i. Some (λ a. Handed h (a .saw) sp (a .call) i) (uncovered N)) same s)
 
   pub covered-ticket : (N : Night) → Honest h sp untoldKept N → Complete h sp N → CoveredTicket h sp N
   unfolding Honest Telling covered history last Some

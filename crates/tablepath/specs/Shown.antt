@@ -74,6 +74,11 @@ module _ (h : ℕ → Bool) (sp : Space) where
   abbrev pub UncoveredTicket : Night → Type 0
   UncoveredTicket N = (t : ℕ) → Some (λ a. Handed h (a .saw) sp (a .call) t) (uncovered N) → ticketOf (bookOf (lastBegan N) sp) ≤ t
 
+  -- A TICKET COVERS EVERY CALL UP TO IT, where it speaks of the last moment at which it was handed out: it may be reported, and no uncovered call handed it out.
+  abbrev pub TicketCovers : Night → Type 0
+  TicketCovers N = (t : ℕ) → t ≤ ticketOf (bookOf (lastBegan N) sp) → ¬ Some (λ a. Handed h (a .saw) sp (a .call) t) (uncovered N)
+      → (j : ℕ) → j ≤ t → ¬ Some (λ a. Handed h (a .saw) sp (a .call) j) (uncovered N)
+
   -- Between operations ---------------------------------------------------------------------------------------------------------------
 
   -- WHENEVER NOTHING WAITS, all is whole.
