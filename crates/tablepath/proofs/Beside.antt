@@ -18,7 +18,7 @@ use Rattle.world.specs.Discipline.{Grow, Safe, interleaving}
 use Rattle.world.specs.Rules.{frozen, safe-first, safe-rest}
 use Rattle.world.specs.Frozen.{SomeReads}
 use Rattle.world.specs.Turns.{Turn, events, Idle, places, begun, each-walk}
-use Rattle.world.specs.Walks.{At, one-space-meaning}
+use Rattle.tables.specs.Walks.{At, one-space-meaning}
 use Rattle.world.proofs.Cut.{read-or-frozen}
 use Rattle.tables.specs.Roles.{Role}
 use Rattle.tables.specs.Discipline.{walkerOf}

@@ -15,7 +15,7 @@ use Rattle.walk.specs.declared.Found.{Found}
 use Rattle.walk.specs.declared.Found.the-variants.{Page, Nothing}
 use Rattle.walk.proofs.Ranges.{page-covers}
 use Rattle.world.specs.Events.{Event, after, All, all-map, all-both, all-last}
-use Rattle.world.specs.Walks.{one-space-meaning}
+use Rattle.tables.specs.Walks.{one-space-meaning}
 use Rattle.world.specs.OneChange.{OldOrNew, old-or-new}
 use Rattle.tables.specs.Roles.{Role}
 use Rattle.tables.specs.Near.{Near, near-range}

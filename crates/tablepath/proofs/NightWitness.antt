@@ -17,7 +17,7 @@ use Rattle.walk.specs.Walk.{baseOf}
 use Rattle.walk.specs.declared.Found.the-variants as found
 use Rattle.world.specs.Events.{Event, write, happen, after}
 use Rattle.world.specs.Reports.{fromNow, eachLonger, now, last, underway, oldest, Caches}
-use Rattle.world.specs.Walks.{At}
+use Rattle.tables.specs.Walks.{At}
 use Rattle.walk.specs.declared.Found.{Found}
 use Rattle.tables.specs.Roles.{table, entryAt}
 use Rattle.tables.specs.Near.{near-range}

@@ -12,7 +12,7 @@ use Rattle.walk.specs.declared.Place.the-variants.{Going, Ended}
 use Rattle.world.specs.Events.{Event, write, mark, store, happen, Among, among-map, All, all-last}
 use Rattle.world.specs.Marks.{writes}
 use Rattle.world.specs.Walker.{Reads}
-use Rattle.world.specs.Walks.{At, one-space-meaning}
+use Rattle.tables.specs.Walks.{At, one-space-meaning}
 use Rattle.world.specs.Reports.{fromNow, now, last, next, Caches, NoMore, Held, Keeps, OnWay, Untold, Tells, Fresh, Enough}
 use Rattle.world.proofs.Reports.{last-ends, fresh, reaches-none, half-on, as-if-all, flushed, no-more-held}
 use Rattle.tables.specs.Near.{Near}

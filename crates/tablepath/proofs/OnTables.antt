@@ -18,8 +18,8 @@ use Rattle.walk.specs.declared.Place.the-variants.{Going, Ended}
 use Rattle.walk.proofs.Digits.{index-lt}
 use Rattle.world.specs.Walker.{On, here}
 use Rattle.world.specs.Ways.{on-step}
-use Rattle.world.specs.Walks.{At, stepAt}
-use Rattle.world.specs.Ties.{on-way}
+use Rattle.tables.specs.Walks.{At, stepAt}
+use Rattle.tables.specs.Ties.{on-way}
 use Rattle.tables.specs.Roles.{Setting, Role, entryAt, Built}
 use Rattle.tables.specs.Way.{Comes, begin, onto, comes-left, onto-role}
 use Rattle.tables.specs.Meaning.{live-home, everything-both}

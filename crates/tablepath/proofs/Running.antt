@@ -14,7 +14,7 @@ use Rattle.world.specs.Discipline.{Safe}
 use Rattle.world.specs.Rules.{Obeys, obeys-nil, obeys-append, obeys-weaken, safe-less}
 use Rattle.world.specs.Marks.{writes, Inside, obeys-beside}
 use Rattle.world.specs.Reports.{Thawed}
-use Rattle.world.specs.Ties.{reads-walk}
+use Rattle.tables.specs.Ties.{reads-walk}
 use Rattle.world.proofs.Late.{late-safe}
 use Rattle.tables.specs.Roles.{Role, Live}
 use Rattle.tables.specs.Unseen.{alike-built}

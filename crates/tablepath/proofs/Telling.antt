@@ -14,7 +14,7 @@ use Rattle.walk.specs.declared.Place.{Place}
 use Rattle.walk.specs.declared.Place.the-variants.{Going, Ended}
 use Rattle.world.specs.Events.{Among, among-map, among-with, among-all, All}
 use Rattle.world.specs.Walker.{meaning, On}
-use Rattle.world.specs.Walks.{At, one-space-meaning}
+use Rattle.tables.specs.Walks.{At, one-space-meaning}
 use Rattle.world.specs.Reports.{Period, last, next, Caches, SafeIn, OnWay, Untold, Meant, MeantLike}
 use Rattle.tables.specs.Roles.{Role, Apart}
 use Rattle.tables.specs.Near.{Near}

@@ -13,7 +13,7 @@ use Rattle.world.specs.Events as world
 use Rattle.world.specs.Events.{Event}
 use Rattle.world.specs.Rules.{obeys-nil, obeys-append}
 use Rattle.world.specs.OneChange.{Quiet, SameMeaning, quiet-nil, quiet-more}
-use Rattle.world.specs.Walks.{one-space-meaning}
+use Rattle.tables.specs.Walks.{one-space-meaning}
 use Rattle.tables.specs.Roles.{Setting, Role, free, aside, book, left, Live, Built, Holds, Zero}
 use Rattle.tables.specs.Way.{Comes}
 use Rattle.tables.specs.Meaning.{meaning}

@@ -20,8 +20,8 @@ use Rattle.walk.proofs.Digits.{index-lt}
 use Rattle.world.specs.Events.{Event, write}
 use Rattle.world.specs.Walker.{Walker, cell, Reads, On}
 use Rattle.world.specs.Rules.{Obeys, obeys-nil, obeys-weaken, obeys-cuts, obeys-ends, obeys-unseen}
-use Rattle.world.specs.Walks.{At, oneSpace}
-use Rattle.world.specs.Ties.{reads-walk, on-way, Through, through}
+use Rattle.tables.specs.Walks.{At, oneSpace}
+use Rattle.tables.specs.Ties.{reads-walk, on-way, Through, through}
 use Rattle.tables.specs.Roles.{Setting, Role, free, aside, table, unlinked, left, entryAt, Built, Bare, Plain}
 use Rattle.tables.specs.Way.{Comes, comes-left}
 use Rattle.tables.specs.OneWrite.{Spot, at-page, nothing-plain}

@@ -1,3 +1,5 @@
+pub mod Walks
+pub mod Ties
 pub mod Roles
 pub mod Near
 pub mod Way
