@@ -22,10 +22,11 @@ use Rattle.walk.specs.declared.Found.the-variants as found
 use Rattle.walk.proofs.Digits.{index-lt}
 use Rattle.tables.specs.Roles.{Setting, Role, foreign, book, Home, entryAt}
 use Rattle.tables.specs.Way.{Comes}
-use Rattle.tables.specs.Clearing.{book-spare}
-use Rattle.tables.specs.Down.{down-start, map-done}
-use Rattle.tables.specs.Operation.{Changed, changed-sound, changed-spare}
-use Rattle.tables.specs.Overlap.{aligned-base}
+use Rattle.tables.proofs.Clearing.{book-spare}
+use Rattle.tables.proofs.Down.{down-start, map-done}
+use Rattle.tables.specs.Operation.{Changed}
+use Rattle.tables.proofs.Operation.{changed-sound, changed-spare}
+use Rattle.tables.proofs.Overlap.{aligned-base}
 use Rattle.pool.proofs.Alone.{alone-after}
 use Rattle.pool.specs.Layout.{bookPages}
 use Rattle.pool.specs.Book.{bookOf, pageAt}

@@ -9,17 +9,15 @@ use Rattle.word.specs.Writes.{carried, after}
 use Rattle.word.proofs.Writes.{every-map, memory-carried}
 use Rattle.walk.specs.declared.Found.the-variants as found
 use Rattle.tables.specs.Roles.{Role}
-use Rattle.tables.specs.Edits.{turns-inside, turns-outside}
+use Rattle.tables.proofs.Edits.{turns-inside, turns-outside}
 use Rattle.tables.specs.Meaning.{meaning}
-use Rattle.tables.specs.Overlap.{aligned-base}
+use Rattle.tables.proofs.Overlap.{aligned-base}
 use Rattle.walk.specs.Walk.{baseOf}
 use Rattle.pool.specs.Booked.{settingOf}
 use Rattle.pool.specs.declared.Space.{Space}
 use Rattle.plan.specs.declared.maps.Asked.{Asked}
 use Rattle.plan.specs.declared.maps.Mapping.{Mapping}
-use Rattle.plan.specs.Map.{Placed}
-use Rattle.plan.specs.Map.{Go}
-use Rattle.plan.specs.Map.{decideOf, writesOf}
+use Rattle.plan.specs.Map.{Placed, Go, decideOf, writesOf}
 use Rattle.effect.specs.MapDone.{MapDone}
 use Rattle.effect.specs.Whole.{Whole}
 use Rattle.effect.proofs.MapBuilt.{planned-done}

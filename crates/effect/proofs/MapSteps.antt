@@ -17,9 +17,10 @@ use Rattle.entry.proofs.Written.{table-word-says}
 use Rattle.walk.specs.Walk.{indexOf}
 use Rattle.walk.proofs.Digits.{index-lt}
 use Rattle.tables.specs.Roles.{Role, free, table, left, entryAt, Home}
-use Rattle.tables.specs.Way.{comes-left}
-use Rattle.tables.specs.Kept.{zero-bare}
-use Rattle.tables.specs.Down.{Down, down-make, made-zero}
+use Rattle.tables.proofs.Way.{comes-left}
+use Rattle.tables.proofs.Kept.{zero-bare}
+use Rattle.tables.specs.Down.{Down}
+use Rattle.tables.proofs.Down.{down-make, made-zero}
 use Rattle.pool.specs.Layout.{bookPages}
 use Rattle.pool.specs.Book.{bookOf, pageAt}
 use Rattle.pool.specs.Booked.{settingOf, Taken}

@@ -19,8 +19,9 @@ use Rattle.walk.specs.Walk.{indexOf}
 use Rattle.walk.specs.declared.Found.the-variants as found
 use Rattle.walk.proofs.Digits.{index-lt}
 use Rattle.tables.specs.Roles.{Role}
-use Rattle.tables.specs.Operation.{Changed, changed-sound}
-use Rattle.tables.specs.Down.{protect-done}
+use Rattle.tables.specs.Operation.{Changed}
+use Rattle.tables.proofs.Operation.{changed-sound}
+use Rattle.tables.proofs.Down.{protect-done}
 use Rattle.pool.specs.Book.{bookOf, ticketIn}
 use Rattle.pool.proofs.Alone.{unmarking-one, alone-after}
 use Rattle.pool.specs.Booked.{settingOf}

@@ -14,8 +14,9 @@ use Rattle.entry.specs.Entry.{everything}
 use Rattle.walk.specs.Walk.{indexOf}
 use Rattle.walk.proofs.Digits.{index-lt}
 use Rattle.tables.specs.Roles.{Role, aside, table, left, Bare}
-use Rattle.tables.specs.Way.{Comes, onto, onto-role}
-use Rattle.tables.specs.Up.{Up, up-step, up-spare}
+use Rattle.tables.specs.Way.{Comes, onto}
+use Rattle.tables.proofs.Way.{onto-role}
+use Rattle.tables.proofs.Up.{Up, up-step, up-spare}
 use Rattle.pool.specs.Book.{bookOf, ticketOf}
 use Rattle.pool.specs.Booked.{settingOf, Booked, Numbered}
 use Rattle.pool.specs.Changes.{asideWrites, asideBook}

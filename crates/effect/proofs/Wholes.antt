@@ -8,7 +8,7 @@ use native.Mathlib.Omega.{arith}
 use Rattle.word.specs.Writes.{Write}
 use Rattle.word.proofs.Writes.{Every, every-map}
 use Rattle.tables.specs.Roles.{Role, left}
-use Rattle.tables.specs.Clearing.{Spare, book-spare}
+use Rattle.tables.proofs.Clearing.{Spare, book-spare}
 use Rattle.pool.specs.Book.{bookOf, namesOf, openedOf}
 use Rattle.pool.specs.Booked.{settingOf, Booked}
 use Rattle.pool.specs.declared.Space.{Space}

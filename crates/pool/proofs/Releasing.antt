@@ -12,13 +12,12 @@ use Rattle.tables.specs.Roles.{Role, free, aside, book}
 use Rattle.pool.specs.declared.Space.{Space}
 use Rattle.pool.specs.declared.Book.{Book}
 use Rattle.pool.specs.Layout.{markAt, pagesAt, rootAt, headAt, freeAt, asideAt, ticketsAt, headerWords, slotAt}
-use Rattle.pool.specs.Book.{wordOf, bookOf, spotOf, pageAt, Sound}
+use Rattle.pool.specs.Book.{wordOf, bookOf, spotOf, pageAt, Sound, dueOf, ticketOf}
 use Rattle.pool.specs.Changes.{releaseWrites}
-use Rattle.pool.specs.Book.{dueOf, ticketOf}
 use Rattle.pool.specs.declared.Due.the-variants as due
 use Rattle.pool.specs.Booked.{Lists, Booked, released, Numbered}
 use Rattle.pool.proofs.Counts.{is-sound}
-use Rattle.tables.specs.Unseen.{Shifted}
+use Rattle.tables.proofs.Unseen.{Shifted}
 use Rattle.pool.proofs.Lists.{among, lists-same, lists-thawed, thawed-free, thawed-stays, thawed-shifted}
 use Rattle.pool.proofs.Words.{header-slot, puts, becomes, puts-word, puts-book}
 use Rattle.pool.proofs.Booked.{numbered-by, changed}

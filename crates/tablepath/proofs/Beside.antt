@@ -11,14 +11,19 @@ use Rattle.word.specs.Memory.{set, at}
 use Rattle.word.proofs.Set.{set-at, set-other}
 use Rattle.word.proofs.Writes.{page-of}
 use Rattle.walk.specs.declared.Found.{Found}
-use Rattle.world.specs.Events.{Event, write, mark, store, happen, after, Among, among-map, All}
+use Rattle.world.specs.Events.{Event, write, mark, store, happen, after, Among, All}
+use Rattle.world.proofs.Events.{among-map}
 use Rattle.world.specs.Walker.{Gives}
 use Rattle.world.specs.Held.{Can, None}
-use Rattle.world.specs.Discipline.{Grow, Safe, interleaving}
-use Rattle.world.specs.Rules.{frozen, safe-first, safe-rest}
+use Rattle.world.specs.Discipline.{Grow, Safe}
+use Rattle.world.proofs.Discipline.{interleaving}
+use Rattle.world.specs.Rules.{frozen}
+use Rattle.world.proofs.Rules.{safe-first, safe-rest}
 use Rattle.world.specs.Frozen.{SomeReads}
-use Rattle.world.specs.Turns.{Turn, events, Idle, places, begun, each-walk}
-use Rattle.tables.specs.Walks.{At, one-space-meaning}
+use Rattle.world.specs.Turns.{Turn, events, Idle, places, begun}
+use Rattle.world.proofs.Turns.{each-walk}
+use Rattle.tables.specs.Walks.{At}
+use Rattle.tables.proofs.Walks.{one-space-meaning}
 use Rattle.world.proofs.Cut.{read-or-frozen}
 use Rattle.tables.specs.Roles.{Role}
 use Rattle.tables.specs.Discipline.{walkerOf}

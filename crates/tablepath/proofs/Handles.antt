@@ -14,7 +14,7 @@ use Rattle.entry.specs.declared.Rights.{Rights}
 use Rattle.entry.specs.Clean.{Clean}
 use Rattle.entry.specs.Entry.{says}
 use Rattle.tables.specs.Roles.{Role, left}
-use Rattle.tables.specs.Unseen.{Alike, alike-sound}
+use Rattle.tables.proofs.Unseen.{Alike, alike-sound}
 use Rattle.pool.specs.Layout.{markAt, pagesAt, rootAt}
 use Rattle.pool.specs.Book.{wordOf, mark, roomOf, headedOf, rootedIn, namesIn, namesOf, openedOf, openedIn}
 use Rattle.pool.specs.Booked.{settingOf, SameBook}

@@ -20,11 +20,11 @@ use Rattle.world.specs.Reports.{fromNow, eachLonger, now, last, underway, oldes
 use Rattle.tables.specs.Walks.{At}
 use Rattle.walk.specs.declared.Found.{Found}
 use Rattle.tables.specs.Roles.{table, entryAt}
-use Rattle.tables.specs.Near.{near-range}
-use Rattle.tables.specs.Way.{comes-parent}
+use Rattle.tables.proofs.Near.{near-range}
+use Rattle.tables.proofs.Way.{comes-parent}
 use Rattle.tables.specs.Meaning.{meaning}
-use Rattle.tables.specs.Overlap.{table-mapped, aligned-base}
-use Rattle.tables.specs.Sentences.{reached}
+use Rattle.tables.proofs.Overlap.{table-mapped, aligned-base}
+use Rattle.tables.proofs.Sentences.{reached}
 use Rattle.tables.specs.Clearing.{eventsOf}
 use Rattle.pool.specs.Book.{bookOf, pageAt, ticketOf}
 use Rattle.pool.specs.Booked.{settingOf, Numbered, newRole}

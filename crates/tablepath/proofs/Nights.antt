@@ -9,10 +9,12 @@ use mathlib.Core.Path.{_≡_, refl, sym, ap, _∙_, subst}
 use Rattle.walk.specs.declared.Found.{Found}
 use Rattle.walk.specs.declared.Place.{Place}
 use Rattle.walk.specs.declared.Place.the-variants.{Going, Ended}
-use Rattle.world.specs.Events.{Event, write, mark, store, happen, Among, among-map, All, all-last}
+use Rattle.world.specs.Events.{Event, write, mark, store, happen, Among, All}
+use Rattle.world.proofs.Events.{among-map, all-last}
 use Rattle.world.specs.Marks.{writes}
 use Rattle.world.specs.Walker.{Reads}
-use Rattle.tables.specs.Walks.{At, one-space-meaning}
+use Rattle.tables.specs.Walks.{At}
+use Rattle.tables.proofs.Walks.{one-space-meaning}
 use Rattle.world.specs.Reports.{fromNow, now, last, next, Caches, NoMore, Held, Keeps, OnWay, Untold, Tells, Fresh, Enough}
 use Rattle.world.proofs.Reports.{last-ends, fresh, reaches-none, half-on, as-if-all, flushed, no-more-held}
 use Rattle.tables.specs.Near.{Near}

@@ -7,9 +7,10 @@ use mathlib.Core.Logic.{inl, inr}
 use mathlib.Core.Path.{_≡_, refl, sym, ap, _∙_, subst}
 use native.Mathlib.Omega.{arith}
 use Rattle.word.specs.Writes as word
-use Rattle.world.specs.Events.{Event, after, after-append}
+use Rattle.world.specs.Events.{Event, after}
+use Rattle.world.proofs.Events.{after-append}
 use Rattle.tables.specs.Roles.{Role, free, aside}
-use Rattle.tables.specs.Clearing.{events-after}
+use Rattle.tables.proofs.Clearing.{events-after}
 use Rattle.pool.specs.Book.{bookOf, ticketOf}
 use Rattle.pool.specs.Booked.{Numbered}
 use Rattle.pool.specs.declared.Space.{Space}

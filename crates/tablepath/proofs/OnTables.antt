@@ -17,13 +17,14 @@ use Rattle.walk.specs.declared.Place.{Place}
 use Rattle.walk.specs.declared.Place.the-variants.{Going, Ended}
 use Rattle.walk.proofs.Digits.{index-lt}
 use Rattle.world.specs.Walker.{On, here}
-use Rattle.world.specs.Ways.{on-step}
+use Rattle.world.proofs.Ways.{on-step}
 use Rattle.tables.specs.Walks.{At, stepAt}
-use Rattle.tables.specs.Ties.{on-way}
+use Rattle.tables.proofs.Ties.{on-way}
 use Rattle.tables.specs.Roles.{Setting, Role, entryAt, Built}
-use Rattle.tables.specs.Way.{Comes, begin, onto, comes-left, onto-role}
-use Rattle.tables.specs.Meaning.{live-home, everything-both}
-use Rattle.tables.specs.Reach.{way-comes}
+use Rattle.tables.specs.Way.{Comes, begin, onto}
+use Rattle.tables.proofs.Way.{comes-left, onto-role}
+use Rattle.tables.proofs.Meaning.{live-home, everything-both}
+use Rattle.tables.proofs.Reach.{way-comes}
 use Rattle.tables.specs.Discipline.{walkerOf}
 
 module _ {σ : Setting} {m : ℕ → ℕ} {role : ℕ → Role} (b : Built σ m role) where

@@ -13,8 +13,8 @@ use Rattle.walk.specs.Walk.{walk, baseOf}
 use Rattle.walk.specs.declared.Found.{Found}
 use Rattle.walk.specs.declared.Found.the-variants.{Page, Nothing}
 use Rattle.tables.specs.Roles.{Role, Home}
-use Rattle.tables.specs.Edits.{turns-inside, turns-outside}
-use Rattle.tables.specs.Overlap.{aligned-base}
+use Rattle.tables.proofs.Edits.{turns-inside, turns-outside}
+use Rattle.tables.proofs.Overlap.{aligned-base}
 use Rattle.pool.specs.Book.{bookOf, dueOf}
 use Rattle.pool.specs.Booked.{settingOf}
 use Rattle.pool.specs.declared.Due.{Due}

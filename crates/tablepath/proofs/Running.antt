@@ -9,19 +9,23 @@ use Rattle.word.specs.Writes.{Write}
 use Rattle.word.specs.Writes as word
 use Rattle.word.specs.Memory.{at}
 use Rattle.word.proofs.Writes.{page-of}
-use Rattle.world.specs.Events.{Event, after, after-append, All, all-map, all-front, all-append}
+use Rattle.world.specs.Events.{Event, after, All}
+use Rattle.world.proofs.Events.{after-append, all-map, all-front, all-append}
 use Rattle.world.specs.Discipline.{Safe}
-use Rattle.world.specs.Rules.{Obeys, obeys-nil, obeys-append, obeys-weaken, safe-less}
-use Rattle.world.specs.Marks.{writes, Inside, obeys-beside}
+use Rattle.world.specs.Rules.{Obeys}
+use Rattle.world.proofs.Rules.{obeys-nil, obeys-append, obeys-weaken, safe-less}
+use Rattle.world.specs.Marks.{writes, Inside}
+use Rattle.world.proofs.Marks.{obeys-beside}
 use Rattle.world.specs.Reports.{Thawed}
-use Rattle.tables.specs.Ties.{reads-walk}
+use Rattle.tables.proofs.Ties.{reads-walk}
 use Rattle.world.proofs.Late.{late-safe}
 use Rattle.tables.specs.Roles.{Role, Live}
-use Rattle.tables.specs.Unseen.{alike-built}
-use Rattle.tables.specs.Meaning.{live-home}
-use Rattle.tables.specs.Reach.{walk-reads-tables}
+use Rattle.tables.proofs.Unseen.{alike-built}
+use Rattle.tables.proofs.Meaning.{live-home}
+use Rattle.tables.proofs.Reach.{walk-reads-tables}
 use Rattle.tables.specs.Discipline.{walkerOf}
-use Rattle.tables.specs.Clearing.{eventsOf, events-after}
+use Rattle.tables.specs.Clearing.{eventsOf}
+use Rattle.tables.proofs.Clearing.{events-after}
 use Rattle.pool.specs.Book.{bookOf, ticketOf}
 use Rattle.pool.specs.Booked.{settingOf, Booked, Numbered}
 use Rattle.pool.specs.declared.Space.{Space}

@@ -9,12 +9,17 @@ use native.Mathlib.Omega.{arith}
 use Rattle.word.specs.Writes.{Write, after}
 use Rattle.word.proofs.Writes.{Every, every-map}
 use Rattle.entry.specs.declared.Rights.{Rights}
-use Rattle.world.specs.Events.{Among, All, all-map}
-use Rattle.world.specs.Rules.{Obeys, obeys-nil}
-use Rattle.world.specs.Frozen.{SomeReads, obeys-from, among-none}
+use Rattle.world.specs.Events.{Among, All}
+use Rattle.world.proofs.Events.{all-map}
+use Rattle.world.specs.Rules.{Obeys}
+use Rattle.world.proofs.Rules.{obeys-nil}
+use Rattle.world.specs.Frozen.{SomeReads}
+use Rattle.world.proofs.Frozen.{obeys-from, among-none}
 use Rattle.tables.specs.Roles.{Role, foreign, free, aside, book, root, table, left, Built}
-use Rattle.tables.specs.Discipline.{Aside, walkerOf, unread}
-use Rattle.tables.specs.Clearing.{Spare, book-spare, eventsOf, spare-untouched}
+use Rattle.tables.specs.Discipline.{Aside, walkerOf}
+use Rattle.tables.proofs.Discipline.{unread}
+use Rattle.tables.proofs.Clearing.{Spare, book-spare, spare-untouched}
+use Rattle.tables.specs.Clearing.{eventsOf}
 use Rattle.pool.specs.Book.{wordOf, bookOf, ticketOf, openedOf, dueOf}
 use Rattle.pool.specs.Booked.{settingOf, released, Numbered}
 use Rattle.pool.specs.Changes.{releaseWrites}

@@ -13,12 +13,15 @@ use Rattle.word.specs.Writes as word
 use Rattle.word.proofs.Writes.{page-of}
 use Rattle.entry.specs.declared.Rights.{Rights}
 use Rattle.walk.specs.declared.Found.{Found}
-use Rattle.world.specs.Events.{after, All, all-map, all-both, all-append}
+use Rattle.world.specs.Events.{after, All}
+use Rattle.world.proofs.Events.{all-map, all-both, all-append}
 use Rattle.world.specs.Walker.{Reads}
-use Rattle.world.specs.Ways.{follows-agree}
+use Rattle.world.proofs.Ways.{follows-agree}
 use Rattle.tables.specs.Roles.{Role, free, aside, table, left, Built}
-use Rattle.tables.specs.Discipline.{walkerOf, unread}
-use Rattle.tables.specs.Clearing.{eventsOf, events-after, spare-untouched}
+use Rattle.tables.specs.Discipline.{walkerOf}
+use Rattle.tables.proofs.Discipline.{unread}
+use Rattle.tables.specs.Clearing.{eventsOf}
+use Rattle.tables.proofs.Clearing.{events-after, spare-untouched}
 use Rattle.tables.specs.Operation.{Moment, Changed}
 use Rattle.pool.specs.Book.{bookOf, ticketOf, dueOf, pageAt}
 use Rattle.pool.specs.Booked.{settingOf, released}

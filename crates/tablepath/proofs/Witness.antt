@@ -19,8 +19,10 @@ use Rattle.walk.specs.Walk.{indexOf}
 use Rattle.walk.specs.declared.Found.{Found}
 use Rattle.walk.specs.declared.Found.the-variants as found
 use Rattle.tables.specs.Roles.{Setting, Role, foreign, free, aside, book, root, table, left, entryAt}
-use Rattle.tables.specs.Way.{Comes, comes-left}
-use Rattle.tables.specs.Meaning.{meaning, Ends, too-high, at-nothing, at-page, ends}
+use Rattle.tables.specs.Way.{Comes}
+use Rattle.tables.proofs.Way.{comes-left}
+use Rattle.tables.specs.Meaning.{meaning}
+use Rattle.tables.proofs.Meaning.{Ends, too-high, at-nothing, at-page, ends}
 use Rattle.pool.specs.Layout.{bookPages}
 use Rattle.pool.specs.Book.{bookOf, pageAt, roomOf}
 use Rattle.pool.specs.Booked.{settingOf, newRole, tablesOf, howMany}

@@ -1,27 +1,20 @@
 -- The walker that takes `walk`'s own steps, so that its meaning is `walk`: what is proved of walkers is proved of walks through page tables.
-use mathlib.Core.Path.{_≡_, refl, sym, _∙_, ap, subst, fun-ext}
+use mathlib.Core.Path.{_≡_, refl, sym, _∙_, ap, subst}
 use mathlib.Core.Bool.{Bool, true, false, cond}
-use mathlib.Core.Logic.{inl, inr}
-use Prim.Native.Nat.{ℕ, zero, suc, _*_, _/_, _^_}
+use Prim.Native.Nat.{ℕ, zero, suc, _/_, _^_}
 use native.Mathlib.Omega.{arith}
 use lib.Dec.{ltb}
 use borrow.Author.Tests.{ltb-true, ltb-false, lt-ltb, le-ltb}
-use Rattle.entry.specs.Entry.{sizeOf, tableOf, says, both, everything}
-use Rattle.entry.specs.declared.Rights.{Rights}
-use Rattle.entry.specs.Marks.{Marked}
+use Rattle.entry.specs.Entry.{sizeOf, tableOf, says, everything}
 use Rattle.entry.specs.declared.Entry.{Entry}
 use Rattle.entry.specs.declared.Entry.the-variants as entry
-use Rattle.entry.proofs.Marks.{marks-say-nothing}
-use Rattle.walk.specs.Walk.{indexOf, baseOf, entryOf, entered, stepOf, run, start, foundOf, walk}
+use Rattle.walk.specs.Walk.{entryOf, entered, stepOf, start, foundOf}
 use Rattle.walk.specs.declared.Found.{Found}
 use Rattle.walk.specs.declared.Found.the-variants.{Nothing, Outside}
 use Rattle.walk.specs.declared.Place.{Place}
 use Rattle.walk.specs.declared.Place.the-variants.{Going, Ended}
-use Rattle.walk.proofs.Steps.{run-ended}
 use Rattle.walk.proofs.Digits.{agree-up, same-index, same-base}
-use Rattle.world.specs.Walker as the
-use Rattle.world.specs.Ways.{nowhere-cell}
-use Rattle.world.specs.Walker.{Next, nowhere, cell, Walker, meaning, Gives, Reads, ReadsIn}
+use Rattle.world.specs.Walker.{Next, nowhere, cell, Walker}
 
 -- a walk with so many levels to go
 pub record At : Type 0 where
@@ -120,28 +113,6 @@ module _ (h : ℕ → Bool) {Address : Type 0} (rootOf vaOf : Address → ℕ) w
     alike-step = λ m a b p n e q. step-alike h m (vaOf a) (vaOf b) n (p .levels) (p .place) e (q .1);
   }
 
-  runs : (m : ℕ → ℕ) (a : Address) (n : ℕ) (p : Place) → the.run walker m a n (record { levels = n; place = p }) ≡ record { levels = 0; place = run h m n (vaOf a) p }
-  unfolding the.run run stepAt
-  runs m a zero p = refl
-  runs m a (suc n) p = runs m a n (stepOf h m n (vaOf a) p)
-
-  -- THE MEANING of the walker is `walk`.
-  pub meaning-is-walk : (m : ℕ → ℕ) (a : Address) → meaning walker m a ≡ walk h m (rootOf a) (vaOf a)
-  unfolding walk
-  meaning-is-walk m a = ap (λ p. foundOf (p .place)) (runs m a 4 (start (rootOf a) (vaOf a)))
-
-  -- a walk that has ended gives what it found
-  pub ended-gives : (a : Address) (n : ℕ) (f : Found) → Gives walker a (record { levels = n; place = Ended f }) f
-  unfolding foundOf
-  ended-gives a n f m = ap (λ p. foundOf (p .place)) (runs m a n (Ended f)) ∙ ap foundOf (run-ended h m n (vaOf a) f)
-
--- The machine's marks, accessed and dirty, are marks of this world.
-pub marked-says : (v w : ℕ) → Marked v w → sayings v ≡ sayings w
-marked-says v w k = fun-ext (λ n. marks-say-nothing n v w k)
-
 -- One address space: an address is its number.
 abbrev pub oneSpace : (ℕ → Bool) → ℕ → Walker ℕ (ℕ → Entry) ℕ At Found
 oneSpace h root = walker h (λ va. root) (λ va. va)
-
-pub one-space-meaning : (h : ℕ → Bool) (root : ℕ) (m : ℕ → ℕ) (va : ℕ) → meaning (oneSpace h root) m va ≡ walk h m root va
-one-space-meaning h root = meaning-is-walk h (λ va. root) (λ va. va)

@@ -4,12 +4,14 @@ use mathlib.Core.List.{List, [], _∷_}
 use mathlib.Core.Logic.{_⊎_, inl, inr}
 use Prim.Native.Nat.{ℕ, zero, suc}
 use Rattle.word.specs.Memory.{set}
-use Rattle.world.specs.Events.{Event, write, mark, store, happen, after, mark-same}
+use Rattle.world.specs.Events.{Event, write, mark, store, happen, after}
+use Rattle.world.proofs.Events.{mark-same}
 use Rattle.world.specs.Walker.{Walker, cell, Reads, ReadsIn, Below, On, here, down}
-use Rattle.world.specs.Ways.{on-step, on-follows, on-same, on-write, below-reads}
+use Rattle.world.proofs.Ways.{on-step, on-follows, on-same, on-write, below-reads}
 use Rattle.world.specs.Discipline.{Grow, Safe}
 use Rattle.world.specs.Rules.{frozen}
-use Rattle.world.specs.Frozen.{SomeReads, frozen-keeps}
+use Rattle.world.specs.Frozen.{SomeReads}
+use Rattle.world.proofs.Frozen.{frozen-keeps}
 
 module _ {Word View Address Place Answer : Type 0} (W : Walker Word View Address Place Answer) where
   open Walker W using (see, start, left, reads, step, falls)

@@ -3,11 +3,13 @@
 use mathlib.Core.Path.{_≡_, sym, subst}
 use mathlib.Core.List.{List, _++_}
 use Prim.Native.Nat.{ℕ}
-use Rattle.world.specs.Events.{Event, All, all-front}
+use Rattle.world.specs.Events.{Event, All}
+use Rattle.world.proofs.Events.{all-front}
 use Rattle.world.specs.Walker.{Walker}
 use Rattle.world.specs.Discipline.{Safe}
-use Rattle.world.specs.Rules.{safe-first}
-use Rattle.world.specs.Marks.{writes, Fair, Agree, Inside, safe-beside}
+use Rattle.world.proofs.Rules.{safe-first}
+use Rattle.world.specs.Marks.{writes, Fair, Agree, Inside}
+use Rattle.world.proofs.Marks.{safe-beside}
 
 -- ws: what the code wrote; gs: what has reached memory; rest: what waits.
 module _ {Word View Address Place Answer : Type 0} (W : Walker Word View Address Place Answer) (Ours : ℕ → Type 0)

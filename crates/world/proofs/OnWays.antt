@@ -5,10 +5,12 @@ use mathlib.Core.Logic.{_⊎_, inl, inr}
 use Prim.Native.Nat.{ℕ, zero, suc}
 use Rattle.word.specs.Memory.{set}
 use Rattle.word.proofs.Set.{set-other}
-use Rattle.world.specs.Events.{Event, write, mark, store, happen, after, Among, among-map, All, all-first, all-moments, mark-same}
+use Rattle.world.specs.Events.{Event, write, mark, store, happen, after, Among, All}
+use Rattle.world.proofs.Events.{among-map, all-first, all-moments, mark-same}
 use Rattle.world.specs.Walker.{Walker, cell, Reads, ReadsIn, Below, On, here, down}
-use Rattle.world.specs.Ways.{follows-step, follows-agree, on-step, on-same, on-write, below-reads}
-use Rattle.world.specs.Held.{Holds, None, Can, Always, always-held}
+use Rattle.world.proofs.Ways.{follows-step, follows-agree, on-step, on-same, on-write, below-reads}
+use Rattle.world.specs.Held.{Holds, None, Can}
+use Rattle.world.proofs.Held.{Always, always-held}
 use Rattle.world.specs.Discipline.{Grow, Safe}
 
 module _ {Word View Address Place Answer : Type 0} (W : Walker Word View Address Place Answer) where

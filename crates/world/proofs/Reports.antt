@@ -3,11 +3,14 @@ use mathlib.Core.Path.{_≡_, refl, sym, _∙_, ap, subst}
 use mathlib.Core.List.{List, [], _∷_, _++_}
 use mathlib.Core.Logic.{_⊎_, inl, inr}
 use Prim.Native.Nat.{ℕ, zero, suc}
-use Rattle.world.specs.Events.{Event, happen, after, after-more, Among, among-map, among-append, among-split, among-last, All, among-all}
+use Rattle.world.specs.Events.{Event, happen, after, Among, All}
+use Rattle.world.proofs.Events.{after-more, among-map, among-append, among-split, among-last, among-all}
 use Rattle.world.specs.Walker.{Walker, finish, meaning, Gives, Reads, ReadsIn}
-use Rattle.world.specs.Ways.{follows-step}
-use Rattle.world.specs.Held.{Holds, still, starts, steps, shares, None, Can, Always, always-held}
-use Rattle.world.specs.Discipline.{Safe, interleaving, interleaving-had}
+use Rattle.world.proofs.Ways.{follows-step}
+use Rattle.world.specs.Held.{Holds, still, starts, steps, shares, None, Can}
+use Rattle.world.proofs.Held.{Always, always-held}
+use Rattle.world.specs.Discipline.{Safe}
+use Rattle.world.proofs.Discipline.{interleaving, interleaving-had}
 use Rattle.world.specs.Reports.{History, first, happens, begins, done, Period, fromNow, longer, eachLonger, oldest, younger, now, underway, next, last, Thawed, Caches, NoMore, Finishes, Since, Untold, Held, SafeIn, Keeps, OnWay, Tells, Meant, MeantLike, Fresh, Enough}
 use Rattle.world.proofs.Holding.{holds-more, can-holds, can-longer, can-on}
 use Rattle.world.proofs.OnWays.{was-on}

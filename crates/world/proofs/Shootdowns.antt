@@ -8,12 +8,12 @@ use native.Mathlib.Decide.{ℕ-discrete}
 use Rattle.word.specs.Memory.{set}
 use Rattle.world.specs.Events.{Event, write, happen, after, Among, All}
 use Rattle.world.specs.Walker.{meaning, run, Gives, Reads, ReadsIn, Below, BelowIn}
-use Rattle.world.specs.Ways.{nowhere-cell, below-reads}
+use Rattle.world.proofs.Ways.{nowhere-cell, below-reads}
 use Rattle.world.specs.Held.{None, still, starts, steps, Can}
 use Rattle.world.specs.Discipline.{Cuts, Grow, Safe}
 use Rattle.world.specs.Reports.{History, first, happens, begins, done, oldest, younger, eachLonger, now, underway, last, Thawed, Caches, Finishes, Held, Keeps, Tells, Enough}
-use Rattle.world.specs.Tiny.{Spot, entry, onward, next, tiny}
-use Rattle.world.specs.Sanity.{memory, same-cell, last-reads, last-below, root-free, root-only}
+use Rattle.world.proofs.Tiny.{Spot, entry, onward, next, tiny}
+use Rattle.world.proofs.Sanity.{memory, same-cell, last-reads, last-below, root-free, root-only}
 use Rattle.world.proofs.Reports.{answers-all, reaches-none}
 
 -- all that a walk has found may be kept, a table or a page

@@ -8,6 +8,4 @@ pub mod Marks
 pub mod Turns
 pub mod Reports
 pub mod OneChange
-pub mod Tiny
-pub mod Sanity
 pub mod Frozen

@@ -12,8 +12,9 @@ use Rattle.entry.specs.declared.Entry.the-variants.{Nothing, Page, Table}
 use Rattle.walk.specs.Walk.{indexOf}
 use Rattle.walk.proofs.Digits.{index-lt}
 use Rattle.tables.specs.Roles.{Setting, Role, foreign, free, aside, book, root, table, left, Live, entryAt, Home, Built, Holds, Filled}
-use Rattle.tables.specs.Near.{pick, pick-near, pick-index}
-use Rattle.tables.specs.Way.{Comes, begin, onto, comes-near, comes-left, one-way}
+use Rattle.tables.proofs.Near.{pick, pick-near, pick-index}
+use Rattle.tables.specs.Way.{Comes, begin, onto}
+use Rattle.tables.proofs.Way.{comes-near, comes-left, one-way}
 
 module _ {σ : Setting} {m : ℕ → ℕ} {role : ℕ → Role} (b : Built σ m role) where
   -- RESERVED BITS ARE 0: a word of a table that is present, bit 0, is never one at which a walk faults.

@@ -6,15 +6,18 @@ use Prim.Native.Nat.{ℕ, suc, _+_, _/_}
 use native.Mathlib.Omega.{arith}
 use native.Mathlib.Decide.{ℕ-discrete}
 use Rattle.word.specs.Memory.{set}
-use Rattle.world.specs.Events.{Event, write, mark, happen, after, Among, All}
-use Rattle.world.specs.Walker.{cell, meaning, run, Reads, ReadsIn, Below, BelowIn, Gives}
-use Rattle.world.specs.Ways.{nowhere-cell, rested-gives, below-reads}
+use Rattle.world.specs.Events.{Event, write, mark, happen, after, Among}
+use Rattle.world.specs.Walker.{cell, meaning, run, Reads, ReadsIn, Below, BelowIn}
+use Rattle.world.proofs.Ways.{nowhere-cell, rested-gives}
 use Rattle.world.specs.Held.{Can, None, still, starts, steps, shares}
-use Rattle.world.specs.Discipline.{Safe, Cuts, interleaving}
-use Rattle.world.specs.Turns.{Turn, tick, event, events, Idle, begun, places, each-walk}
+use Rattle.world.specs.Discipline.{Safe, Cuts}
+use Rattle.world.proofs.Discipline.{interleaving}
+use Rattle.world.specs.Turns.{Turn, tick, event, events, Idle, begun, places}
+use Rattle.world.proofs.Turns.{each-walk}
 use Rattle.world.specs.Reports.{Thawed}
-use Rattle.world.specs.OneChange.{OneChange, change-one, change-then-quiet, quiet-more, quiet-nil, unseen-same-meaning}
-use Rattle.world.specs.Tiny.{Spot, entry, onward, next, tiny}
+use Rattle.world.specs.OneChange.{OneChange}
+use Rattle.world.proofs.OneChange.{change-one, change-then-quiet, quiet-more, quiet-nil, unseen-same-meaning}
+use Rattle.world.proofs.Tiny.{entry, onward, next, tiny}
 
 -- a table at 2000, with page 5 for address 0 and page 6 for address 1
 abbrev pub memory : ℕ → ℕ

@@ -17,9 +17,10 @@ use Rattle.walk.specs.Walk.{indexOf, start, foundOf, walk}
 use Rattle.walk.proofs.Digits.{index-lt}
 use Rattle.walk.proofs.Frame.{Same, run-agrees}
 use Rattle.tables.specs.Roles.{Setting, Role, foreign, free, aside, book, root, table, left, Idle, Live, Built, Holds, Filled, Sound}
-use Rattle.tables.specs.Way.{Comes, begin, onto, comes-left}
+use Rattle.tables.specs.Way.{Comes, begin, onto}
+use Rattle.tables.proofs.Way.{comes-left}
 use Rattle.tables.specs.Meaning.{meaning}
-use Rattle.tables.specs.Reach.{walk-reads-tables}
+use Rattle.tables.proofs.Reach.{walk-reads-tables}
 
 -- what the words of all tables say is the same, at every level; a 0 stays 0, and what is as we write it stays so
 abbrev pub Alike : (ℕ → Role) → (m m' : ℕ → ℕ) → Type 0
