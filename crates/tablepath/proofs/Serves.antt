@@ -20,6 +20,7 @@ use Rattle.tables.specs.Discipline.{Aside, walkerOf}
 use Rattle.tables.proofs.Discipline.{unread}
 use Rattle.tables.proofs.Clearing.{Spare, book-spare, spare-untouched}
 use Rattle.tables.specs.Clearing.{eventsOf}
+use Rattle.tables.proofs.Walks.{laws-of}
 use Rattle.pool.specs.Book.{wordOf, bookOf, ticketOf, openedOf, dueOf}
 use Rattle.pool.specs.Booked.{settingOf, released, Numbered}
 use Rattle.pool.specs.Changes.{releaseWrites}
@@ -67,7 +68,7 @@ module _ (h : ℕ → Bool) (sp : Space) (n : ℕ) (m : ℕ → ℕ) (role : ℕ
   -- a call that is refused writes nothing
   none-served : Served h sp n m []
   unfolding after eventsOf All
-  none-served = record { role = role; whole = w; obeys = obeys-nil (walkerOf (settingOf h sp)) (From sp n m) m; ticket = u; built = (role, w .sound .built); earlier = λ p k e v. e }
+  none-served = record { role = role; whole = w; obeys = obeys-nil (walkerOf (settingOf h sp)) (laws-of (settingOf h sp)) (From sp n m) m; ticket = u; built = (role, w .sound .built); earlier = λ p k e v. e }
 
   map-served : (q : Asked) (x : Placed) → map.decideOf h m sp q ≡ x → Served h sp n m (map.didOf sp x)
   unfolding map.didOf
@@ -99,7 +100,7 @@ module _ (h : ℕ → Bool) (sp : Space) (n : ℕ) (m : ℕ → ℕ) (role : ℕ
   told-obeys : (t k : ℕ) → t ≤ n → ToldDone h sp m role t k
       → Obeys (walkerOf (settingOf h sp)) (From sp n m) m (eventsOf (releaseWrites sp (bookOf m sp) k)) (From sp n (after m (releaseWrites sp (bookOf m sp) k)))
   told-obeys t k v d =
-      obeys-from (walkerOf (settingOf h sp)) (eventsOf ws) (From sp n m) (From sp n (after m ws)) (Aside role) (Aside role) m (d .obeys)
+      obeys-from (walkerOf (settingOf h sp)) (laws-of (settingOf h sp)) (eventsOf ws) (From sp n m) (From sp n (after m ws)) (Aside role) (Aside role) m (d .obeys)
       (λ x f. numbered-aside (w .booked) (x / 512) (f .0) (f .2))
       (λ x f. (f .0, f .1, d .stays (x / 512) (f .0) (f .2) (omega (arith, f .1)) .1))
       (λ x e r. absurd (among-none (eventsOf ws) m (SomeReads (walkerOf (settingOf h sp)) x)

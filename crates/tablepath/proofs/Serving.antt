@@ -20,6 +20,7 @@ use Rattle.tables.specs.Clearing.{eventsOf}
 use Rattle.tables.proofs.Clearing.{events-after}
 use Rattle.tables.specs.Operation.{Moment, Changed}
 use Rattle.tables.proofs.Operation.{changed-unread}
+use Rattle.tables.proofs.Walks.{laws-of}
 use Rattle.pool.specs.Book.{bookOf, ticketOf}
 use Rattle.pool.specs.Booked.{settingOf, Booked, Numbered}
 use Rattle.pool.specs.declared.Space.{Space}
@@ -53,7 +54,7 @@ pub changed-serves : {h : ℕ → Bool} {sp : Space} {n : ℕ} {m : ℕ → ℕ}
 changed-serves {h} {sp} {n} {m} {role} {role'} {ws = ws} w u c w' k = record {
   role = role';
   whole = w';
-  obeys = obeys-from (walkerOf (settingOf h sp)) (eventsOf ws) (From sp n m) (From sp n (after m ws)) (Aside role) (Aside role') m (c .obeys)
+  obeys = obeys-from (walkerOf (settingOf h sp)) (laws-of (settingOf h sp)) (eventsOf ws) (From sp n m) (From sp n (after m ws)) (Aside role) (Aside role') m (c .obeys)
       (λ x f. numbered-aside (w .booked) (x / 512) (f .0) (f .2))
       (λ x f. (f .0, f .1, k .numbers (x / 512) (f .0) (f .2)))
       new;

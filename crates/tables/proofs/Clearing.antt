@@ -13,7 +13,7 @@ use Rattle.world.specs.Events as world
 use Rattle.world.proofs.Rules.{obeys-nil, obeys-append}
 use Rattle.world.specs.OneChange.{Quiet, SameMeaning}
 use Rattle.world.proofs.OneChange.{quiet-nil, quiet-more}
-use Rattle.tables.proofs.Walks.{one-space-meaning}
+use Rattle.tables.proofs.Walks.{one-space-meaning, laws-of}
 use Rattle.tables.specs.Roles.{Setting, Role, free, aside, book, left, Live, Built, Holds, Zero}
 use Rattle.tables.specs.Way.{Comes}
 use Rattle.tables.specs.Meaning.{meaning}
@@ -68,8 +68,8 @@ unfolding eventsOf after world.after world.happen world.All
 untouched-more {σ} {m} {role} p i v xs b u h rest = record {
   built = rest .built;
   same = λ va. rest .same va ∙ unseen b (at p i) v idle .same va;
-  quiet = quiet-more (walkerOf σ) (world.write (at p i) v) (eventsOf xs) m (same-meaning σ m (set m (at p i) v) (unseen b (at p i) v idle .same)) (rest .quiet);
-  obeys = obeys-append (walkerOf σ) (world.write (at p i) v ∷ []) (eventsOf xs) (Aside role) (Aside role) (Aside role) m
+  quiet = quiet-more (walkerOf σ) (laws-of σ) (world.write (at p i) v) (eventsOf xs) m (same-meaning σ m (set m (at p i) v) (unseen b (at p i) v idle .same)) (rest .quiet);
+  obeys = obeys-append (walkerOf σ) (laws-of σ) (world.write (at p i) v ∷ []) (eventsOf xs) (Aside role) (Aside role) (Aside role) m
       (unseen-obeys b (at p i) v idle (λ e. h .1 (ap role (sym page) ∙ e))) (rest .obeys);
   moments = (b, rest .moments);
   words = λ q l j n w. rest .words q l j n w ∙ unseen-word m role (at p i) v idle q l j n w;
@@ -88,8 +88,8 @@ unfolding eventsOf after world.All
 spare-untouched {σ} {role} [] {m} b none = record {
   built = b;
   same = λ va. refl;
-  quiet = quiet-nil (walkerOf σ) m;
-  obeys = obeys-nil (walkerOf σ) (Aside role) m;
+  quiet = quiet-nil (walkerOf σ) (laws-of σ) m;
+  obeys = obeys-nil (walkerOf σ) (laws-of σ) (Aside role) m;
   moments = b;
   words = λ q l i n u. refl;
   comes = λ va n t c. c;

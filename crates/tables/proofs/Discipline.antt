@@ -27,6 +27,7 @@ use Rattle.tables.specs.OneWrite.{Spot}
 use Rattle.tables.proofs.OneWrite.{at-page, nothing-plain}
 use Rattle.tables.proofs.Reach.{walk-reads-tables, reads-bare, way-comes}
 use Rattle.tables.specs.Discipline.{Aside, walkerOf, ObeysOf}
+use Rattle.tables.proofs.Walks.{laws-of}
 
 -- no walk reads word x
 abbrev pub Unread : Setting → ℕ → (ℕ → ℕ) → Type 0
@@ -73,22 +74,22 @@ module _ {σ : Setting} {m : ℕ → ℕ} {role : ℕ → Role} (b : Built σ m 
   -- A WRITE OVER NOTHING OR A PAGE cuts nothing: the edits 2, 3 and 4, and the link of 1.
   pub plain-obeys : {q l i : ℕ} → Spot role q l i → (v : ℕ) → Plain (entryAt m l q i) → ObeysOf σ role m (write (at q i) v ∷ []) role
   plain-obeys {q} {l} {i} s v was =
-      obeys-ends (walkerOf σ) (Aside role) (Aside role) m (at q i) v []
-      (λ va p o e x r. let g = goes-on s va p o e x r in was (g .child) (g .grants) (g .names)) (live-thawed s) (obeys-nil (walkerOf σ) (Aside role) (set m (at q i) v))
+      obeys-ends (walkerOf σ) (laws-of σ) (Aside role) (Aside role) m (at q i) v []
+      (λ va p o e x r. let g = goes-on s va p o e x r in was (g .child) (g .grants) (g .names)) (live-thawed s) (obeys-nil (walkerOf σ) (laws-of σ) (Aside role) (set m (at q i) v))
 
   -- 1. a free page becomes a table: no page is set aside by it, and none that was is touched
   pub link-obeys : {q l i : ℕ} → Spot role q l i → (v p : ℕ) → entryAt m l q i ≡ Nothing → role p ≡ free
       → ObeysOf σ role m (write (at q i) v ∷ []) (set role p (table l q i))
   link-obeys {q} {l} {i} s v p was new =
-      obeys-weaken (walkerOf σ) (write (at q i) v ∷ []) (Aside role) (Aside role) (Aside (set role p (table l q i))) (Aside role) m (λ x h. h)
+      obeys-weaken (walkerOf σ) (laws-of σ) (write (at q i) v ∷ []) (Aside role) (Aside role) (Aside (set role p (table l q i))) (Aside role) m (λ x h. h)
       (λ x h. set-other role p (table l q i) (x / 512) (λ e. let z : _≡_ {A = ℕ} 0 1 = cc in omega arith) ∙ h) (plain-obeys s v (nothing-plain was))
 
   -- 5. A TABLE THAT IS UNLINKED is set aside, and so what is cut off is frozen.
   pub unlink-obeys : {q l i : ℕ} → Spot role q l i → (v p : ℕ) → entryAt m l q i ≡ Table p everything → Bare m l p
       → ObeysOf σ role m (write (at q i) v ∷ []) (set role p unlinked)
   unlink-obeys {q} {l} {i} s v p was bare =
-      obeys-cuts (walkerOf σ) (Aside role) (Aside (set role p unlinked)) (Aside (set role p unlinked)) m (at q i) v [] more cut out
-      (obeys-nil (walkerOf σ) (Aside (set role p unlinked)) (set m (at q i) v))
+      obeys-cuts (walkerOf σ) (laws-of σ) (Aside role) (Aside (set role p unlinked)) (Aside (set role p unlinked)) m (at q i) v [] more cut out
+      (obeys-nil (walkerOf σ) (laws-of σ) (Aside (set role p unlinked)) (set m (at q i) v))
     where
       old : role p ≡ table l q i
       old = b .down q l i p everything (s .live) (s .fits) was .0
@@ -120,4 +121,4 @@ module _ {σ : Setting} {m : ℕ → ℕ} {role : ℕ → Role} (b : Built σ m 
 
   -- 6. A WRITE WHERE NO WALK COMES, and not aside.
   pub unseen-obeys : (a v : ℕ) → left (role (a / 512)) ≡ 0 → role (a / 512) ≢ aside → ObeysOf σ role m (write a v ∷ []) role
-  unseen-obeys a v n k = obeys-unseen (walkerOf σ) (Aside role) (Aside role) m a v [] (unread a n) k (obeys-nil (walkerOf σ) (Aside role) (set m a v))
+  unseen-obeys a v n k = obeys-unseen (walkerOf σ) (laws-of σ) (Aside role) (Aside role) m a v [] (unread a n) k (obeys-nil (walkerOf σ) (laws-of σ) (Aside role) (set m a v))

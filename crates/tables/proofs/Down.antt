@@ -33,6 +33,7 @@ use Rattle.tables.proofs.Clearing.{Spare, spare-untouched, untouched-ho
 use Rattle.tables.specs.Operation.{Changed}
 use Rattle.tables.proofs.Operation.{moments-start, moments-one, moments-spare, moments-then, after-then, after-write, quiet-then, obeys-then, change-now, quiet-one, obeys-one, change-write}
 use Rattle.tables.specs.Down.{Down}
+use Rattle.tables.proofs.Walks.{laws-of}
 
 -- It starts anywhere on the way of va.
 pub down-start : {σ : Setting} {m : ℕ → ℕ} {role : ℕ → Role} {va n t : ℕ} → Sound σ m role → Comes σ m va n t → Down σ m role va [] m role n t
@@ -43,8 +44,8 @@ down-start {σ} {m} {role} s c = record {
   comes = c;
   filled = λ p l q i h d. s .filled p l q i h;
   same = λ vb. refl;
-  quiet = quiet-nil (walkerOf σ) m;
-  obeys = obeys-nil (walkerOf σ) (Aside role) m;
+  quiet = quiet-nil (walkerOf σ) (laws-of σ) m;
+  obeys = obeys-nil (walkerOf σ) (laws-of σ) (Aside role) m;
   moments = moments-start (s .built);
   unused = λ p e. e;
 }

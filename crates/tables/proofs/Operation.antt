@@ -20,13 +20,14 @@ use Rattle.tables.proofs.Discipline.{Unread, unread}
 use Rattle.tables.specs.Clearing.{eventsOf}
 use Rattle.tables.proofs.Clearing.{events-append, events-after, same-meaning, Spare, Untouched, spare-untouched, untouched-holds}
 use Rattle.tables.specs.Operation.{Moment, Changed}
+use Rattle.tables.proofs.Walks.{laws-of}
 
 -- one write, as a list
 pub quiet-one : (σ : Setting) (m : ℕ → ℕ) (p i v : ℕ) → ((va : ℕ) → meaning σ (set m (at p i) v) va ≡ meaning σ m va)
     → Quiet (walkerOf σ) m (eventsOf (write p i v ∷ []))
 unfolding eventsOf world.happen
 quiet-one σ m p i v h =
-    quiet-more (walkerOf σ) (world.write (at p i) v) [] m (same-meaning σ m (set m (at p i) v) h) (quiet-nil (walkerOf σ) (set m (at p i) v))
+    quiet-more (walkerOf σ) (laws-of σ) (world.write (at p i) v) [] m (same-meaning σ m (set m (at p i) v) h) (quiet-nil (walkerOf σ) (laws-of σ) (set m (at p i) v))
 
 pub obeys-one : (σ : Setting) (m : ℕ → ℕ) (p i v : ℕ) (role role' : ℕ → Role) → ObeysOf σ role m (world.write (at p i) v ∷ []) role'
     → ObeysOf σ role m (eventsOf (write p i v ∷ [])) role'
@@ -35,7 +36,7 @@ obeys-one σ m p i v role role' o = o
 
 pub change-write : (σ : Setting) (m : ℕ → ℕ) (p i v : ℕ) → OneChange (walkerOf σ) m (eventsOf (write p i v ∷ []))
 unfolding eventsOf
-change-write σ m p i v = change-one (walkerOf σ) m (at p i) v
+change-write σ m p i v = change-one (walkerOf σ) (laws-of σ) m (at p i) v
 
 pub moments-start : {σ : Setting} {m : ℕ → ℕ} {role : ℕ → Role} → Built σ m role → world.All m (eventsOf []) (Moment σ role role)
 unfolding eventsOf world.All
@@ -68,24 +69,24 @@ module _ (σ : Setting) (m₀ m : ℕ → ℕ) (xs : List Write) (now : m ≡ af
   pub quiet-then : (ys : List Write) → Quiet (walkerOf σ) m₀ (eventsOf xs) → Quiet (walkerOf σ) m (eventsOf ys) → Quiet (walkerOf σ) m₀ (eventsOf (xs ++ ys))
   quiet-then ys p q =
       subst (Quiet (walkerOf σ) m₀) (sym (events-append xs ys))
-      (quiet-append (walkerOf σ) (eventsOf xs) (eventsOf ys) m₀ p (subst (λ x. Quiet (walkerOf σ) x (eventsOf ys)) now-events q))
+      (quiet-append (walkerOf σ) (laws-of σ) (eventsOf xs) (eventsOf ys) m₀ p (subst (λ x. Quiet (walkerOf σ) x (eventsOf ys)) now-events q))
 
   pub change-then : (ys : List Write) → OneChange (walkerOf σ) m₀ (eventsOf xs) → Quiet (walkerOf σ) m (eventsOf ys) → OneChange (walkerOf σ) m₀ (eventsOf (xs ++ ys))
   change-then ys p q =
       subst (OneChange (walkerOf σ) m₀) (sym (events-append xs ys))
-      (change-then-quiet (walkerOf σ) (eventsOf xs) (eventsOf ys) m₀ p (subst (λ x. Quiet (walkerOf σ) x (eventsOf ys)) now-events q))
+      (change-then-quiet (walkerOf σ) (laws-of σ) (eventsOf xs) (eventsOf ys) m₀ p (subst (λ x. Quiet (walkerOf σ) x (eventsOf ys)) now-events q))
 
   -- the write that changes the meaning, after writes that did not
   pub change-now : (p i v : ℕ) → Quiet (walkerOf σ) m₀ (eventsOf xs) → OneChange (walkerOf σ) m₀ (eventsOf (xs ++ (write p i v ∷ [])))
   change-now p i v q =
       subst (OneChange (walkerOf σ) m₀) (sym (events-append xs (write p i v ∷ [])))
-      (quiet-then-change (walkerOf σ) (eventsOf xs) (eventsOf (write p i v ∷ [])) m₀ q (change-write σ (world.after m₀ (eventsOf xs)) p i v))
+      (quiet-then-change (walkerOf σ) (laws-of σ) (eventsOf xs) (eventsOf (write p i v ∷ [])) m₀ q (change-write σ (world.after m₀ (eventsOf xs)) p i v))
 
   pub obeys-then : (ys : List Write) (role₀ role role' : ℕ → Role) → ObeysOf σ role₀ m₀ (eventsOf xs) role → ObeysOf σ role m (eventsOf ys) role'
       → ObeysOf σ role₀ m₀ (eventsOf (xs ++ ys)) role'
   obeys-then ys role₀ role role' p q =
       subst (λ es. ObeysOf σ role₀ m₀ es role') (sym (events-append xs ys))
-      (obeys-append (walkerOf σ) (eventsOf xs) (eventsOf ys) (Aside role₀) (Aside role) (Aside role') m₀ p
+      (obeys-append (walkerOf σ) (laws-of σ) (eventsOf xs) (eventsOf ys) (Aside role₀) (Aside role) (Aside role') m₀ p
       (subst (λ x. Obeys (walkerOf σ) (Aside role) x (eventsOf ys) (Aside role')) now-events q))
 
   -- Each page takes another role at most once.

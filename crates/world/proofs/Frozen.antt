@@ -4,7 +4,7 @@ use mathlib.Core.List.{List, [], _∷_}
 use mathlib.Core.Logic.{_⊎_, inl, inr}
 use Prim.Native.Nat.{ℕ}
 use Rattle.word.specs.Memory.{set}
-use Rattle.world.specs.Walker.{Walker}
+use Rattle.world.specs.Walker.{Walker, WalkerLaws}
 use Rattle.world.proofs.Ways.{below-read}
 use Rattle.world.specs.Events.{Event, write, mark, store, happen, Among, All}
 use Rattle.world.specs.Discipline.{Grow}
@@ -19,7 +19,7 @@ among-none [] m P a p = a p
 among-none (e ∷ es) m P a (inl p) = a .0 p
 among-none (e ∷ es) m P a (inr p) = among-none es (happen m e) P (a .1) p
 
-module _ {Word View Address Place Answer : Type 0} (W : Walker Word View Address Place Answer) where
+module _ {Word View Address Place Answer : Type 0} (W : Walker Word View Address Place Answer) (L : WalkerLaws W) where
   open Walker W using (start, left)
 
   pub frozen-keeps : (es : List (Event Word)) (F : ℕ → Type 0) (m : ℕ → Word) (x : ℕ) → F x → frozen W F m es x
@@ -39,7 +39,7 @@ module _ {Word View Address Place Answer : Type 0} (W : Walker Word View Address
     where
       go : Grow W F m a x ⊎ Among (set m a v) es (SomeReads W x) → F x ⊎ (SomeReads W x m ⊎ Among (set m a v) es (SomeReads W x))
       go (inl (inl g)) = inl g
-      go (inl (inr c)) = inr (inl (c .0, below-read W m (c .0) (left (start (c .0))) (start (c .0)) a x (c .1)))
+      go (inl (inr c)) = inr (inl (c .0, below-read W L m (c .0) (left (start (c .0))) (start (c .0)) a x (c .1)))
       go (inr g) = inr (inr g)
 
   -- FROM A SMALLER FROZEN SET: what was frozen and is not counted (not in F) must be read at no moment.
@@ -51,7 +51,7 @@ module _ {Word View Address Place Answer : Type 0} (W : Walker Word View Address
   }
     where
       less : Obeys W F m es G'
-      less = obeys-weaken W es F G G' G' m f (λ x g. g) o
+      less = obeys-weaken W L es F G G' G' m f (λ x g. g) o
 
       go : (x : ℕ) → frozen W F m es x → F x ⊎ Among m es (SomeReads W x) → F' x
       go x z (inl g) = k x g

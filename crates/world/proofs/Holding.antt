@@ -8,7 +8,7 @@ use Rattle.world.specs.Walker.{Walker, On, here, down}
 use Rattle.world.specs.Held.{Holds, still, starts, steps, shares, None, Can}
 
 module _ {Word View Address Place Answer : Type 0} (W : Walker Word View Address Place Answer) where
-  open Walker W using (start, left, step, Alike)
+  open Walker W using (start, step)
 
   pub holds-more : (m : ℕ → Word) (G H : Address → Place → Type 0) → ((va : Address) (p : Place) → G va p → H va p)
       → (va : Address) (p : Place) → Holds W m G va p → Holds W m H va p

@@ -9,7 +9,7 @@ use Rattle.word.specs.Memory.{set}
 use Rattle.word.proofs.Set.{set-at, set-other}
 use Rattle.world.specs.Events.{Event, write, mark, store, happen, after, All}
 use Rattle.world.proofs.Events.{all-first, mark-same}
-use Rattle.world.specs.Walker.{Walker}
+use Rattle.world.specs.Walker.{Walker, WalkerLaws}
 use Rattle.world.proofs.Ways.{below-read, follows-agree}
 use Rattle.world.specs.Discipline.{Grow, Safe}
 use Rattle.world.proofs.Rules.{grow-less}
@@ -17,7 +17,7 @@ use Rattle.world.specs.Rules.{frozen, Obeys}
 use Rattle.world.specs.Marks.{writes, Fair, Agree, Inside}
 
 -- Ours: the cells that other programs leave alone
-module _ {Word View Address Place Answer : Type 0} (W : Walker Word View Address Place Answer) (Ours : ℕ → Type 0) where
+module _ {Word View Address Place Answer : Type 0} (W : Walker Word View Address Place Answer) (L : WalkerLaws W) (Ours : ℕ → Type 0) where
   open Walker W using (see, start, left)
 
   -- In what follows m is the memory as the code's writes alone make it, and m' as it is.
@@ -36,7 +36,7 @@ module _ {Word View Address Place Answer : Type 0} (W : Walker Word View Address
 
   grow-ours : (G : ℕ → Type 0) (m : ℕ → Word) (a : ℕ) → ((x : ℕ) → G x → Ours x) → Inside W Ours m → (x : ℕ) → Grow W G m a x → Ours x
   grow-ours G m a g i x (inl k) = g x k
-  grow-ours G m a g i x (inr c) = i (c .0) x (below-read W m (c .0) (left (start (c .0))) (start (c .0)) a x (c .1))
+  grow-ours G m a g i x (inr c) = i (c .0) x (below-read W L m (c .0) (left (start (c .0))) (start (c .0)) a x (c .1))
 
   -- THE DISCIPLINE, with the others in between.
   pub safe-beside : (es : List (Event Word)) (F G : ℕ → Type 0) (m m' : ℕ → Word) → ((x : ℕ) → F x → G x) → ((x : ℕ) → G x → Ours x) → Agree W Ours m m' → Fair W Ours m' es
@@ -44,7 +44,7 @@ module _ {Word View Address Place Answer : Type 0} (W : Walker Word View Address
   unfolding Safe writes Fair All happen
   safe-beside [] F G m m' h o e f i s = tt
   safe-beside (write a v ∷ es) F G m m' h o e f i s =
-      let g = grow-less W F G m m' a h (λ va x r. e x (i .0 va x r)) in (
+      let g = grow-less W L F G m m' a h (λ va x r. e x (i .0 va x r)) in (
         λ p. s .0 (g a p),
         safe-beside es (Grow W F m' a) (Grow W G m a) (set m a v) (set m' a v) g (grow-ours G m a o (i .0)) (agree-write m m' a v e) f (i .1) (s .1),
       )
@@ -53,7 +53,7 @@ module _ {Word View Address Place Answer : Type 0} (W : Walker Word View Address
   safe-beside (store a v ∷ es) F G m m' h o e f i s =
       let first = all-first (writes es) m (Inside W Ours) i in (
         λ k. f .0 (o a (h a k)),
-        λ va r. f .0 (first va a (follows-agree W va m m' (start va) (λ x q. e x (first va x q)) .within a r)),
+        λ va r. f .0 (first va a (follows-agree W L va m m' (start va) (λ x q. e x (first va x q)) .within a r)),
         safe-beside es F G m (set m' a v) h o (agree-store m m' a v e (f .0)) (f .1) i s,
       )
 
@@ -62,7 +62,7 @@ module _ {Word View Address Place Answer : Type 0} (W : Walker Word View Address
   unfolding frozen writes Fair All happen
   frozen-beside [] F G m m' h e f i = h
   frozen-beside (write a v ∷ es) F G m m' h e f i =
-      frozen-beside es (Grow W F m' a) (Grow W G m a) (set m a v) (set m' a v) (grow-less W F G m m' a h (λ va x r. e x (i .0 va x r))) (agree-write m m' a v e) f (i .1)
+      frozen-beside es (Grow W F m' a) (Grow W G m a) (set m a v) (set m' a v) (grow-less W L F G m m' a h (λ va x r. e x (i .0 va x r))) (agree-write m m' a v e) f (i .1)
   frozen-beside (mark a v ∷ es) F G m m' h e f i = frozen-beside es F G m (set m' a v) h (agree-mark m m' a v e (f .0)) (f .1) i
   frozen-beside (store a v ∷ es) F G m m' h e f i = frozen-beside es F G m (set m' a v) h (agree-store m m' a v e (f .0)) (f .1) i
 

@@ -8,7 +8,7 @@ use Rattle.word.specs.Memory.{set}
 use Rattle.word.proofs.Set.{set-other}
 use Rattle.world.specs.Events.{Event, write, happen, after, All}
 use Rattle.world.proofs.Events.{after-append, all-map, all-both, all-last, all-append}
-use Rattle.world.specs.Walker.{Walker, meaning, Gives, Reads}
+use Rattle.world.specs.Walker.{Walker, WalkerLaws, meaning, Gives, Reads}
 use Rattle.world.proofs.Ways.{follows-agree}
 use Rattle.world.specs.Held.{None, Can, starts}
 use Rattle.world.proofs.Held.{Had}
@@ -22,20 +22,21 @@ use Rattle.world.proofs.Turns.{places-held}
 use Rattle.world.specs.OneChange.{SameMeaning, Quiet, OneChange}
 
 module _ {Word View Address Place Answer : Type 0} (W : Walker Word View Address Place Answer) where
-  open Walker W using (see, start)
-
   -- at a moment all is old, or all is new
   abbrev pub OldOrNew : (m m' : ℕ → Word) → (ℕ → Word) → Type 0
   OldOrNew m m' n = SameMeaning W m n ⊎ SameMeaning W m' n
 
+module _ {Word View Address Place Answer : Type 0} (W : Walker Word View Address Place Answer) (L : WalkerLaws W) where
+  open Walker W using (see, start)
+
   -- memories that show walks the same mean the same
   pub same-meaning : (m m' : ℕ → Word) → Shows W m m' → SameMeaning W m m'
-  same-meaning m m' e va = follows-agree W va m m' (start va) (e va) .comes
+  same-meaning m m' e va = follows-agree W L va m m' (start va) (e va) .comes
 
-  pub old-or-new : (es : List (Event Word)) (m : ℕ → Word) → OneChange W m es → All m es (OldOrNew m (after m es))
+  pub old-or-new : (es : List (Event Word)) (m : ℕ → Word) → OneChange W m es → All m es (OldOrNew W m (after m es))
   unfolding All after happen
   old-or-new es m c =
-      subst (λ l. All m l (OldOrNew m (after m es))) (sym (c .split))
+      subst (λ l. All m l (OldOrNew W m (after m es))) (sym (c .split))
       (all-append (c .front) (write (c .place) (c .word) ∷ c .back) m _ (all-map (c .front) m _ _ (λ n q. inl q) (c .old))
       (inl (all-last (c .front) m (SameMeaning W m) (c .old)), all-map (c .back) next _ _ (λ n q. inr (λ va. q va ∙ sym (end va))) (c .new)))
     where
@@ -48,14 +49,14 @@ module _ {Word View Address Place Answer : Type 0} (W : Walker Word View Address
 
   -- At every moment, with marks and others' stores in between, all is old or all is new.
   pub old-or-new-beside : (Ours : ℕ → Type 0) (es : List (Event Word)) (m m' : ℕ → Word) → Agree W Ours m m' → Fair W Ours m' es → All m (writes es) (Inside W Ours)
-      → OneChange W m (writes es) → All m' es (OldOrNew m (after m (writes es)))
+      → OneChange W m (writes es) → All m' es (OldOrNew W m (after m (writes es)))
   old-or-new-beside Ours es m m' e f i c =
-      all-beside W Ours es m m' (λ n. Inside W Ours n × OldOrNew m end n) (OldOrNew m end) blind e f (all-both (writes es) m _ _ i (old-or-new (writes es) m c))
+      all-beside W L Ours es m m' (λ n. Inside W Ours n × OldOrNew W m end n) (OldOrNew W m end) blind e f (all-both (writes es) m _ _ i (old-or-new (writes es) m c))
     where
       end : ℕ → Word
       end = after m (writes es)
 
-      blind : (n n' : ℕ → Word) → Agree W Ours n n' → Inside W Ours n × OldOrNew m end n → OldOrNew m end n'
+      blind : (n n' : ℕ → Word) → Agree W Ours n n' → Inside W Ours n × OldOrNew W m end n → OldOrNew W m end n'
       blind n n' a (j, inl q) = inl (λ vb. same-meaning n n' (λ vc x r. a x (j vc x r)) vb ∙ q vb)
       blind n n' a (j, inr q) = inr (λ vb. same-meaning n n' (λ vc x r. a x (j vc x r)) vb ∙ q vb)
 
@@ -69,24 +70,24 @@ module _ {Word View Address Place Answer : Type 0} (W : Walker Word View Address
       end : ℕ → Word
       end = after m (writes es)
 
-      t : Had W (OldOrNew m end) (after m es) va p
-      t = interleaving-had W es F m (obeys-beside W Ours es F G m m u (λ x k. refl) f i b .safe) (OldOrNew m end) (old-or-new-beside Ours es m m (λ x k. refl) f i c) va p h
+      t : Had W (OldOrNew W m end) (after m es) va p
+      t = interleaving-had W L es F m (obeys-beside W L Ours es F G m m u (λ x k. refl) f i b .safe) (OldOrNew W m end) (old-or-new-beside Ours es m m (λ x k. refl) f i c) va p h
 
       is : o ≡ meaning W (t .moment) va
       is = sym (g (after m es)) ∙ t .follows .comes
 
-      go : OldOrNew m end (t .moment) → (o ≡ meaning W m va) ⊎ (o ≡ meaning W (after m es) va)
+      go : OldOrNew W m end (t .moment) → (o ≡ meaning W m va) ⊎ (o ≡ meaning W (after m es) va)
       go (inl q) = inl (is ∙ q va)
       go (inr q) =
           let last = all-last (writes es) m (Inside W Ours) i in
-          inr (is ∙ q va ∙ sym (same-meaning end (after m es) (λ vb x r. agree-beside W Ours es m m (λ y k. refl) f x (last vb x r)) va))
+          inr (is ∙ q va ∙ sym (same-meaning end (after m es) (λ vb x r. agree-beside W L Ours es m m (λ y k. refl) f x (last vb x r)) va))
 
   -- The same for any number of walks in turn.
   pub one-change-each-walk : (Ours : ℕ → Type 0) (who : ℕ → Address) (ts : List (Turn Word)) (F G : ℕ → Type 0) (m : ℕ → Word) → ((x : ℕ) → F x → Ours x)
       → Fair W Ours m (events ts) → All m (writes (events ts)) (Inside W Ours) → Obeys W F m (writes (events ts)) G → OneChange W m (writes (events ts)) → (i : ℕ) (o : Answer) → Gives W (who i) (places W who m (begun W who) ts i) o
       → (o ≡ meaning W m (who i)) ⊎ (o ≡ meaning W (after m (events ts)) (who i))
   one-change-each-walk Ours who ts F G m u f j b c i o =
-      one-change Ours (events ts) F G m u f j b c (who i) (places W who m (begun W who) ts i) o (places-held W who ts m (None W) (begun W who) i starts)
+      one-change Ours (events ts) F G m u f j b c (who i) (places W who m (begun W who) ts i) o (places-held W L who ts m (None W) (begun W who) i starts)
 
   -- RULES. Quiet lists: none, one event more, one list after the other.
   pub quiet-nil : (m : ℕ → Word) → Quiet W m []
@@ -103,7 +104,7 @@ module _ {Word View Address Place Answer : Type 0} (W : Walker Word View Address
   -- a write of a cell that no walk reads changes no meaning
   pub unseen-same-meaning : (m : ℕ → Word) (a : ℕ) (v : Word) → ((va : Address) → ¬ Reads W m va (start va) a) → SameMeaning W m (set m a v)
   unseen-same-meaning m a v u va =
-      follows-agree W va m (set m a v) (start va) (λ x r. ap see (set-other m a v x (λ e. u va (subst (Reads W m va (start va)) (sym e) r)))) .comes
+      follows-agree W L va m (set m a v) (start va) (λ x r. ap see (set-other m a v x (λ e. u va (subst (Reads W m va (start va)) (sym e) r)))) .comes
 
   -- One write; a quiet list before; a quiet list behind.
   pub change-one : (m : ℕ → Word) (a : ℕ) (v : Word) → OneChange W m (write a v ∷ [])

@@ -5,22 +5,25 @@ use mathlib.Core.Logic.{inl, inr}
 use Prim.Native.Nat.{ℕ}
 use Rattle.word.specs.Memory.{set}
 use Rattle.world.specs.Events.{Event, write, mark, store, happen, after}
-use Rattle.world.specs.Walker.{Walker, cell, Reads, On}
+use Rattle.world.specs.Walker.{Walker, WalkerLaws, cell, Reads, On}
 use Rattle.world.proofs.Ways.{below-agree, below-reads, below-parting}
 use Rattle.world.specs.Discipline.{Cuts, Grow, Safe}
 use Rattle.world.specs.Rules.{frozen, Obeys}
 
 module _ {Word View Address Place Answer : Type 0} (W : Walker Word View Address Place Answer) where
-  open Walker W using (see, start, left, reads, step)
+  open Walker W using (see, start)
 
   -- the two memories show the same where walks read
   abbrev pub Shows : (m m' : ℕ → Word) → Type 0
   Shows m m' = (va : Address) (x : ℕ) → Reads W m va (start va) x → see (m' x) ≡ see (m x)
 
+module _ {Word View Address Place Answer : Type 0} (W : Walker Word View Address Place Answer) (L : WalkerLaws W) where
+  open Walker W using (start, left, reads, step)
+
   -- Fewer frozen cells, in a memory that shows the same, are fewer after a write.
-  pub grow-less : (F G : ℕ → Type 0) (m m' : ℕ → Word) (a : ℕ) → ((x : ℕ) → F x → G x) → Shows m m' → (x : ℕ) → Grow W F m' a x → Grow W G m a x
+  pub grow-less : (F G : ℕ → Type 0) (m m' : ℕ → Word) (a : ℕ) → ((x : ℕ) → F x → G x) → Shows W m m' → (x : ℕ) → Grow W F m' a x → Grow W G m a x
   grow-less F G m m' a h s x (inl f) = inl (h x f)
-  grow-less F G m m' a h s x (inr c) = inr (c .0, below-agree W m m' (c .0) (left (start (c .0))) (start (c .0)) (s (c .0)) a x (c .1))
+  grow-less F G m m' a h s x (inr c) = inr (c .0, below-agree W L m m' (c .0) (left (start (c .0))) (start (c .0)) (s (c .0)) a x (c .1))
 
   pub safe-less : (es : List (Event Word)) (F G : ℕ → Type 0) (m : ℕ → Word) → ((x : ℕ) → F x → G x) → Safe W G m es → Safe W F m es
   unfolding Safe
@@ -67,7 +70,7 @@ module _ {Word View Address Place Answer : Type 0} (W : Walker Word View Address
       → ¬ G a → Obeys W G (set m a v) es K → Obeys W F m (write a v ∷ es) K
   obeys-cuts F G K m a v es f c n o =
       obeys-write F G K m a v es f
-      (λ x d. let t = below-parting W m (d .0) (start (d .0)) a x (d .1) in c (d .0) (t .place) (t .on) (t .reads-it) x (t .reads-on)) n o
+      (λ x d. let t = below-parting W L m (d .0) (start (d .0)) a x (d .1) in c (d .0) (t .place) (t .on) (t .reads-it) x (t .reads-on)) n o
 
   -- A write that cuts nothing: each walk that reads the cell reads nothing from there on.
   pub obeys-ends : (F K : ℕ → Type 0) (m : ℕ → Word) (a : ℕ) (v : Word) (es : List (Event Word))
@@ -79,7 +82,7 @@ module _ {Word View Address Place Answer : Type 0} (W : Walker Word View Address
   pub obeys-unseen : (F K : ℕ → Type 0) (m : ℕ → Word) (a : ℕ) (v : Word) (es : List (Event Word))
       → ((va : Address) → ¬ Reads W m va (start va) a) → ¬ F a → Obeys W F (set m a v) es K → Obeys W F m (write a v ∷ es) K
   obeys-unseen F K m a v es u =
-      obeys-write F F K m a v es (λ x p. p) (λ x d. absurd (u (d .0) (below-reads W m (d .0) (left (start (d .0))) (start (d .0)) a x (d .1))))
+      obeys-write F F K m a v es (λ x p. p) (λ x d. absurd (u (d .0) (below-reads W L m (d .0) (left (start (d .0))) (start (d .0)) a x (d .1))))
 
   safe-append : (es fs : List (Event Word)) (F : ℕ → Type 0) (m : ℕ → Word) → Safe W F m es → Safe W (frozen W F m es) (after m es) fs → Safe W F m (es ++ fs)
   unfolding Safe frozen after happen

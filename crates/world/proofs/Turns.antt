@@ -6,7 +6,7 @@ use native.Mathlib.Decide.{ℕ-discrete}
 use Rattle.word.specs.Memory.{set}
 use Rattle.word.proofs.Set.{set-same, set-other}
 use Rattle.world.specs.Events.{happen, after, Among}
-use Rattle.world.specs.Walker.{Walker, meaning, Gives}
+use Rattle.world.specs.Walker.{Walker, WalkerLaws, meaning, Gives}
 use Rattle.world.specs.Held.{Holds, still, starts, steps, None, Can}
 use Rattle.world.specs.Discipline.{Safe}
 use Rattle.world.proofs.Discipline.{interleaving}
@@ -20,8 +20,8 @@ events-append [] us = refl
 events-append (tick i ∷ ts) us = events-append ts us
 events-append (event e ∷ ts) us = ap (_∷_ e) (events-append ts us)
 
-module _ {Word View Address Place Answer : Type 0} (W : Walker Word View Address Place Answer) (who : ℕ → Address) where
-  open Walker W using (start, step)
+module _ {Word View Address Place Answer : Type 0} (W : Walker Word View Address Place Answer) (L : WalkerLaws W) (who : ℕ → Address) where
+  open Walker W using (step)
 
   places-append : (ts us : List (Turn Word)) (m : ℕ → Word) (ps : ℕ → Place)
       → places W who m ps (ts ++ us) ≡ places W who (after m (events ts)) (places W who m ps ts) us
@@ -53,7 +53,7 @@ module _ {Word View Address Place Answer : Type 0} (W : Walker Word View Address
   pub each-walk : (earlier during later : List (Turn Word)) (F : ℕ → Type 0) (m : ℕ → Word) → Safe W F m (events (earlier ++ (during ++ later)))
       → (i : ℕ) → Idle i earlier → Idle i later → (o : Answer) → Gives W (who i) (places W who m (begun W who) (earlier ++ (during ++ later)) i) o
       → Among (after m (events earlier)) (events during) (λ m'. meaning W m' (who i) ≡ o)
-  each-walk earlier during later F m s i d d' o g = interleaving W (events during) (frozen W F m (events earlier)) now safe (who i) (places W who now ps during i) o held (rw place at g)
+  each-walk earlier during later F m s i d d' o g = interleaving W L (events during) (frozen W F m (events earlier)) now safe (who i) (places W who now ps during i) o held (rw place at g)
     where
       now : ℕ → Word
       now = after m (events earlier)
@@ -62,9 +62,9 @@ module _ {Word View Address Place Answer : Type 0} (W : Walker Word View Address
       ps = places W who m (begun W who) earlier
 
       safe : Safe W (frozen W F m (events earlier)) now (events during)
-      safe = safe-first W (events during) (events later) _ now
+      safe = safe-first W L (events during) (events later) _ now
           (subst (Safe W (frozen W F m (events earlier)) now) (events-append during later)
-          (safe-rest W (events earlier) (events (during ++ later)) F m (subst (Safe W F m) (events-append earlier (during ++ later)) s)))
+          (safe-rest W L (events earlier) (events (during ++ later)) F m (subst (Safe W F m) (events-append earlier (during ++ later)) s)))
 
       place : places W who m (begun W who) (earlier ++ (during ++ later)) i ≡ places W who now ps during i
       place = ap (λ f. f i) (places-append earlier (during ++ later) m (begun W who) ∙ places-append during later now ps) ∙ places-idle later _ (places W who now ps during) i d'

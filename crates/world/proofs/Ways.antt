@@ -6,7 +6,7 @@ use native.Mathlib.Omega.{arith}
 use native.Mathlib.Decide.{ℕ-discrete}
 use Rattle.word.specs.Memory.{set}
 use Rattle.word.proofs.Set.{set-other}
-use Rattle.world.specs.Walker.{Next, nowhere, cell, Walker, run, Gives, ReadsIn, Reads, BelowIn, Below, On, here, down, Same}
+use Rattle.world.specs.Walker.{Next, nowhere, cell, Walker, WalkerLaws, run, Gives, ReadsIn, Reads, BelowIn, Below, On, here, down, Same}
 use Rattle.world.specs.Ways.{Follows}
 
 pub nowhere-cell : (a : ℕ) → ¬ (nowhere ≡ cell a)
@@ -17,7 +17,18 @@ reads-cell nowhere a = no (nowhere-cell a)
 reads-cell (cell c) a = elim (ℕ-discrete c a) [ yes e ↦ yes (ap cell e) | no n ↦ no (λ e. n (cc)) ]
 
 module _ {Word View Address Place Answer : Type 0} (W : Walker Word View Address Place Answer) where
-  open Walker W using (see, left, reads, step, answer, local, falls, rests)
+  open Walker W using (reads, step)
+
+  -- It comes to a place where it reads a, and reads x from there on.
+  pub record Parting (m : ℕ → Word) (va : Address) (p : Place) (a x : ℕ) : Type 0 where
+    pub place : Place
+    pub on : On W m va place p
+    pub reads-it : reads va place ≡ cell a
+    pub reads-on : Reads W m va (step m va place) x
+
+module _ {Word View Address Place Answer : Type 0} (W : Walker Word View Address Place Answer) (L : WalkerLaws W) where
+  open Walker W using (see, left, reads, step, answer)
+  open WalkerLaws L using (local, falls, rests)
 
   -- a walk that has no step left gives its answer
   pub rested-gives : (va : Address) (p : Place) → left p ≡ 0 → Gives W va p (answer p)
@@ -129,21 +140,14 @@ module _ {Word View Address Place Answer : Type 0} (W : Walker Word View Address
   below-read m va (suc k) p a x (inl b) = inr (b .1)
   below-read m va (suc k) p a x (inr b) = inr (below-read m va k (step m va p) a x b)
 
-  -- It comes to a place where it reads a, and reads x from there on.
-  pub record Parting (m : ℕ → Word) (va : Address) (p : Place) (a x : ℕ) : Type 0 where
-    pub place : Place
-    pub on : On W m va place p
-    pub reads-it : reads va place ≡ cell a
-    pub reads-on : Reads W m va (step m va place) x
-
-  pub below-parting : (m : ℕ → Word) (va : Address) (p : Place) (a x : ℕ) → Below W m va p a x → Parting m va p a x
+  pub below-parting : (m : ℕ → Word) (va : Address) (p : Place) (a x : ℕ) → Below W m va p a x → Parting W m va p a x
   unfolding BelowIn
   below-parting m va p a x = go (left p) p refl
     where
-      further : (p : Place) → Parting m va (step m va p) a x → Parting m va p a x
+      further : (p : Place) → Parting W m va (step m va p) a x → Parting W m va p a x
       further p t = record { place = t .place; on = down (t .on); reads-it = t .reads-it; reads-on = t .reads-on }
 
-      go : (k : ℕ) (p : Place) → left p ≡ k → BelowIn W m va k p a x → Parting m va p a x
+      go : (k : ℕ) (p : Place) → left p ≡ k → BelowIn W m va k p a x → Parting W m va p a x
       go zero p e b = absurd b
       go (suc k) p e (inl b) = record {
         place = p;

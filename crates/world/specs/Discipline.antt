@@ -9,7 +9,7 @@ use Rattle.world.specs.Events.{Event, write, mark, store}
 use Rattle.world.specs.Walker.{Walker, Reads, Below}
 
 module _ {Word View Address Place Answer : Type 0} (W : Walker Word View Address Place Answer) where
-  open Walker W using (see, start, left, step, alike-refl)
+  open Walker W using (see, start)
 
   -- Some walk reads x, and the cell a before it: a write of a may cut x off.
   abbrev pub Cuts : (ℕ → Word) → ℕ → ℕ → Type 0

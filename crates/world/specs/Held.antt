@@ -8,7 +8,7 @@ use Rattle.world.specs.Walker.{Walker}
 use Rattle.world.specs.Ways.{Follows}
 
 module _ {Word View Address Place Answer : Type 0} (W : Walker Word View Address Place Answer) where
-  open Walker W using (start, left, step, Alike, falls, rests, alike-refl, alike-trans, alike-up, alike-start, alike-step)
+  open Walker W using (start, left, step, Alike)
 
   -- WHAT MAY BE HELD in the memory m, by a walk on its way or in a cache, of what was held before (H): it is held on, or dropped; a walk
   -- starts; a step is taken; and what is held for one address serves every address with the prefix that the walk has used so far.

@@ -16,7 +16,7 @@ writes (store a v ∷ es) = writes es
 
 -- Ours: the cells that other programs leave alone
 module _ {Word View Address Place Answer : Type 0} (W : Walker Word View Address Place Answer) (Ours : ℕ → Type 0) where
-  open Walker W using (see, start, left)
+  open Walker W using (see, start)
 
   -- THE OTHERS' PART: each mark shows what was there, and each store is of a cell that is not ours
   unfoldable pub Fair : (ℕ → Word) → List (Event Word) → Type 0

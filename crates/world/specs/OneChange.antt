@@ -8,8 +8,6 @@ use Rattle.world.specs.Events.{Event, write, after, All}
 use Rattle.world.specs.Walker.{Walker, meaning}
 
 module _ {Word View Address Place Answer : Type 0} (W : Walker Word View Address Place Answer) where
-  open Walker W using (see, start)
-
   -- every address means in m' what it means in m
   abbrev pub SameMeaning : (ℕ → Word) → (ℕ → Word) → Type 0
   SameMeaning m m' = (va : Address) → meaning W m' va ≡ meaning W m va

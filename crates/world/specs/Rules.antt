@@ -7,8 +7,6 @@ use Rattle.world.specs.Walker.{Walker}
 use Rattle.world.specs.Discipline.{Grow, Safe}
 
 module _ {Word View Address Place Answer : Type 0} (W : Walker Word View Address Place Answer) where
-  open Walker W using (see, start, left, reads, step)
-
   -- the frozen cells at the end
   unfoldable pub frozen : (ℕ → Type 0) → (ℕ → Word) → List (Event Word) → ℕ → Type 0
   frozen F m [] = F

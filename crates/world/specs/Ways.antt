@@ -4,8 +4,6 @@ use Prim.Native.Nat.{ℕ}
 use Rattle.world.specs.Walker.{Walker, finish, Reads}
 
 module _ {Word View Address Place Answer : Type 0} (W : Walker Word View Address Place Answer) where
-  open Walker W using (see, left, reads, step, answer, local, falls, rests)
-
   -- From p in m a walk comes to what it comes to from q in m', and it reads no other cells.
   pub record Follows (va : Address) (m : ℕ → Word) (p : Place) (m' : ℕ → Word) (q : Place) : Type 0 where
     pub comes : finish W m va p ≡ finish W m' va q
