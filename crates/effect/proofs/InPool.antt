@@ -5,8 +5,8 @@ use mathlib.Core.List.{List}
 use mathlib.Core.Path.{_≡_, refl, subst}
 use native.Mathlib.Omega.{arith}
 use Rattle.word.specs.Memory.{holds}
-use Rattle.word.specs.Writes.{Write}
-use Rattle.word.proofs.Writes.{Every, every-one, every-map}
+use Rattle.word.specs.Writes.{Write, Every}
+use Rattle.word.proofs.Writes.{every-one, every-map}
 use Rattle.entry.specs.Words.{withRights}
 use Rattle.entry.specs.declared.Rights.{Rights}
 use Rattle.walk.specs.Walk.{indexOf}

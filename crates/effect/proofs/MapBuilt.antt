@@ -7,8 +7,8 @@ use mathlib.Core.Path.{_≡_, refl, sym, ap, _∙_, subst}
 use native.Mathlib.Omega.{arith}
 use borrow.Author.Tests.{leb-true, leb-false}
 use lib.Dec.{leb}
-use Rattle.word.specs.Writes.{Write, write, after}
-use Rattle.word.proofs.Writes.{Every, every-one, every-append, every-map}
+use Rattle.word.specs.Writes.{Write, write, after, Every}
+use Rattle.word.proofs.Writes.{every-one, every-append, every-map}
 use Rattle.entry.specs.Entry.{sizeOf, says}
 use Rattle.entry.specs.Clean.{Clean}
 use Rattle.entry.specs.Words.{largeFlag, pageWord}

@@ -9,8 +9,8 @@ use native.Mathlib.Omega.{arith}
 use borrow.Author.Tests.{lt-ltb, le-leb, lt-leb}
 use lib.Dec.{leb}
 use Rattle.word.specs.Memory.{at, set}
-use Rattle.word.specs.Writes.{Write, write, after, zeros}
-use Rattle.word.proofs.Writes.{Every, none, every-one, every-append, every-zeros}
+use Rattle.word.specs.Writes.{Write, write, after, zeros, Every, none}
+use Rattle.word.proofs.Writes.{every-one, every-append, every-zeros}
 use Rattle.entry.specs.Words.{tableWord}
 use Rattle.entry.specs.declared.Entry.the-variants.{Nothing}
 use Rattle.entry.proofs.Written.{table-word-says}

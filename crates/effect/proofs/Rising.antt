@@ -7,8 +7,8 @@ use mathlib.Core.Path.{_≡_, sym, ap, _∙_, subst, subst₂}
 use native.Mathlib.Decide.{ℕ-discrete}
 use native.Mathlib.Omega.{arith}
 use Rattle.word.specs.Memory.{set}
-use Rattle.word.specs.Writes.{Write, write, after}
-use Rattle.word.proofs.Writes.{Every, every-one, every-append}
+use Rattle.word.specs.Writes.{Write, write, after, Every}
+use Rattle.word.proofs.Writes.{every-one, every-append}
 use Rattle.word.proofs.Set.{set-at, set-other}
 use Rattle.entry.specs.Entry.{everything}
 use Rattle.walk.specs.Walk.{indexOf}

@@ -4,8 +4,7 @@ use mathlib.Core.Bool.{Bool}
 use mathlib.Core.List.{List}
 use mathlib.Core.Path.{_≡_, sym, ap, _∙_}
 use native.Mathlib.Omega.{arith}
-use Rattle.word.specs.Writes.{Write, after}
-use Rattle.word.proofs.Writes.{Every}
+use Rattle.word.specs.Writes.{Write, after, Every}
 use Rattle.tables.specs.Roles.{Role, left, Sound}
 use Rattle.tables.proofs.Clearing.{Untouched, spare-untouched, untouched-holds}
 use Rattle.tables.proofs.Unseen.{shift-sound}

@@ -6,8 +6,8 @@ use mathlib.Core.Logic.{_⊎_, inl, inr, _≢_}
 use mathlib.Core.Path.{_≡_, refl, sym, ap, _∙_, subst}
 use native.Mathlib.Decide.{decLe, decLt}
 use native.Mathlib.Omega.{arith}
-use Rattle.word.specs.Writes.{Write, after}
-use Rattle.word.proofs.Writes.{Every, every-map}
+use Rattle.word.specs.Writes.{Write, after, Every}
+use Rattle.word.proofs.Writes.{every-map}
 use Rattle.entry.specs.declared.Rights.{Rights}
 use Rattle.world.specs.Events.{Among, All}
 use Rattle.world.proofs.Events.{all-map}

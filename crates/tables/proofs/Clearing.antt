@@ -6,8 +6,8 @@ use mathlib.Core.Logic.{_≢_}
 use mathlib.Core.Path.{_≡_, refl, sym, ap, _∙_}
 use native.Mathlib.Omega.{arith}
 use Rattle.word.specs.Memory.{set, at}
-use Rattle.word.specs.Writes.{Write, write, after, zeros}
-use Rattle.word.proofs.Writes.{Every, none, more, every-zeros, after-zeros, page-of}
+use Rattle.word.specs.Writes.{Write, write, after, zeros, Every, none, more}
+use Rattle.word.proofs.Writes.{every-zeros, after-zeros, page-of}
 use Rattle.entry.specs.Entry.{says}
 use Rattle.world.specs.Events as world
 use Rattle.world.proofs.Rules.{obeys-nil, obeys-append}

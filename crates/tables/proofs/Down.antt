@@ -7,8 +7,7 @@ use mathlib.Core.Path.{_≡_, refl, sym, ap, _∙_, subst, subst₂}
 use native.Mathlib.Decide.{ℕ-discrete}
 use native.Mathlib.Omega.{arith}
 use Rattle.word.specs.Memory.{set, at}
-use Rattle.word.specs.Writes.{Write, write, after, zeros}
-use Rattle.word.proofs.Writes.{Every}
+use Rattle.word.specs.Writes.{Write, write, after, zeros, Every}
 use Rattle.word.proofs.Set.{set-at, set-same, set-other}
 use Rattle.entry.specs.Entry.{sizeOf, says, everything}
 use Rattle.entry.specs.Clean.{Clean}

@@ -4,8 +4,8 @@ use mathlib.Core.Logic.{_⊎_, inl, inr}
 use mathlib.Core.List.{List, [], _∷_, _++_}
 use mathlib.Core.Path.{_≡_, refl, sym, ap, _∙_, subst}
 use Rattle.word.specs.Memory.{set, at}
-use Rattle.word.specs.Writes.{Write, write, after}
-use Rattle.word.proofs.Writes.{Every, after-append}
+use Rattle.word.specs.Writes.{Write, write, after, Every}
+use Rattle.word.proofs.Writes.{after-append}
 use Rattle.walk.specs.declared.Found.{Found}
 use Rattle.world.specs.Events as world
 use Rattle.world.proofs.Events as world-laws
