@@ -43,7 +43,7 @@ use Rattle.tablepath.specs.Calls.{Call, callWrites}
 use Rattle.tablepath.specs.Calls as calls
 use Rattle.tablepath.specs.Handles.{Refuses, Rejected, NamedNot, RefusedFor, BookAt, Disjoint}
 use Rattle.tablepath.proofs.InPool.{call-in-pool}
-use Rattle.tablepath.proofs.Wholes.{WholeBytes}
+use Rattle.tablepath.specs.Looks.{WholeBytes}
 
 -- A space that no book names --------------------------------------------------------------------------------------------------------
 

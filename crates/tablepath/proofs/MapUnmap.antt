@@ -28,8 +28,9 @@ use Rattle.tablepath.specs.Calls.{callWrites}
 use Rattle.tablepath.specs.declared.Mapped.the-variants as mapped
 use Rattle.tablepath.specs.declared.Unmapped.the-variants as unmapped
 use Rattle.tablepath.specs.declared.Gone.{Gone}
-use Rattle.tablepath.proofs.RoundTrips.{lookUp, In, Swapped, withPage, look-up-after-map, look-up-beside-map, look-up-after-unmap}
-use Rattle.tablepath.proofs.Wholes.{WholeBytes, call-kept}
+use Rattle.tablepath.specs.Looks.{lookUp, In, Swapped, WholeBytes}
+use Rattle.tablepath.proofs.RoundTrips.{withPage, look-up-after-map, look-up-beside-map, look-up-after-unmap}
+use Rattle.tablepath.proofs.Wholes.{call-kept}
 
 module _ (s : List ℕ) (sp : Space) (role : ℕ → Role) (w : WholeBytes s sp role) (q : Asked) (k : ℕ)
     (done : mapAnswer (holds s (sp .origin)) (memory s (sp .origin)) sp q ≡ mapped.Done k) where

@@ -39,7 +39,8 @@ use Rattle.effect.specs.MapRefused.{Cause, no-size, base-unaligned, frame-unali
 use Rattle.effect.proofs.Wholes.{owned}
 use Rattle.effect.proofs.MapDone.{mapped-inside}
 use Rattle.effect.proofs.MapRefused.{map-succeeds}
-use Rattle.tablepath.proofs.Wholes.{WholeBytes, create-whole}
+use Rattle.tablepath.specs.Looks.{WholeBytes}
+use Rattle.tablepath.proofs.Wholes.{create-whole}
 
 -- a new pool has no role but these
 new-roles : (sp : Space) (p : ℕ) (P : Role → Type 0) → P foreign → P book → P root → P free → P (newRole sp p)

@@ -6,3 +6,4 @@ pub mod Nights
 pub mod Gone
 pub mod Shown
 pub mod Handles
+pub mod Looks

@@ -210,3 +210,7 @@ pub record RefusalLeaves (s : List ℕ) : Type 0 where
       → carried s (sp .origin) (protectWrites (holds s (sp .origin)) (memory s (sp .origin)) sp va r) ≡ s
   pub told : (sp : Space) (t : ℕ) → Declined (toldAnswer (holds s (sp .origin)) (memory s (sp .origin)) sp t)
       → carried s (sp .origin) (toldWrites (holds s (sp .origin)) (memory s (sp .origin)) sp t) ≡ s
+
+-- the report of the ticket t is done, and releases n pages or more
+abbrev pub Reports : (ℕ → Bool) → (ℕ → ℕ) → Space → ℕ → ℕ → Type 0
+Reports h m sp t n = (k : ℕ) × (toldAnswer h m sp t ≡ told.Released k) × (n ≤ k)
