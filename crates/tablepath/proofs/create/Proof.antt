@@ -1,4 +1,5 @@
 use Rattle.word.proofs.Budget.{wrote-all}
+use Rattle.tablepath.proofs.SaysCreate.{create-says}
 use borrow.Author.Needs.{needs}
 use Rattle.tablepath.proofs.create.Statement.{statement}
 use Rattle.tablepath.proofs.create.Tie as tie
@@ -6,17 +7,17 @@ use Rattle.tablepath.proofs.create.Reads as reads
 use Rattle.tablepath.proofs.create.Lts as lts
 use Rattle.tablepath.proofs.create_up_to.Reads as create-up-to-reads
 
--- src/lib.rt:77:5
 create-up-to-requires : tie.Need-create-up-to-requires
 create-up-to-requires c κs = search needs
 
--- src/lib.rt:72:1
 same-length : tie.Need-same-length
 same-length c = search needs
 
--- src/lib.rt:72:1
 returns : tie.Need-returns
-returns c = (c .before .before .create-up-to .ensures .0, wrote-all _ _ _ _ _ (c .before .before .create-up-to .ensures .1))
+returns c =
+    let answer = c .before .before .create-up-to .ensures .0 in
+    let bytes = wrote-all _ _ _ _ _ (c .before .before .create-up-to .ensures .1) in
+    (answer, (bytes, rw (answer, bytes) (create-says _ _ _ _)))
 
 pub create-spec : {M : Type 1} → statement M
 create-spec = tie.close (tie.spec create-up-to-requires same-length returns)

@@ -1,4 +1,5 @@
 use Rattle.word.proofs.Budget.{wrote-all}
+use Rattle.tablepath.proofs.Means.{map-means}
 use borrow.Author.Needs.{needs}
 use Rattle.tablepath.proofs.map.Statement.{statement}
 use Rattle.tablepath.proofs.map.Tie as tie
@@ -6,17 +7,17 @@ use Rattle.tablepath.proofs.map.Reads as reads
 use Rattle.tablepath.proofs.map.Lts as lts
 use Rattle.tablepath.proofs.map_up_to.Reads as map-up-to-reads
 
--- src/lib.rt:102:5
 map-up-to-requires : tie.Need-map-up-to-requires
 map-up-to-requires c κs = search needs
 
--- src/lib.rt:97:1
 same-length : tie.Need-same-length
 same-length c = search needs
 
--- src/lib.rt:97:1
 returns : tie.Need-returns
-returns c = (c .before .before .map-up-to .ensures .0, wrote-all _ _ _ _ _ (c .before .before .map-up-to .ensures .1))
+returns c =
+    let answer = c .before .before .map-up-to .ensures .0 in
+    let bytes = wrote-all _ _ _ _ _ (c .before .before .map-up-to .ensures .1) in
+    (answer, (bytes, rw (answer, bytes) (map-means _ _ _)))
 
 pub map-spec : {M : Type 1} → statement M
 map-spec = tie.close (tie.spec map-up-to-requires same-length returns)

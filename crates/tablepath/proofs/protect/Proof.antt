@@ -1,4 +1,5 @@
 use Rattle.word.proofs.Budget.{wrote-all}
+use Rattle.tablepath.proofs.Means.{protect-means}
 use borrow.Author.Needs.{needs}
 use Rattle.tablepath.proofs.protect.Statement.{statement}
 use Rattle.tablepath.proofs.protect.Tie as tie
@@ -6,17 +7,17 @@ use Rattle.tablepath.proofs.protect.Reads as reads
 use Rattle.tablepath.proofs.protect.Lts as lts
 use Rattle.tablepath.proofs.protect_up_to.Reads as protect-up-to-reads
 
--- src/lib.rt:155:5
 protect-up-to-requires : tie.Need-protect-up-to-requires
 protect-up-to-requires c κs = search needs
 
--- src/lib.rt:150:1
 same-length : tie.Need-same-length
 same-length c = search needs
 
--- src/lib.rt:150:1
 returns : tie.Need-returns
-returns c = (c .before .before .protect-up-to .ensures .0, wrote-all _ _ _ _ _ (c .before .before .protect-up-to .ensures .1))
+returns c =
+    let answer = c .before .before .protect-up-to .ensures .0 in
+    let bytes = wrote-all _ _ _ _ _ (c .before .before .protect-up-to .ensures .1) in
+    (answer, (bytes, rw (answer, bytes) (protect-means _ _ _ _)))
 
 pub protect-spec : {M : Type 1} → statement M
 protect-spec = tie.close (tie.spec protect-up-to-requires same-length returns)

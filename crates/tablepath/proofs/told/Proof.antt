@@ -1,4 +1,5 @@
 use Rattle.word.proofs.Budget.{wrote-all}
+use Rattle.tablepath.proofs.Means.{told-means}
 use borrow.Author.Needs.{needs}
 use Rattle.tablepath.proofs.told.Statement.{statement}
 use Rattle.tablepath.proofs.told.Tie as tie
@@ -6,17 +7,17 @@ use Rattle.tablepath.proofs.told.Reads as reads
 use Rattle.tablepath.proofs.told.Lts as lts
 use Rattle.tablepath.proofs.told_up_to.Reads as told-up-to-reads
 
--- src/lib.rt:186:5
 told-up-to-requires : tie.Need-told-up-to-requires
 told-up-to-requires c κs = search needs
 
--- src/lib.rt:181:1
 same-length : tie.Need-same-length
 same-length c = search needs
 
--- src/lib.rt:181:1
 returns : tie.Need-returns
-returns c = (c .before .before .told-up-to .ensures .0, wrote-all _ _ _ _ _ (c .before .before .told-up-to .ensures .1))
+returns c =
+    let answer = c .before .before .told-up-to .ensures .0 in
+    let bytes = wrote-all _ _ _ _ _ (c .before .before .told-up-to .ensures .1) in
+    (answer, (bytes, rw (answer, bytes) (told-means _ _ _)))
 
 pub told-spec : {M : Type 1} → statement M
 told-spec = tie.close (tie.spec told-up-to-requires same-length returns)

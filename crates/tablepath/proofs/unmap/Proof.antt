@@ -1,4 +1,5 @@
 use Rattle.word.proofs.Budget.{wrote-all}
+use Rattle.tablepath.proofs.Means.{unmap-means}
 use borrow.Author.Needs.{needs}
 use Rattle.tablepath.proofs.unmap.Statement.{statement}
 use Rattle.tablepath.proofs.unmap.Tie as tie
@@ -6,17 +7,17 @@ use Rattle.tablepath.proofs.unmap.Reads as reads
 use Rattle.tablepath.proofs.unmap.Lts as lts
 use Rattle.tablepath.proofs.unmap_up_to.Reads as unmap-up-to-reads
 
--- src/lib.rt:131:5
 unmap-up-to-requires : tie.Need-unmap-up-to-requires
 unmap-up-to-requires c κs = search needs
 
--- src/lib.rt:126:1
 same-length : tie.Need-same-length
 same-length c = search needs
 
--- src/lib.rt:126:1
 returns : tie.Need-returns
-returns c = (c .before .before .unmap-up-to .ensures .0, wrote-all _ _ _ _ _ (c .before .before .unmap-up-to .ensures .1))
+returns c =
+    let answer = c .before .before .unmap-up-to .ensures .0 in
+    let bytes = wrote-all _ _ _ _ _ (c .before .before .unmap-up-to .ensures .1) in
+    (answer, (bytes, rw (answer, bytes) (unmap-means _ _ _)))
 
 pub unmap-spec : {M : Type 1} → statement M
 unmap-spec = tie.close (tie.spec unmap-up-to-requires same-length returns)
