@@ -16,7 +16,7 @@ of-look-up-requires c κs = search needs
 
 -- src/lib.rt:193:1
 returns : tie.Need-returns
-returns c = rw (c .of-look-up .ensures, c .before .look-up .ensures)
+returns c = rw (c .of-look-up .ensures, c .before .look-up .ensures .0)
 
 pub tp-raw-look-up-spec : {M : Type 1} → statement M
 tp-raw-look-up-spec = tie.close (tie.spec look-up-requires of-look-up-requires returns)
