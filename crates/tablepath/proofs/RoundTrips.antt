@@ -2,7 +2,6 @@
 use Prim.Native.Nat.{ℕ}
 use mathlib.Core.List.{List}
 use mathlib.Core.Path.{_≡_}
-use Rattle.word.specs.Memory.{memory, holds}
 use Rattle.word.specs.Writes.{carried}
 use Rattle.entry.specs.declared.Rights.{Rights}
 use Rattle.walk.specs.declared.Found.the-variants.{Page, Nothing}
@@ -15,14 +14,14 @@ use Rattle.tablepath.specs.declared.Unmapped.the-variants as unmapped
 use Rattle.tablepath.specs.declared.Gone.{Gone}
 use Rattle.tablepath.specs.declared.Protected.the-variants as protected
 use Rattle.tablepath.specs.declared.Same.{Same}
-use Rattle.tablepath.specs.Looks.{lookUp, In, Swapped, WholeBytes}
+use Rattle.tablepath.specs.Looks.{inWindow, lookUp, In, Swapped, WholeBytes}
 use Rattle.tablepath.proofs.Means.{map-means, unmap-means, protect-means, told-means}
 
 module _ (s : List ℕ) (sp : Space) (role : ℕ → Role) (w : WholeBytes s sp role) where
-  module _ (q : Asked) (k : ℕ) (done : mapAnswer (holds s (sp .origin)) (memory s (sp .origin)) sp q ≡ mapped.Done k) where
+  module _ (q : Asked) (k : ℕ) (done : inWindow s (sp .origin) mapAnswer sp q ≡ mapped.Done k) where
     -- the window after it
     abbrev pub withPage : List ℕ
-    withPage = carried s (sp .origin) (mapWrites (holds s (sp .origin)) (memory s (sp .origin)) sp q)
+    withPage = carried s (sp .origin) (inWindow s (sp .origin) mapWrites sp q)
 
     -- LOOK-UP AFTER MAP: every address of the range gets that page, every other what it had.
     pub look-up-after-map : (va : ℕ) → In (q .base) (q .size) va → lookUp withPage sp va ≡ Page (q .base) (q .size) (q .frame) (q .rights)
@@ -32,19 +31,19 @@ module _ (s : List ℕ) (sp : Space) (role : ℕ → Role) (w : WholeBytes s sp 
     look-up-beside-map = map-means s sp q .says role w .made k done .turned .beside
 
   -- LOOK-UP AFTER UNMAP: the frame and the size that it answers are those of the page that was there; every address of the page gets nothing.
-  pub look-up-after-unmap : (base : ℕ) (g : Gone) → unmapAnswer (holds s (sp .origin)) (memory s (sp .origin)) sp base ≡ unmapped.Done g
-      → Swapped s (carried s (sp .origin) (unmapWrites (holds s (sp .origin)) (memory s (sp .origin)) sp base)) sp base (g .size) (g .frame) Nothing
+  pub look-up-after-unmap : (base : ℕ) (g : Gone) → inWindow s (sp .origin) unmapAnswer sp base ≡ unmapped.Done g
+      → Swapped s (carried s (sp .origin) (inWindow s (sp .origin) unmapWrites sp base)) sp base (g .size) (g .frame) Nothing
   look-up-after-unmap base g e =
       let x = unmap-means s sp base .says role w .gone g e in
       record { had = x .had; before = x .before; inside = x .turned .inside; beside = x .turned .beside }
 
   -- LOOK-UP AFTER PROTECT: the same page with the new rights.
-  pub look-up-after-protect : (base : ℕ) (r : Rights) (g : Same) → protectAnswer (holds s (sp .origin)) (memory s (sp .origin)) sp base r ≡ protected.Done g
-      → Swapped s (carried s (sp .origin) (protectWrites (holds s (sp .origin)) (memory s (sp .origin)) sp base r)) sp base (g .size) (g .frame) (Page base (g .size) (g .frame) r)
+  pub look-up-after-protect : (base : ℕ) (r : Rights) (g : Same) → inWindow s (sp .origin) protectAnswer sp base r ≡ protected.Done g
+      → Swapped s (carried s (sp .origin) (inWindow s (sp .origin) protectWrites sp base r)) sp base (g .size) (g .frame) (Page base (g .size) (g .frame) r)
   look-up-after-protect base r g e =
       let x = protect-means s sp base r .says role w .same g e in
       record { had = x .had; before = x .before; inside = x .turned .inside; beside = x .turned .beside }
 
   -- LOOK-UP AFTER TOLD: what it was, whatever is answered.
-  pub look-up-after-told : (t va : ℕ) → lookUp (carried s (sp .origin) (toldWrites (holds s (sp .origin)) (memory s (sp .origin)) sp t)) sp va ≡ lookUp s sp va
+  pub look-up-after-told : (t va : ℕ) → lookUp (carried s (sp .origin) (inWindow s (sp .origin) toldWrites sp t)) sp va ≡ lookUp s sp va
   look-up-after-told t = told-means s sp t .says role w .same

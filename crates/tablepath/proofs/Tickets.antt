@@ -16,14 +16,14 @@ use Rattle.tablepath.specs.Says.{UnmapGone, Reports}
 use Rattle.tablepath.specs.declared.Unmapped.the-variants as unmapped
 use Rattle.tablepath.specs.declared.Gone.{Gone}
 use Rattle.tablepath.proofs.Says.{unmap-says}
-use Rattle.tablepath.specs.Looks.{WholeBytes}
+use Rattle.tablepath.specs.Looks.{inWindow, WholeBytes}
 use Rattle.tablepath.proofs.Wholes.{call-leaves}
 
 module _ (s : List ℕ) (sp : Space) (role : ℕ → Role) (w : WholeBytes s sp role) (base : ℕ) (g : Gone)
-    (done : unmapAnswer (holds s (sp .origin)) (memory s (sp .origin)) sp base ≡ unmapped.Done g) (early : g .ticket ≤ 2 ^ 62) where
+    (done : inWindow s (sp .origin) unmapAnswer sp base ≡ unmapped.Done g) (early : g .ticket ≤ 2 ^ 62) where
   -- the memory after it
   abbrev now : ℕ → ℕ
-  now = after (memory s (sp .origin)) (unmapWrites (holds s (sp .origin)) (memory s (sp .origin)) sp base)
+  now = after (memory s (sp .origin)) (inWindow s (sp .origin) unmapWrites sp base)
 
   said : UnmapGone (holds s (sp .origin)) (holds s (sp .origin)) sp (memory s (sp .origin)) now role base g
   said = unmap-says w base .gone g done
@@ -32,8 +32,8 @@ module _ (s : List ℕ) (sp : Space) (role : ℕ → Role) (w : WholeBytes s sp 
   reports = (bookOf now sp .aside, said .releases .1 early, omega (arith, said .more))
 
   -- THE REPORT of the ticket, right after, is done: what was set aside is free again
-  pub told-after-unmap : Reports (holds (carried s (sp .origin) (unmapWrites (holds s (sp .origin)) (memory s (sp .origin)) sp base)) (sp .origin))
-      (memory (carried s (sp .origin) (unmapWrites (holds s (sp .origin)) (memory s (sp .origin)) sp base)) (sp .origin)) sp (g .ticket) (g .aside)
+  pub told-after-unmap : Reports (holds (carried s (sp .origin) (inWindow s (sp .origin) unmapWrites sp base)) (sp .origin))
+      (memory (carried s (sp .origin) (inWindow s (sp .origin) unmapWrites sp base)) (sp .origin)) sp (g .ticket) (g .aside)
   unfolding callWrites
   told-after-unmap =
       rw (holds-carried s (sp .origin) _, memory-carried s (sp .origin) _ (call-leaves _ sp _ role w (calls.unmap base) .1)) reports

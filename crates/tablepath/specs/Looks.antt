@@ -1,4 +1,4 @@
--- THE LENT BYTES AS A WINDOW on physical memory: what is seen in it, what look-up answers there, and whether a space is whole in it.
+-- THE LENT BYTES AS A WINDOW on physical memory: what is so in it, what look-up answers there, and whether a space is whole in it.
 use Prim.Native.Nat.{ℕ, _+_, _*_, _<_, _≤_}
 use mathlib.Core.Bool.{Bool}
 use mathlib.Core.List.{List}
@@ -13,12 +13,12 @@ use Rattle.tables.specs.Roles.{Role}
 use Rattle.effect.specs.Whole.{Whole}
 
 -- what f says of a window: of the pages that lie in it, and the words there
-abbrev pub seen : {A : Type 0} → List ℕ → ℕ → ((ℕ → Bool) → (ℕ → ℕ) → A) → A
-seen s origin f = f (holds s origin) (memory s origin)
+abbrev pub inWindow : {A : Type 0} → List ℕ → ℕ → ((ℕ → Bool) → (ℕ → ℕ) → A) → A
+inWindow s origin f = f (holds s origin) (memory s origin)
 
 -- what look-up answers in a window
 abbrev pub lookUp : List ℕ → Space → ℕ → Found
-lookUp s sp va = seen s (sp .origin) walk (4096 * sp .root) va
+lookUp s sp va = inWindow s (sp .origin) walk (4096 * sp .root) va
 
 -- an address of the range that begins at base
 abbrev pub In : ℕ → ℕ → ℕ → Type 0

@@ -5,7 +5,7 @@ use mathlib.Core.List.{List}
 use mathlib.Core.Logic.{_↔_, _⊎_, _≢_}
 use mathlib.Core.Path.{_≡_}
 use lib.ListN.{length}
-use Rattle.word.specs.Memory.{memory, holds}
+use Rattle.word.specs.Memory.{holds}
 use Rattle.word.specs.Writes.{carried}
 use Rattle.entry.specs.Kept.{Kept}
 use Rattle.entry.specs.declared.Rights.{Rights}
@@ -15,7 +15,7 @@ use Rattle.tables.specs.Roles.{Role, free, aside, Apart}
 use Rattle.pool.specs.Layout.{bookPages}
 use Rattle.pool.specs.Book.{bookOf, pageAt, ticketOf, openedOf, dueOf}
 use Rattle.pool.specs.Booked.{settingOf, Taken, Numbered, tablesOf, newRole}
-use Rattle.pool.specs.Create.{createdOf, createWrites, newSpace}
+use Rattle.pool.specs.Create.{newSpace}
 use Rattle.pool.specs.declared.Space.{Space}
 use Rattle.pool.specs.declared.Book.{Book}
 use Rattle.pool.specs.declared.Opened.the-variants as opened
@@ -42,9 +42,9 @@ use Rattle.tablepath.specs.declared.Protected.{Protected}
 use Rattle.tablepath.specs.declared.Protected.the-variants as protected
 use Rattle.tablepath.specs.declared.Report.{Report}
 use Rattle.tablepath.specs.declared.Report.the-variants as told
-use Rattle.tablepath.specs.Answers.{mapAnswer, mapWrites, unmapAnswer, unmapWrites, protectAnswer, protectWrites, toldAnswer, toldWrites}
+use Rattle.tablepath.specs.Answers.{createAnswer, createWrites, mapAnswer, mapWrites, unmapAnswer, unmapWrites, protectAnswer, protectWrites, toldAnswer, toldWrites}
 use Rattle.tablepath.specs.Calls.{means}
-use Rattle.tablepath.specs.Looks.{lookUp, In, WholeBytes}
+use Rattle.tablepath.specs.Looks.{inWindow, lookUp, In, WholeBytes}
 
 -- Before and after: the pages in the window h and h', the words m and m'; role is what each page was.
 module _ (h h' : ℕ → Bool) (sp : Space) (m m' : ℕ → ℕ) (role : ℕ → Role) where
@@ -232,16 +232,16 @@ Declined (told.Refused y) = Unit {0}
 
 -- A REFUSAL LEAVES EVERY BYTE: where the answer is one, the window after the operation is the window s before it
 pub record RefusalLeaves (s : List ℕ) : Type 0 where
-  pub create : (origin first pages : ℕ) (y : PoolReason) → createdOf (length s) (holds s origin) origin first pages ≡ created.Refused y
-      → carried s origin (createWrites (length s) (holds s origin) origin first pages) ≡ s
-  pub map : (sp : Space) (q : Asked) (y : Reason) → mapAnswer (holds s (sp .origin)) (memory s (sp .origin)) sp q ≡ mapped.Refused y
-      → carried s (sp .origin) (mapWrites (holds s (sp .origin)) (memory s (sp .origin)) sp q) ≡ s
-  pub unmap : (sp : Space) (va : ℕ) (y : Reason) → unmapAnswer (holds s (sp .origin)) (memory s (sp .origin)) sp va ≡ unmapped.Refused y
-      → carried s (sp .origin) (unmapWrites (holds s (sp .origin)) (memory s (sp .origin)) sp va) ≡ s
-  pub protect : (sp : Space) (va : ℕ) (r : Rights) (y : Reason) → protectAnswer (holds s (sp .origin)) (memory s (sp .origin)) sp va r ≡ protected.Refused y
-      → carried s (sp .origin) (protectWrites (holds s (sp .origin)) (memory s (sp .origin)) sp va r) ≡ s
-  pub told : (sp : Space) (t : ℕ) → Declined (toldAnswer (holds s (sp .origin)) (memory s (sp .origin)) sp t)
-      → carried s (sp .origin) (toldWrites (holds s (sp .origin)) (memory s (sp .origin)) sp t) ≡ s
+  pub create : (origin first pages : ℕ) (y : PoolReason) → createAnswer s origin first pages ≡ created.Refused y
+      → carried s origin (createWrites s origin first pages) ≡ s
+  pub map : (sp : Space) (q : Asked) (y : Reason) → inWindow s (sp .origin) mapAnswer sp q ≡ mapped.Refused y
+      → carried s (sp .origin) (inWindow s (sp .origin) mapWrites sp q) ≡ s
+  pub unmap : (sp : Space) (va : ℕ) (y : Reason) → inWindow s (sp .origin) unmapAnswer sp va ≡ unmapped.Refused y
+      → carried s (sp .origin) (inWindow s (sp .origin) unmapWrites sp va) ≡ s
+  pub protect : (sp : Space) (va : ℕ) (r : Rights) (y : Reason) → inWindow s (sp .origin) protectAnswer sp va r ≡ protected.Refused y
+      → carried s (sp .origin) (inWindow s (sp .origin) protectWrites sp va r) ≡ s
+  pub told : (sp : Space) (t : ℕ) → Declined (inWindow s (sp .origin) toldAnswer sp t)
+      → carried s (sp .origin) (inWindow s (sp .origin) toldWrites sp t) ≡ s
 
 -- the report of the ticket t is done, and releases n pages or more
 abbrev pub Reports : (ℕ → Bool) → (ℕ → ℕ) → Space → ℕ → ℕ → Type 0

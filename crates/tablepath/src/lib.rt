@@ -8,7 +8,7 @@ ghost use Rattle.word.specs.Writes.{Wrote, carried};
 ghost use Rattle.walk.specs.Walk.{walk};
 ghost use Rattle.pool.specs.State as say;
 ghost use Rattle.tablepath.specs.Answers as the;
-ghost use Rattle.tablepath.specs.Looks.{seen};
+ghost use Rattle.tablepath.specs.Looks.{inWindow};
 ghost use Rattle.tablepath.specs.Says.{CreateSays};
 ghost use Rattle.tablepath.specs.Means.{MapMeans, UnmapMeans, ProtectMeans, ToldMeans, StateMeans, LookUpMeans};
 use plan::Asked;
@@ -85,8 +85,8 @@ pub fn create(mem: &mut [u8], origin: u64, first: u64, pages: u64) -> Created
 
 // Map, up to so many writes.
 pub fn map_up_to(mem: &mut [u8], left: &mut u64, space: Space, q: Asked) -> Mapped
-    ensures answer { λ r. ⌜ r ≡ seen (now (mem .entry)) (space .origin) the.mapAnswer space q ⌝ }
-    ensures order { λ _. ⌜ Wrote (space .origin) (seen (now (mem .entry)) (space .origin) the.mapWrites space q) (now (left .entry)) (now (left .exit)) (now (mem .entry)) (now (mem .exit)) ⌝ }
+    ensures answer { λ r. ⌜ r ≡ inWindow (now (mem .entry)) (space .origin) the.mapAnswer space q ⌝ }
+    ensures order { λ _. ⌜ Wrote (space .origin) (inWindow (now (mem .entry)) (space .origin) the.mapWrites space q) (now (left .entry)) (now (left .exit)) (now (mem .entry)) (now (mem .exit)) ⌝ }
 {
     let d = plan::map(mem, left, space, q);
     match d {
@@ -97,8 +97,8 @@ pub fn map_up_to(mem: &mut [u8], left: &mut u64, space: Space, q: Asked) -> Mapp
 
 // Maps the frame at the base, with these rights.
 pub fn map(mem: &mut [u8], space: Space, q: Asked) -> Mapped
-    ensures answer { λ r. ⌜ r ≡ seen (now (mem .entry)) (space .origin) the.mapAnswer space q ⌝ }
-    ensures bytes { λ _. ⌜ now (mem .exit) ≡ carried (now (mem .entry)) (space .origin) (seen (now (mem .entry)) (space .origin) the.mapWrites space q) ⌝ }
+    ensures answer { λ r. ⌜ r ≡ inWindow (now (mem .entry)) (space .origin) the.mapAnswer space q ⌝ }
+    ensures bytes { λ _. ⌜ now (mem .exit) ≡ carried (now (mem .entry)) (space .origin) (inWindow (now (mem .entry)) (space .origin) the.mapWrites space q) ⌝ }
     ensures meaning { λ r. ⌜ MapMeans (now (mem .entry)) (now (mem .exit)) space q r ⌝ }
 {
     let mut left: u64 = word::ENDLESS;
@@ -107,8 +107,8 @@ pub fn map(mem: &mut [u8], space: Space, q: Asked) -> Mapped
 
 // Unmap, up to so many writes.
 pub fn unmap_up_to(mem: &mut [u8], left: &mut u64, space: Space, base: u64) -> Unmapped
-    ensures answer { λ r. ⌜ r ≡ seen (now (mem .entry)) (space .origin) the.unmapAnswer space base ⌝ }
-    ensures order { λ _. ⌜ Wrote (space .origin) (seen (now (mem .entry)) (space .origin) the.unmapWrites space base) (now (left .entry)) (now (left .exit)) (now (mem .entry)) (now (mem .exit)) ⌝ }
+    ensures answer { λ r. ⌜ r ≡ inWindow (now (mem .entry)) (space .origin) the.unmapAnswer space base ⌝ }
+    ensures order { λ _. ⌜ Wrote (space .origin) (inWindow (now (mem .entry)) (space .origin) the.unmapWrites space base) (now (left .entry)) (now (left .exit)) (now (mem .entry)) (now (mem .exit)) ⌝ }
 {
     let d = plan::unmap(mem, left, space, base);
     match d {
@@ -127,8 +127,8 @@ pub fn unmap_up_to(mem: &mut [u8], left: &mut u64, space: Space, base: u64) -> U
 
 // Unmaps the page that starts exactly at the base, and sets aside the tables that become empty.
 pub fn unmap(mem: &mut [u8], space: Space, base: u64) -> Unmapped
-    ensures answer { λ r. ⌜ r ≡ seen (now (mem .entry)) (space .origin) the.unmapAnswer space base ⌝ }
-    ensures bytes { λ _. ⌜ now (mem .exit) ≡ carried (now (mem .entry)) (space .origin) (seen (now (mem .entry)) (space .origin) the.unmapWrites space base) ⌝ }
+    ensures answer { λ r. ⌜ r ≡ inWindow (now (mem .entry)) (space .origin) the.unmapAnswer space base ⌝ }
+    ensures bytes { λ _. ⌜ now (mem .exit) ≡ carried (now (mem .entry)) (space .origin) (inWindow (now (mem .entry)) (space .origin) the.unmapWrites space base) ⌝ }
     ensures meaning { λ r. ⌜ UnmapMeans (now (mem .entry)) (now (mem .exit)) space base r ⌝ }
 {
     let mut left: u64 = word::ENDLESS;
@@ -143,8 +143,8 @@ pub fn protect_up_to(
     base: u64,
     rights: entry::Rights,
 ) -> Protected
-    ensures answer { λ r. ⌜ r ≡ seen (now (mem .entry)) (space .origin) the.protectAnswer space base rights ⌝ }
-    ensures order { λ _. ⌜ Wrote (space .origin) (seen (now (mem .entry)) (space .origin) the.protectWrites space base rights) (now (left .entry)) (now (left .exit)) (now (mem .entry)) (now (mem .exit)) ⌝ }
+    ensures answer { λ r. ⌜ r ≡ inWindow (now (mem .entry)) (space .origin) the.protectAnswer space base rights ⌝ }
+    ensures order { λ _. ⌜ Wrote (space .origin) (inWindow (now (mem .entry)) (space .origin) the.protectWrites space base rights) (now (left .entry)) (now (left .exit)) (now (mem .entry)) (now (mem .exit)) ⌝ }
 {
     let d = plan::protect(mem, left, space, base, rights);
     match d {
@@ -159,8 +159,8 @@ pub fn protect_up_to(
 
 // Gives the page that starts exactly at the base other rights; the machine's marks stay.
 pub fn protect(mem: &mut [u8], space: Space, base: u64, rights: entry::Rights) -> Protected
-    ensures answer { λ r. ⌜ r ≡ seen (now (mem .entry)) (space .origin) the.protectAnswer space base rights ⌝ }
-    ensures bytes { λ _. ⌜ now (mem .exit) ≡ carried (now (mem .entry)) (space .origin) (seen (now (mem .entry)) (space .origin) the.protectWrites space base rights) ⌝ }
+    ensures answer { λ r. ⌜ r ≡ inWindow (now (mem .entry)) (space .origin) the.protectAnswer space base rights ⌝ }
+    ensures bytes { λ _. ⌜ now (mem .exit) ≡ carried (now (mem .entry)) (space .origin) (inWindow (now (mem .entry)) (space .origin) the.protectWrites space base rights) ⌝ }
     ensures meaning { λ r. ⌜ ProtectMeans (now (mem .entry)) (now (mem .exit)) space base rights r ⌝ }
 {
     let mut left: u64 = word::ENDLESS;
@@ -169,8 +169,8 @@ pub fn protect(mem: &mut [u8], space: Space, base: u64, rights: entry::Rights) -
 
 // Told, up to so many writes.
 pub fn told_up_to(mem: &mut [u8], left: &mut u64, space: Space, ticket: u64) -> Report
-    ensures answer { λ r. ⌜ r ≡ seen (now (mem .entry)) (space .origin) the.toldAnswer space ticket ⌝ }
-    ensures order { λ _. ⌜ Wrote (space .origin) (seen (now (mem .entry)) (space .origin) the.toldWrites space ticket) (now (left .entry)) (now (left .exit)) (now (mem .entry)) (now (mem .exit)) ⌝ }
+    ensures answer { λ r. ⌜ r ≡ inWindow (now (mem .entry)) (space .origin) the.toldAnswer space ticket ⌝ }
+    ensures order { λ _. ⌜ Wrote (space .origin) (inWindow (now (mem .entry)) (space .origin) the.toldWrites space ticket) (now (left .entry)) (now (left .exit)) (now (mem .entry)) (now (mem .exit)) ⌝ }
 {
     let o = pool::open(mem, space);
     match o {
@@ -192,8 +192,8 @@ pub fn told_up_to(mem: &mut [u8], left: &mut u64, space: Space, ticket: u64) -> 
 // The caller reports that every cache was told of what had happened when this ticket was answered last: the pages set aside until then are
 // free. A ticket between two that were answered frees exactly the pages with smaller numbers; one above the present one is unknown.
 pub fn told(mem: &mut [u8], space: Space, ticket: u64) -> Report
-    ensures answer { λ r. ⌜ r ≡ seen (now (mem .entry)) (space .origin) the.toldAnswer space ticket ⌝ }
-    ensures bytes { λ _. ⌜ now (mem .exit) ≡ carried (now (mem .entry)) (space .origin) (seen (now (mem .entry)) (space .origin) the.toldWrites space ticket) ⌝ }
+    ensures answer { λ r. ⌜ r ≡ inWindow (now (mem .entry)) (space .origin) the.toldAnswer space ticket ⌝ }
+    ensures bytes { λ _. ⌜ now (mem .exit) ≡ carried (now (mem .entry)) (space .origin) (inWindow (now (mem .entry)) (space .origin) the.toldWrites space ticket) ⌝ }
     ensures meaning { λ r. ⌜ ToldMeans (now (mem .entry)) (now (mem .exit)) space ticket r ⌝ }
 {
     let mut left: u64 = word::ENDLESS;
@@ -202,7 +202,7 @@ pub fn told(mem: &mut [u8], space: Space, ticket: u64) -> Report
 
 // How many of the pool's pages are free, set aside and tables, and the ticket of this moment. Writes nothing.
 pub fn state(mem: &[u8], space: Space) -> Stated
-    ensures answer { λ r. ⌜ r ≡ seen (now (mem .entry)) (space .origin) say.stateOf space ⌝ }
+    ensures answer { λ r. ⌜ r ≡ inWindow (now (mem .entry)) (space .origin) say.stateOf space ⌝ }
     ensures meaning { λ r. ⌜ StateMeans (now (mem .entry)) space r ⌝ }
 {
     pool::state(mem, space)
@@ -210,7 +210,7 @@ pub fn state(mem: &[u8], space: Space) -> Stated
 
 // What the address means; the root is given as in CR3.
 pub fn look_up(mem: &[u8], origin: u64, root: u64, va: u64) -> Found
-    ensures answer { λ f. ⌜ f ≡ seen (now (mem .entry)) origin walk root va ⌝ }
+    ensures answer { λ f. ⌜ f ≡ inWindow (now (mem .entry)) origin walk root va ⌝ }
     ensures meaning { λ r. ⌜ LookUpMeans (now (mem .entry)) origin root va r ⌝ }
 {
     walk::look_up(mem, origin, root, va)
