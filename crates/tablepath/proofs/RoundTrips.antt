@@ -8,26 +8,22 @@ use Rattle.walk.specs.declared.Found.the-variants.{Page, Nothing}
 use Rattle.tables.specs.Roles.{Role}
 use Rattle.pool.specs.declared.Space.{Space}
 use Rattle.plan.specs.declared.maps.Asked.{Asked}
-use Rattle.tablepath.specs.Answers.{mapAnswer, mapWrites, unmapAnswer, unmapWrites, protectAnswer, protectWrites, toldWrites}
+use Rattle.tablepath.specs.Answers.{mapAnswer, unmapAnswer, unmapWrites, protectAnswer, protectWrites, toldWrites}
 use Rattle.tablepath.specs.declared.Mapped.the-variants as mapped
 use Rattle.tablepath.specs.declared.Unmapped.the-variants as unmapped
 use Rattle.tablepath.specs.declared.Gone.{Gone}
 use Rattle.tablepath.specs.declared.Protected.the-variants as protected
 use Rattle.tablepath.specs.declared.Same.{Same}
-use Rattle.tablepath.specs.Looks.{inWindow, lookUp, In, Swapped, WholeBytes}
+use Rattle.tablepath.specs.Looks.{inWindow, lookUp, In, Swapped, WholeBytes, withPage}
 use Rattle.tablepath.proofs.Means.{map-means, unmap-means, protect-means, told-means}
 
 module _ (s : List ℕ) (sp : Space) (role : ℕ → Role) (w : WholeBytes s sp role) where
   module _ (q : Asked) (k : ℕ) (done : inWindow s (sp .origin) mapAnswer sp q ≡ mapped.Done k) where
-    -- the window after it
-    abbrev pub withPage : List ℕ
-    withPage = carried s (sp .origin) (inWindow s (sp .origin) mapWrites sp q)
-
     -- LOOK-UP AFTER MAP: every address of the range gets that page, every other what it had.
-    pub look-up-after-map : (va : ℕ) → In (q .base) (q .size) va → lookUp withPage sp va ≡ Page (q .base) (q .size) (q .frame) (q .rights)
+    pub look-up-after-map : (va : ℕ) → In (q .base) (q .size) va → lookUp (withPage s sp q) sp va ≡ Page (q .base) (q .size) (q .frame) (q .rights)
     look-up-after-map = map-means s sp q .says role w .made k done .turned .inside
 
-    pub look-up-beside-map : (va : ℕ) → (In (q .base) (q .size) va → ⊥) → lookUp withPage sp va ≡ lookUp s sp va
+    pub look-up-beside-map : (va : ℕ) → (In (q .base) (q .size) va → ⊥) → lookUp (withPage s sp q) sp va ≡ lookUp s sp va
     look-up-beside-map = map-means s sp q .says role w .made k done .turned .beside
 
   -- LOOK-UP AFTER UNMAP: the frame and the size that it answers are those of the page that was there; every address of the page gets nothing.

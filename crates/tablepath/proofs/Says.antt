@@ -14,9 +14,9 @@ use Rattle.walk.specs.Walk.{baseOf}
 use Rattle.walk.proofs.Ranges.{page-covers}
 use Rattle.walk.specs.declared.Found.the-variants as found
 use Rattle.tables.specs.Roles.{Role}
-use Rattle.tables.specs.Edits.{turns-inside, turns-outside}
-use Rattle.tables.specs.Meaning.{meaning, never-outside, never-in-pool}
-use Rattle.tables.specs.Overlap.{aligned-base}
+use Rattle.tables.proofs.Edits.{turns-inside, turns-outside}
+use Rattle.tables.proofs.Meaning.{never-outside, never-in-pool}
+use Rattle.tables.proofs.Overlap.{aligned-base}
 use Rattle.pool.specs.Book.{bookOf, ticketOf, ticketAfter, dueOf}
 use Rattle.pool.specs.Booked.{settingOf, released}
 use Rattle.pool.specs.declared.Space.{Space}

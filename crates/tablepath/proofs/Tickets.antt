@@ -12,11 +12,12 @@ use Rattle.pool.specs.declared.Space.{Space}
 use Rattle.tablepath.specs.Answers.{unmapAnswer, unmapWrites}
 use Rattle.tablepath.specs.Calls.{callWrites}
 use Rattle.tablepath.specs.Calls as calls
-use Rattle.tablepath.specs.Says.{UnmapGone, Reports}
+use Rattle.tablepath.specs.Says.{UnmapGone}
 use Rattle.tablepath.specs.declared.Unmapped.the-variants as unmapped
 use Rattle.tablepath.specs.declared.Gone.{Gone}
 use Rattle.tablepath.proofs.Says.{unmap-says}
 use Rattle.tablepath.specs.Looks.{inWindow, WholeBytes}
+use Rattle.tablepath.specs.Tickets.{Reports}
 use Rattle.tablepath.proofs.Wholes.{call-leaves}
 
 module _ (s : List ℕ) (sp : Space) (role : ℕ → Role) (w : WholeBytes s sp role) (base : ℕ) (g : Gone)

@@ -7,8 +7,8 @@ use native.Mathlib.Omega.{arith}
 use lib.Dec.{eqb}
 use lib.ListN.{length}
 use Rattle.word.specs.Memory.{memory, holds}
-use Rattle.word.specs.Writes.{Write, after, carried}
-use Rattle.word.proofs.Writes.{Every, none, every-map, holds-carried, memory-carried}
+use Rattle.word.specs.Writes.{Write, after, carried, Every, none}
+use Rattle.word.proofs.Writes.{every-map, holds-carried, memory-carried}
 use Rattle.entry.specs.declared.Rights.{Rights}
 use Rattle.tables.specs.Roles.{Role}
 use Rattle.pool.specs.Layout.{bookPages}

@@ -8,3 +8,5 @@ pub mod Nights
 pub mod Gone
 pub mod Shown
 pub mod Handles
+pub mod Witness
+pub mod NightWitness

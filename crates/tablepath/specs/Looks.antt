@@ -4,13 +4,16 @@ use mathlib.Core.Bool.{Bool}
 use mathlib.Core.List.{List}
 use mathlib.Core.Path.{_≡_}
 use Rattle.word.specs.Memory.{memory, holds}
+use Rattle.word.specs.Writes.{carried}
 use Rattle.entry.specs.declared.Rights.{Rights}
 use Rattle.walk.specs.Walk.{walk}
 use Rattle.walk.specs.declared.Found.{Found}
 use Rattle.walk.specs.declared.Found.the-variants.{Page}
-use Rattle.pool.specs.declared.Space.{Space}
 use Rattle.tables.specs.Roles.{Role}
+use Rattle.pool.specs.declared.Space.{Space}
+use Rattle.plan.specs.declared.maps.Asked.{Asked}
 use Rattle.effect.specs.Whole.{Whole}
+use Rattle.tablepath.specs.Answers.{mapWrites}
 
 -- what f says of a window: of the pages that lie in it, and the words there
 abbrev pub inWindow : {A : Type 0} → List ℕ → ℕ → ((ℕ → Bool) → (ℕ → ℕ) → A) → A
@@ -24,8 +27,6 @@ lookUp s sp va = inWindow s (sp .origin) walk (4096 * sp .root) va
 abbrev pub In : ℕ → ℕ → ℕ → Type 0
 In base size va = (base ≤ va) × (va < base + size)
 
--- Unmap and protect -----------------------------------------------------------------------------------------------------------
-
 -- the page that started at base: o is what every address of it gets in the window s' now, and every other address gets what it had
 pub record Swapped (s s' : List ℕ) (sp : Space) (base size frame : ℕ) (o : Found) : Type 0 where
   pub had : Rights
@@ -36,3 +37,7 @@ pub record Swapped (s s' : List ℕ) (sp : Space) (base size frame : ℕ) (o : F
 -- a window in which the space is whole
 abbrev pub WholeBytes : List ℕ → Space → (ℕ → Role) → Type 0
 WholeBytes s sp role = Whole (holds s (sp .origin)) sp (memory s (sp .origin)) role
+
+-- the window after a map
+abbrev pub withPage : List ℕ → Space → Asked → List ℕ
+withPage s sp q = carried s (sp .origin) (inWindow s (sp .origin) mapWrites sp q)

@@ -242,7 +242,3 @@ pub record RefusalLeaves (s : List ℕ) : Type 0 where
       → carried s (sp .origin) (inWindow s (sp .origin) protectWrites sp va r) ≡ s
   pub told : (sp : Space) (t : ℕ) → Declined (inWindow s (sp .origin) toldAnswer sp t)
       → carried s (sp .origin) (inWindow s (sp .origin) toldWrites sp t) ≡ s
-
--- the report of the ticket t is done, and releases n pages or more
-abbrev pub Reports : (ℕ → Bool) → (ℕ → ℕ) → Space → ℕ → ℕ → Type 0
-Reports h m sp t n = (k : ℕ) × (toldAnswer h m sp t ≡ told.Released k) × (n ≤ k)
