@@ -6,12 +6,9 @@ use mathlib.Core.List.{List, []}
 use mathlib.Core.Path.{_≡_}
 use lib.Dec.{eqb, ltb}
 use lib.ListN.{length}
-use Rattle.word.specs.Memory.{memory, holds}
 use Rattle.word.specs.Writes.{Write, Wrote, carried}
 use Rattle.entry.specs.declared.Rights.{Rights}
 use Rattle.walk.specs.Walk.{walk}
-use Rattle.pool.specs.Create.{createdOf}
-use Rattle.pool.specs.Create as made
 use Rattle.pool.specs.State.{stateOf}
 use Rattle.pool.specs.declared.Space.{Space}
 use Rattle.plan.specs.Map.{shapeOf, decideOf}
@@ -22,6 +19,7 @@ use Rattle.plan.specs.declared.maps.Asked.{Asked}
 use Rattle.plan.specs.declared.maps.Shape.{Shape}
 use Rattle.plan.specs.declared.maps.Shape.the-variants.{Level, Bad}
 use Rattle.tablepath.specs.Answers as the
+use Rattle.tablepath.specs.Looks.{inWindow}
 use Rattle.abi.specs.Answers.{reasonOf, rightsIn, created, mapped, unmapped, protected, told, uncounted, counted, lookedUp}
 use Rattle.abi.specs.declared.answers.Created.{Created}
 use Rattle.abi.specs.declared.answers.Mapped.{Mapped}
@@ -91,7 +89,7 @@ createAnswer s origin pool pages =
     cond (eqb (origin % 4096) 0)
     (cond (eqb (length s % 4096) 0)
     (cond (eqb (pool % 4096) 0)
-    (created (createdOf (length s) (holds s origin) origin (pool / 4096) pages))
+    (created (the.createAnswer s origin (pool / 4096) pages))
     (record { reason = 14; root = 0 }))
     (record { reason = 13; root = 0 }))
     (record { reason = 12; root = 0 })
@@ -100,7 +98,7 @@ unfoldable pub createWrites : List ℕ → ℕ → ℕ → ℕ → List Write
 createWrites s origin pool pages =
     cond (eqb (origin % 4096) 0)
     (cond (eqb (length s % 4096) 0)
-    (cond (eqb (pool % 4096) 0) (made.createWrites (length s) (holds s origin) origin (pool / 4096) pages) [])
+    (cond (eqb (pool % 4096) 0) (the.createWrites s origin (pool / 4096) pages) [])
     [])
     []
 
@@ -110,28 +108,28 @@ createBytes s origin pool pages = carried s origin (createWrites s origin pool p
 -- Map ---------------------------------------------------------------------------------------------------------------------------
 
 unfoldable pub mapAnswer : List ℕ → Asked → Sited → Mapped
-mapAnswer s q (At sp) = mapped (the.mapAnswer (holds s (sp .origin)) (memory s (sp .origin)) sp q)
+mapAnswer s q (At sp) = mapped (inWindow s (sp .origin) the.mapAnswer sp q)
 mapAnswer s q (Refused y) = record { reason = y; tables = 0 }
 
 abbrev pub mapWrites : List ℕ → Asked → Space → List Write
-mapWrites s q sp = the.mapWrites (holds s (sp .origin)) (memory s (sp .origin)) sp q
+mapWrites s q sp = inWindow s (sp .origin) the.mapWrites sp q
 
 abbrev pub mapBytes : List ℕ → Asked → Sited → List ℕ
 mapBytes s q x = bytesAfter s x (mapWrites s q)
 
 -- what is done at once in a space is what was decided; where there is none, it changes nothing and says nothing
 abbrev pub AtOnce : ℕ → ℕ → List ℕ → List ℕ → Asked → Sited → Once → Type 0
-AtOnce left rest s after q (At sp) o = plan.AtOnce left rest s after sp (decideOf (holds s (sp .origin)) (memory s (sp .origin)) sp q) o
+AtOnce left rest s after q (At sp) o = plan.AtOnce left rest s after sp (inWindow s (sp .origin) decideOf sp q) o
 AtOnce left rest s after q (Refused y) o = (o ≡ Unsaid) × (after ≡ s) × (rest ≡ left)
 
 -- Unmap -------------------------------------------------------------------------------------------------------------------------
 
 unfoldable pub unmapAnswer : List ℕ → ℕ → Sited → Unmapped
-unmapAnswer s base (At sp) = unmapped (the.unmapAnswer (holds s (sp .origin)) (memory s (sp .origin)) sp base)
+unmapAnswer s base (At sp) = unmapped (inWindow s (sp .origin) the.unmapAnswer sp base)
 unmapAnswer s base (Refused y) = record { reason = y; frame = 0; size = 0; aside = 0; ticket = 0 }
 
 abbrev pub unmapWrites : List ℕ → ℕ → Space → List Write
-unmapWrites s base sp = the.unmapWrites (holds s (sp .origin)) (memory s (sp .origin)) sp base
+unmapWrites s base sp = inWindow s (sp .origin) the.unmapWrites sp base
 
 abbrev pub unmapBytes : List ℕ → ℕ → Sited → List ℕ
 unmapBytes s base x = bytesAfter s x (unmapWrites s base)
@@ -139,11 +137,11 @@ unmapBytes s base x = bytesAfter s x (unmapWrites s base)
 -- Protect -----------------------------------------------------------------------------------------------------------------------
 
 unfoldable pub protectAnswer : List ℕ → ℕ → Rights → Sited → Protected
-protectAnswer s base r (At sp) = protected (the.protectAnswer (holds s (sp .origin)) (memory s (sp .origin)) sp base r)
+protectAnswer s base r (At sp) = protected (inWindow s (sp .origin) the.protectAnswer sp base r)
 protectAnswer s base r (Refused y) = record { reason = y; frame = 0; size = 0; ticket = 0 }
 
 abbrev pub protectWrites : List ℕ → ℕ → Rights → Space → List Write
-protectWrites s base r sp = the.protectWrites (holds s (sp .origin)) (memory s (sp .origin)) sp base r
+protectWrites s base r sp = inWindow s (sp .origin) the.protectWrites sp base r
 
 abbrev pub protectBytes : List ℕ → ℕ → Rights → Sited → List ℕ
 protectBytes s base r x = bytesAfter s x (protectWrites s base r)
@@ -151,11 +149,11 @@ protectBytes s base r x = bytesAfter s x (protectWrites s base r)
 -- Told --------------------------------------------------------------------------------------------------------------------------
 
 unfoldable pub toldAnswer : List ℕ → ℕ → Sited → Told
-toldAnswer s ticket (At sp) = told (the.toldAnswer (holds s (sp .origin)) (memory s (sp .origin)) sp ticket)
+toldAnswer s ticket (At sp) = told (inWindow s (sp .origin) the.toldAnswer sp ticket)
 toldAnswer s ticket (Refused y) = record { reason = y; released = 0 }
 
 abbrev pub toldWrites : List ℕ → ℕ → Space → List Write
-toldWrites s ticket sp = the.toldWrites (holds s (sp .origin)) (memory s (sp .origin)) sp ticket
+toldWrites s ticket sp = inWindow s (sp .origin) the.toldWrites sp ticket
 
 abbrev pub toldBytes : List ℕ → ℕ → Sited → List ℕ
 toldBytes s ticket x = bytesAfter s x (toldWrites s ticket)
@@ -163,11 +161,11 @@ toldBytes s ticket x = bytesAfter s x (toldWrites s ticket)
 -- State -------------------------------------------------------------------------------------------------------------------------
 
 unfoldable pub stateAnswer : List ℕ → Sited → Counts
-stateAnswer s (At sp) = counted (stateOf (holds s (sp .origin)) (memory s (sp .origin)) sp)
+stateAnswer s (At sp) = counted (inWindow s (sp .origin) stateOf sp)
 stateAnswer s (Refused y) = uncounted y
 
 -- Look-up -----------------------------------------------------------------------------------------------------------------------
 
 -- the root is given as in CR3
 abbrev pub lookUpAnswer : List ℕ → ℕ → ℕ → ℕ → LookedUp
-lookUpAnswer s origin root va = lookedUp (walk (holds s origin) (memory s origin) root va)
+lookUpAnswer s origin root va = lookedUp (inWindow s origin walk root va)

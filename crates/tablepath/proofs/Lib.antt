@@ -30,5 +30,6 @@ pub mod Witness
 pub mod SaysAny
 pub mod SaysCreate
 pub mod Says
+pub mod Means
 pub mod Tickets
 pub mod Moments

@@ -44,7 +44,7 @@ state-opened h m sp = record { refused = λ y. (refused-by sp y (openedOf h m sp
 
 module _ {h : ℕ → Bool} {sp : Space} {m : ℕ → ℕ} {role : ℕ → Role} (w : Whole h sp m role) where
   -- WHAT STATE ANSWERS
-  pub state-says : StateSays h sp m role
+  pub state-says : StateSays sp m role (stateOf h m sp)
   unfolding stateOf statedOf countsOf
   state-says = record {
     counts = countsOf sp (bookOf m sp);
@@ -68,7 +68,7 @@ module _ {h : ℕ → Bool} {sp : Space} {m : ℕ → ℕ} {role : ℕ → Role}
   unfolding Handed callWrites
   handed-now (calls.map q) t k = absurd k
   handed-now (calls.unmap va) t k = sym (k .2) ∙ unmap-says w va .gone (k .0) (k .1) .ticket
-  handed-now (calls.protect va r) t k = sym (k .2) ∙ protect-says w va r .ticket (k .0) (k .1) .0
+  handed-now (calls.protect va r) t k = sym (k .2) ∙ protect-says w va r .same (k .0) (k .1) .ticket .0
   handed-now (calls.told n) t k = absurd k
 
   -- STATE, asked right after, answers it too

@@ -8,15 +8,19 @@ use native.Mathlib.Omega.{arith}
 use borrow.Author.Tests.{eq-eqb, ne-eqb, le-leb, lt-leb}
 use lib.ListN.{length}
 use Rattle.word.specs.Memory.{holds}
+use Rattle.word.specs.Writes.{carried}
 use Rattle.word.proofs.Tests.{and-both}
 use Rattle.pool.specs.Layout.{bookPages}
 use Rattle.pool.specs.Book.{roomOf}
-use Rattle.pool.specs.Create.{createdOf, createdIn, mayCreate}
+use Rattle.pool.specs.Create.{createdOf, createdIn, createWrites, mayCreate}
 use Rattle.pool.specs.declared.Created.{Created}
 use Rattle.pool.specs.declared.Created.the-variants as created
 use Rattle.pool.specs.declared.Reason.{Reason}
 use Rattle.pool.specs.declared.Reason.the-variants.{OriginUnaligned, LengthUnaligned, PoolLarge, PoolSmall, PoolOutside}
 use Rattle.pool.proofs.Opening.{fit-inside}
+use Rattle.tablepath.proofs.SaysAny.{refusal-leaves}
+use Rattle.tablepath.proofs.Wholes.{create-whole}
+use Rattle.tablepath.proofs.Witness.{nothing-yet}
 use Rattle.tablepath.specs.Says.{Aligned, CreateCause, origin-unaligned, length-unaligned, large, small, outside, CreateSays}
 
 module _ (s : List ℕ) (origin first pages : ℕ) where
@@ -107,8 +111,11 @@ module _ (s : List ℕ) (origin first pages : ℕ) where
       go x makes = refl
 
   -- WHAT CREATE ANSWERS
-  pub create-says : CreateSays s origin first pages
+  pub create-says : CreateSays s (carried s origin (createWrites (length s) (holds s origin) origin first pages)) origin first pages answer
   create-says = record {
     refused = λ y. (refused-cause y, cause-refuses y);
+    leaves = refusal-leaves s .create origin first pages;
     done = λ p. (λ e. (root-no-cause p e, root-behind p e), λ n. no-cause-root (n .0) ∙ ap created.Root (sym (n .1)));
+    whole = λ p e. create-whole s origin first pages p e .1;
+    empty = λ p e. nothing-yet (create-whole s origin first pages p e .1);
   }

@@ -2,10 +2,14 @@
 use Prim.Native.Nat.{ℕ}
 use mathlib.Core.Bool.{Bool}
 use mathlib.Core.List.{List, []}
+use lib.ListN.{length}
+use Rattle.word.specs.Memory.{holds}
 use Rattle.word.specs.Writes.{Write}
 use Rattle.entry.specs.declared.Rights.{Rights}
 use Rattle.pool.specs.Book.{bookOf, openedOf, dueOf, ticketAfter}
 use Rattle.pool.specs.Changes.{releaseWrites}
+use Rattle.pool.specs.Create as made
+use Rattle.pool.specs.declared.Created.{Created}
 use Rattle.pool.specs.declared.Space.{Space}
 use Rattle.pool.specs.declared.Book.{Book}
 use Rattle.pool.specs.declared.Opened.{Opened}
@@ -33,6 +37,14 @@ use Rattle.tablepath.specs.declared.Protected.{Protected}
 use Rattle.tablepath.specs.declared.Protected.the-variants as protected
 use Rattle.tablepath.specs.declared.Report.{Report}
 use Rattle.tablepath.specs.declared.Report.the-variants as told
+
+-- Create -----------------------------------------------------------------------------------------------------------------------
+
+abbrev pub createAnswer : List ℕ → ℕ → ℕ → ℕ → Created
+createAnswer s origin first pages = made.createdOf (length s) (holds s origin) origin first pages
+
+abbrev pub createWrites : List ℕ → ℕ → ℕ → ℕ → List Write
+createWrites s origin first pages = made.createWrites (length s) (holds s origin) origin first pages
 
 -- Map --------------------------------------------------------------------------------------------------------------------------
 

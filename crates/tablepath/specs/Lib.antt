@@ -1,11 +1,12 @@
 pub mod Answers
 pub mod Calls
+pub mod Looks
 pub mod Says
 pub mod Tickets
+pub mod Means
 pub mod Nights
 pub mod Gone
 pub mod Shown
 pub mod Handles
-pub mod Looks
 pub mod Witness
 pub mod NightWitness

@@ -1,5 +1,6 @@
--- The bytes as a caller sees them: what look-up answers in a window, what an operation swaps there, and a window in which the space is whole.
+-- THE LENT BYTES AS A WINDOW on physical memory: what is so in it, what look-up answers there, and whether a space is whole in it.
 use Prim.Native.Nat.{ℕ, _+_, _*_, _<_, _≤_}
+use mathlib.Core.Bool.{Bool}
 use mathlib.Core.List.{List}
 use mathlib.Core.Path.{_≡_}
 use Rattle.word.specs.Memory.{memory, holds}
@@ -14,9 +15,13 @@ use Rattle.plan.specs.declared.maps.Asked.{Asked}
 use Rattle.effect.specs.Whole.{Whole}
 use Rattle.tablepath.specs.Answers.{mapWrites}
 
+-- what f says of a window: of the pages that lie in it, and the words there
+abbrev pub inWindow : {A : Type 0} → List ℕ → ℕ → ((ℕ → Bool) → (ℕ → ℕ) → A) → A
+inWindow s origin f = f (holds s origin) (memory s origin)
+
 -- what look-up answers in a window
 abbrev pub lookUp : List ℕ → Space → ℕ → Found
-lookUp s sp va = walk (holds s (sp .origin)) (memory s (sp .origin)) (4096 * sp .root) va
+lookUp s sp va = inWindow s (sp .origin) walk (4096 * sp .root) va
 
 -- an address of the range that begins at base
 abbrev pub In : ℕ → ℕ → ℕ → Type 0
@@ -35,4 +40,4 @@ WholeBytes s sp role = Whole (holds s (sp .origin)) sp (memory s (sp .origin)) r
 
 -- the window after a map
 abbrev pub withPage : List ℕ → Space → Asked → List ℕ
-withPage s sp q = carried s (sp .origin) (mapWrites (holds s (sp .origin)) (memory s (sp .origin)) sp q)
+withPage s sp q = carried s (sp .origin) (inWindow s (sp .origin) mapWrites sp q)

@@ -13,6 +13,7 @@ use Rattle.pool.specs.declared.Space.{Space}
 use Rattle.pool.specs.declared.Reason.{Reason}
 use Rattle.pool.specs.declared.Opened.the-variants as opened
 use Rattle.pool.specs.declared.moment.Counts.{Counts}
+use Rattle.pool.specs.declared.moment.Stated.{Stated}
 use Rattle.pool.specs.declared.moment.Stated.the-variants as stated
 use Rattle.tablepath.specs.declared.Gone.{Gone}
 use Rattle.tablepath.specs.declared.Unmapped.the-variants as unmapped
@@ -24,11 +25,11 @@ use Rattle.tablepath.specs.declared.Report.the-variants as report
 
 -- State --------------------------------------------------------------------------------------------------------------------------
 
--- STATE, in a space that is whole
-pub record StateSays (h : ℕ → Bool) (sp : Space) (m : ℕ → ℕ) (role : ℕ → Role) : Type 0 where
+-- STATE, in a space that is whole, answered r
+pub record StateSays (sp : Space) (m : ℕ → ℕ) (role : ℕ → Role) (r : Stated) : Type 0 where
   -- it never refuses
   pub counts : Counts
-  pub answered : stateOf h m sp ≡ stated.Counts counts
+  pub answered : r ≡ stated.Counts counts
   -- the pool's pages, and how many of them have each role
   pub pages : counts .pages ≡ sp .pages
   pub free : counts .free ≡ howMany (λ p. isFree (role p)) (sp .first) (sp .pages)

@@ -2,14 +2,15 @@
 // its plan out. Any bytes and any numbers will do: what cannot be done is refused with a reason, and then no byte has changed.
 // Each operation that writes also stands here with a budget of writes (`up_to`): stopped after any of them, the bytes are those at entry
 // with the first so many planned writes carried out. That is the order in which it writes.
+// Each clause `answer` and `bytes` is for any bytes, `meaning` says what that is where the space is whole.
 ghost use mathlib.Core.Path.{_≡_};
-ghost use lib.ListN.{length};
-ghost use Rattle.word.specs.Memory.{memory, holds};
 ghost use Rattle.word.specs.Writes.{Wrote, carried};
 ghost use Rattle.walk.specs.Walk.{walk};
-ghost use Rattle.pool.specs.Create as made;
 ghost use Rattle.pool.specs.State as say;
 ghost use Rattle.tablepath.specs.Answers as the;
+ghost use Rattle.tablepath.specs.Looks.{inWindow};
+ghost use Rattle.tablepath.specs.Says.{CreateSays};
+ghost use Rattle.tablepath.specs.Means.{MapMeans, UnmapMeans, ProtectMeans, ToldMeans, StateMeans, LookUpMeans};
 use plan::Asked;
 use plan::Changing;
 use plan::Making;
@@ -66,16 +67,17 @@ pub enum Report {
 
 // Create, up to so many writes.
 pub fn create_up_to(mem: &mut [u8], left: &mut u64, origin: u64, first: u64, pages: u64) -> Created
-    ensures answer { λ r. ⌜ r ≡ made.createdOf (length (now (mem .entry))) (holds (now (mem .entry)) origin) origin first pages ⌝ }
-    ensures order { λ _. ⌜ Wrote origin (made.createWrites (length (now (mem .entry))) (holds (now (mem .entry)) origin) origin first pages) (now (left .entry)) (now (left .exit)) (now (mem .entry)) (now (mem .exit)) ⌝ }
+    ensures answer { λ r. ⌜ r ≡ the.createAnswer (now (mem .entry)) origin first pages ⌝ }
+    ensures order { λ _. ⌜ Wrote origin (the.createWrites (now (mem .entry)) origin first pages) (now (left .entry)) (now (left .exit)) (now (mem .entry)) (now (mem .exit)) ⌝ }
 {
     pool::create(mem, left, origin, first, pages)
 }
 
 // Makes a pool of these pages, its book and an empty root; answers the root's page.
 pub fn create(mem: &mut [u8], origin: u64, first: u64, pages: u64) -> Created
-    ensures answer { λ r. ⌜ r ≡ made.createdOf (length (now (mem .entry))) (holds (now (mem .entry)) origin) origin first pages ⌝ }
-    ensures bytes { λ _. ⌜ now (mem .exit) ≡ carried (now (mem .entry)) origin (made.createWrites (length (now (mem .entry))) (holds (now (mem .entry)) origin) origin first pages) ⌝ }
+    ensures answer { λ r. ⌜ r ≡ the.createAnswer (now (mem .entry)) origin first pages ⌝ }
+    ensures bytes { λ _. ⌜ now (mem .exit) ≡ carried (now (mem .entry)) origin (the.createWrites (now (mem .entry)) origin first pages) ⌝ }
+    ensures meaning { λ r. ⌜ CreateSays (now (mem .entry)) (now (mem .exit)) origin first pages r ⌝ }
 {
     let mut left: u64 = word::ENDLESS;
     create_up_to(mem, &mut left, origin, first, pages)
@@ -83,8 +85,8 @@ pub fn create(mem: &mut [u8], origin: u64, first: u64, pages: u64) -> Created
 
 // Map, up to so many writes.
 pub fn map_up_to(mem: &mut [u8], left: &mut u64, space: Space, q: Asked) -> Mapped
-    ensures answer { λ r. ⌜ r ≡ the.mapAnswer (holds (now (mem .entry)) (space .origin)) (memory (now (mem .entry)) (space .origin)) space q ⌝ }
-    ensures order { λ _. ⌜ Wrote (space .origin) (the.mapWrites (holds (now (mem .entry)) (space .origin)) (memory (now (mem .entry)) (space .origin)) space q) (now (left .entry)) (now (left .exit)) (now (mem .entry)) (now (mem .exit)) ⌝ }
+    ensures answer { λ r. ⌜ r ≡ inWindow (now (mem .entry)) (space .origin) the.mapAnswer space q ⌝ }
+    ensures order { λ _. ⌜ Wrote (space .origin) (inWindow (now (mem .entry)) (space .origin) the.mapWrites space q) (now (left .entry)) (now (left .exit)) (now (mem .entry)) (now (mem .exit)) ⌝ }
 {
     let d = plan::map(mem, left, space, q);
     match d {
@@ -95,8 +97,9 @@ pub fn map_up_to(mem: &mut [u8], left: &mut u64, space: Space, q: Asked) -> Mapp
 
 // Maps the frame at the base, with these rights.
 pub fn map(mem: &mut [u8], space: Space, q: Asked) -> Mapped
-    ensures answer { λ r. ⌜ r ≡ the.mapAnswer (holds (now (mem .entry)) (space .origin)) (memory (now (mem .entry)) (space .origin)) space q ⌝ }
-    ensures bytes { λ _. ⌜ now (mem .exit) ≡ carried (now (mem .entry)) (space .origin) (the.mapWrites (holds (now (mem .entry)) (space .origin)) (memory (now (mem .entry)) (space .origin)) space q) ⌝ }
+    ensures answer { λ r. ⌜ r ≡ inWindow (now (mem .entry)) (space .origin) the.mapAnswer space q ⌝ }
+    ensures bytes { λ _. ⌜ now (mem .exit) ≡ carried (now (mem .entry)) (space .origin) (inWindow (now (mem .entry)) (space .origin) the.mapWrites space q) ⌝ }
+    ensures meaning { λ r. ⌜ MapMeans (now (mem .entry)) (now (mem .exit)) space q r ⌝ }
 {
     let mut left: u64 = word::ENDLESS;
     map_up_to(mem, &mut left, space, q)
@@ -104,8 +107,8 @@ pub fn map(mem: &mut [u8], space: Space, q: Asked) -> Mapped
 
 // Unmap, up to so many writes.
 pub fn unmap_up_to(mem: &mut [u8], left: &mut u64, space: Space, base: u64) -> Unmapped
-    ensures answer { λ r. ⌜ r ≡ the.unmapAnswer (holds (now (mem .entry)) (space .origin)) (memory (now (mem .entry)) (space .origin)) space base ⌝ }
-    ensures order { λ _. ⌜ Wrote (space .origin) (the.unmapWrites (holds (now (mem .entry)) (space .origin)) (memory (now (mem .entry)) (space .origin)) space base) (now (left .entry)) (now (left .exit)) (now (mem .entry)) (now (mem .exit)) ⌝ }
+    ensures answer { λ r. ⌜ r ≡ inWindow (now (mem .entry)) (space .origin) the.unmapAnswer space base ⌝ }
+    ensures order { λ _. ⌜ Wrote (space .origin) (inWindow (now (mem .entry)) (space .origin) the.unmapWrites space base) (now (left .entry)) (now (left .exit)) (now (mem .entry)) (now (mem .exit)) ⌝ }
 {
     let d = plan::unmap(mem, left, space, base);
     match d {
@@ -124,8 +127,9 @@ pub fn unmap_up_to(mem: &mut [u8], left: &mut u64, space: Space, base: u64) -> U
 
 // Unmaps the page that starts exactly at the base, and sets aside the tables that become empty.
 pub fn unmap(mem: &mut [u8], space: Space, base: u64) -> Unmapped
-    ensures answer { λ r. ⌜ r ≡ the.unmapAnswer (holds (now (mem .entry)) (space .origin)) (memory (now (mem .entry)) (space .origin)) space base ⌝ }
-    ensures bytes { λ _. ⌜ now (mem .exit) ≡ carried (now (mem .entry)) (space .origin) (the.unmapWrites (holds (now (mem .entry)) (space .origin)) (memory (now (mem .entry)) (space .origin)) space base) ⌝ }
+    ensures answer { λ r. ⌜ r ≡ inWindow (now (mem .entry)) (space .origin) the.unmapAnswer space base ⌝ }
+    ensures bytes { λ _. ⌜ now (mem .exit) ≡ carried (now (mem .entry)) (space .origin) (inWindow (now (mem .entry)) (space .origin) the.unmapWrites space base) ⌝ }
+    ensures meaning { λ r. ⌜ UnmapMeans (now (mem .entry)) (now (mem .exit)) space base r ⌝ }
 {
     let mut left: u64 = word::ENDLESS;
     unmap_up_to(mem, &mut left, space, base)
@@ -139,8 +143,8 @@ pub fn protect_up_to(
     base: u64,
     rights: entry::Rights,
 ) -> Protected
-    ensures answer { λ r. ⌜ r ≡ the.protectAnswer (holds (now (mem .entry)) (space .origin)) (memory (now (mem .entry)) (space .origin)) space base rights ⌝ }
-    ensures order { λ _. ⌜ Wrote (space .origin) (the.protectWrites (holds (now (mem .entry)) (space .origin)) (memory (now (mem .entry)) (space .origin)) space base rights) (now (left .entry)) (now (left .exit)) (now (mem .entry)) (now (mem .exit)) ⌝ }
+    ensures answer { λ r. ⌜ r ≡ inWindow (now (mem .entry)) (space .origin) the.protectAnswer space base rights ⌝ }
+    ensures order { λ _. ⌜ Wrote (space .origin) (inWindow (now (mem .entry)) (space .origin) the.protectWrites space base rights) (now (left .entry)) (now (left .exit)) (now (mem .entry)) (now (mem .exit)) ⌝ }
 {
     let d = plan::protect(mem, left, space, base, rights);
     match d {
@@ -155,8 +159,9 @@ pub fn protect_up_to(
 
 // Gives the page that starts exactly at the base other rights; the machine's marks stay.
 pub fn protect(mem: &mut [u8], space: Space, base: u64, rights: entry::Rights) -> Protected
-    ensures answer { λ r. ⌜ r ≡ the.protectAnswer (holds (now (mem .entry)) (space .origin)) (memory (now (mem .entry)) (space .origin)) space base rights ⌝ }
-    ensures bytes { λ _. ⌜ now (mem .exit) ≡ carried (now (mem .entry)) (space .origin) (the.protectWrites (holds (now (mem .entry)) (space .origin)) (memory (now (mem .entry)) (space .origin)) space base rights) ⌝ }
+    ensures answer { λ r. ⌜ r ≡ inWindow (now (mem .entry)) (space .origin) the.protectAnswer space base rights ⌝ }
+    ensures bytes { λ _. ⌜ now (mem .exit) ≡ carried (now (mem .entry)) (space .origin) (inWindow (now (mem .entry)) (space .origin) the.protectWrites space base rights) ⌝ }
+    ensures meaning { λ r. ⌜ ProtectMeans (now (mem .entry)) (now (mem .exit)) space base rights r ⌝ }
 {
     let mut left: u64 = word::ENDLESS;
     protect_up_to(mem, &mut left, space, base, rights)
@@ -164,8 +169,8 @@ pub fn protect(mem: &mut [u8], space: Space, base: u64, rights: entry::Rights) -
 
 // Told, up to so many writes.
 pub fn told_up_to(mem: &mut [u8], left: &mut u64, space: Space, ticket: u64) -> Report
-    ensures answer { λ r. ⌜ r ≡ the.toldAnswer (holds (now (mem .entry)) (space .origin)) (memory (now (mem .entry)) (space .origin)) space ticket ⌝ }
-    ensures order { λ _. ⌜ Wrote (space .origin) (the.toldWrites (holds (now (mem .entry)) (space .origin)) (memory (now (mem .entry)) (space .origin)) space ticket) (now (left .entry)) (now (left .exit)) (now (mem .entry)) (now (mem .exit)) ⌝ }
+    ensures answer { λ r. ⌜ r ≡ inWindow (now (mem .entry)) (space .origin) the.toldAnswer space ticket ⌝ }
+    ensures order { λ _. ⌜ Wrote (space .origin) (inWindow (now (mem .entry)) (space .origin) the.toldWrites space ticket) (now (left .entry)) (now (left .exit)) (now (mem .entry)) (now (mem .exit)) ⌝ }
 {
     let o = pool::open(mem, space);
     match o {
@@ -187,8 +192,9 @@ pub fn told_up_to(mem: &mut [u8], left: &mut u64, space: Space, ticket: u64) -> 
 // The caller reports that every cache was told of what had happened when this ticket was answered last: the pages set aside until then are
 // free. A ticket between two that were answered frees exactly the pages with smaller numbers; one above the present one is unknown.
 pub fn told(mem: &mut [u8], space: Space, ticket: u64) -> Report
-    ensures answer { λ r. ⌜ r ≡ the.toldAnswer (holds (now (mem .entry)) (space .origin)) (memory (now (mem .entry)) (space .origin)) space ticket ⌝ }
-    ensures bytes { λ _. ⌜ now (mem .exit) ≡ carried (now (mem .entry)) (space .origin) (the.toldWrites (holds (now (mem .entry)) (space .origin)) (memory (now (mem .entry)) (space .origin)) space ticket) ⌝ }
+    ensures answer { λ r. ⌜ r ≡ inWindow (now (mem .entry)) (space .origin) the.toldAnswer space ticket ⌝ }
+    ensures bytes { λ _. ⌜ now (mem .exit) ≡ carried (now (mem .entry)) (space .origin) (inWindow (now (mem .entry)) (space .origin) the.toldWrites space ticket) ⌝ }
+    ensures meaning { λ r. ⌜ ToldMeans (now (mem .entry)) (now (mem .exit)) space ticket r ⌝ }
 {
     let mut left: u64 = word::ENDLESS;
     told_up_to(mem, &mut left, space, ticket)
@@ -196,14 +202,16 @@ pub fn told(mem: &mut [u8], space: Space, ticket: u64) -> Report
 
 // How many of the pool's pages are free, set aside and tables, and the ticket of this moment. Writes nothing.
 pub fn state(mem: &[u8], space: Space) -> Stated
-    ensures answer { λ r. ⌜ r ≡ say.stateOf (holds (now (mem .entry)) (space .origin)) (memory (now (mem .entry)) (space .origin)) space ⌝ }
+    ensures answer { λ r. ⌜ r ≡ inWindow (now (mem .entry)) (space .origin) say.stateOf space ⌝ }
+    ensures meaning { λ r. ⌜ StateMeans (now (mem .entry)) space r ⌝ }
 {
     pool::state(mem, space)
 }
 
 // What the address means; the root is given as in CR3.
 pub fn look_up(mem: &[u8], origin: u64, root: u64, va: u64) -> Found
-    ensures answer { λ f. ⌜ f ≡ walk (holds (now (mem .entry)) origin) (memory (now (mem .entry)) origin) root va ⌝ }
+    ensures answer { λ f. ⌜ f ≡ inWindow (now (mem .entry)) origin walk root va ⌝ }
+    ensures meaning { λ r. ⌜ LookUpMeans (now (mem .entry)) origin root va r ⌝ }
 {
     walk::look_up(mem, origin, root, va)
 }

@@ -13,7 +13,7 @@ of-look-up-requires : tie.Need-of-look-up-requires
 of-look-up-requires c κs = search needs
 
 returns : tie.Need-returns
-returns c = rw (c .of-look-up .ensures, c .before .look-up .ensures)
+returns c = rw (c .of-look-up .ensures, c .before .look-up .ensures .0)
 
 pub tp-raw-look-up-spec : {M : Type 1} → statement M
 tp-raw-look-up-spec = tie.close (tie.spec look-up-requires of-look-up-requires returns)

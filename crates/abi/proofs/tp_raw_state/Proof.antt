@@ -34,7 +34,7 @@ returns c = rw (sym (c .before .before .before .before .site .ensures) ∙ c .be
 
 returns-2 : tie.Need-returns-2
 unfolding stateAnswer
-returns-2 c = rw (sym (c .before .before .before .before .before .site .ensures) ∙ c .before .before .before .s2 .given .1, c .of-state .ensures, c .before .state .ensures)
+returns-2 c = rw (sym (c .before .before .before .before .before .site .ensures) ∙ c .before .before .before .s2 .given .1, c .of-state .ensures, c .before .state .ensures .0)
 
 pub tp-raw-state-spec : {M : Type 1} → statement M
 tp-raw-state-spec =
