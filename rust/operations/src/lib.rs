@@ -68,6 +68,7 @@ pub trait Operations {
 }
 
 /// The reasons, by number; 0 is no refusal.
+// tools/reasons: names (of include/reasons.txt)
 pub const REASONS: [&str; 26] = [
     "done",
     "Size",
@@ -96,6 +97,7 @@ pub const REASONS: [&str; 26] = [
     "SpentTickets",
     "Rights",
 ];
+// tools/reasons: end
 
 /// Asks so many requests, in one scene after the other, or until something is wrong: then the scene's number, and its steps.
 /// The scenes depend on the seed and on what is answered.
