@@ -8,7 +8,7 @@ use Rattle.pool.specs.declared.Reason as inPool
 use Rattle.pool.specs.declared.Reason.the-variants as pool
 use Rattle.plan.specs.declared.Reason.{Reason}
 use Rattle.plan.specs.declared.Reason.the-variants as plan
-use Rattle.abi.specs.ReasonNumbers.{Why, done, refused, pool-unaligned, root-unaligned, unknown, spent, rights, reasonOf, poolReason, numberOf, header}
+use Rattle.abi.specs.ReasonNumbers.{Why, done, refused, pool-unaligned, root-unaligned, unknown, spent, rights, pointer, reasonOf, poolReason, numberOf, header}
 
 -- THE HEADER'S PLACE of a reason is its number.
 pub in-header : (y : Why) → getD header (numberOf y) done ≡ y
@@ -40,6 +40,7 @@ in-header (refused (plan.Pool pool.BadBook)) = refl
 in-header unknown = refl
 in-header spent = refl
 in-header rights = refl
+in-header pointer = refl
 
 -- tools/reasons: end
 

@@ -31,7 +31,8 @@ reasonOf plan.NothingStarts = 9
 reasonOf plan.Stray = 10
 reasonOf plan.BadList = 11
 
--- what the field `reason` says: done, an operation's own reason (the pool's among them), or one of five more
+-- what the field `reason` says: done, an operation's own reason (the pool's among them), or one of six more, the last of which
+-- the header says, and not the library
 pub data Why : Type 0 where
   done : Why
   refused : Reason → Why
@@ -40,6 +41,7 @@ pub data Why : Type 0 where
   unknown : Why
   spent : Why
   rights : Why
+  pointer : Why
 
 abbrev pub numberOf : Why → ℕ
 numberOf done = 0
@@ -49,8 +51,9 @@ numberOf root-unaligned = 15
 numberOf unknown = 23
 numberOf spent = 24
 numberOf rights = 25
+numberOf pointer = 26
 
--- THE HEADER'S enum tp_reason, from 0 on, but for what the header itself says
+-- THE HEADER'S enum tp_reason, from 0 on
 unfoldable pub header : List Why
 header =
     -- tools/reasons: header
@@ -80,5 +83,6 @@ header =
     ∷ unknown
     ∷ spent
     ∷ rights
+    ∷ pointer
     -- tools/reasons: end
     ∷ []

@@ -69,7 +69,7 @@ pub trait Operations {
 
 /// The reasons, by number; 0 is no refusal.
 // tools/reasons: names (of include/reasons.txt)
-pub const REASONS: [&str; 26] = [
+pub const REASONS: [&str; 27] = [
     "done",
     "Size",
     "BaseUnaligned",
@@ -96,6 +96,7 @@ pub const REASONS: [&str; 26] = [
     "UnknownTicket",
     "SpentTickets",
     "Rights",
+    "PointerUnaligned",
 ];
 // tools/reasons: end
 
