@@ -75,40 +75,42 @@ struct tp_space {
 
 /* Reasons. In an answer with a reason other than TP_DONE every other field is 0. */
 enum tp_reason {
-    TP_DONE = 0,
+    /* tools/reasons: enum (of reasons.txt) */
+    TP_DONE = 0,               /* done */
     /* what map is asked, in the order of the tests; TP_RIGHTS before them */
-    TP_SIZE = 1,            /* the size is none of the three */
-    TP_BASE_UNALIGNED = 2,  /* the base is no multiple of the size */
-    TP_FRAME_UNALIGNED = 3, /* the frame is no multiple of the size */
-    TP_BASE_RANGE = 4,      /* the range ends beyond 2^48 */
-    TP_FRAME_RANGE = 5,     /* the frame ends beyond 2^52 */
-    TP_FRAME_IN_POOL = 6,   /* the frame and the pool share a byte */
-    TP_OVERLAP = 7,         /* some address of the range is mapped */
-    TP_NO_ROOM = 8,         /* fewer free pages than tables that are missing */
+    TP_SIZE = 1,               /* the size is none of the three */
+    TP_BASE_UNALIGNED = 2,     /* the base is no multiple of the size */
+    TP_FRAME_UNALIGNED = 3,    /* the frame is no multiple of the size */
+    TP_BASE_RANGE = 4,         /* the range ends beyond 2^48 */
+    TP_FRAME_RANGE = 5,        /* the frame ends beyond 2^52 */
+    TP_FRAME_IN_POOL = 6,      /* the frame and the pool share a byte */
+    TP_OVERLAP = 7,            /* some address of the range is mapped */
+    TP_NO_ROOM = 8,            /* fewer free pages than tables that are missing */
     /* unmap and protect */
-    TP_NOTHING_STARTS = 9,  /* no page starts at the base */
+    TP_NOTHING_STARTS = 9,     /* no page starts at the base */
     /* tables or a book that were damaged */
-    TP_STRAY = 10,          /* the way leads to a table that is not of the pool */
-    TP_BAD_LIST = 11,       /* the book lists as free what it can't */
+    TP_STRAY = 10,             /* the way leads to a table that is not of the pool */
+    TP_BAD_LIST = 11,          /* the book lists as free what it can't */
     /* a window, pool or root that makes no sense */
-    TP_ORIGIN_UNALIGNED = 12, /* the origin is no multiple of 4096 */
-    TP_LENGTH_UNALIGNED = 13, /* the window's length is no multiple of 4096 */
-    TP_POOL_UNALIGNED = 14, /* the pool's address is no multiple of 4096 */
-    TP_ROOT_UNALIGNED = 15, /* the root's address is no multiple of 4096 */
-    TP_POOL_LARGE = 16,     /* more pages than a book can list */
-    TP_POOL_SMALL = 17,     /* no room for the book and a root */
-    TP_POOL_OUTSIDE = 18,   /* the pool does not lie in the window */
-    TP_BAD_ROOT = 19,       /* the root is no page of the pool behind its book, or not the book's */
-    TP_NO_BOOK = 20,        /* no pool was made here */
-    TP_OTHER_BOOK = 21,     /* a pool of another size was made here */
-    TP_BAD_BOOK = 22,       /* the book does not add up */
+    TP_ORIGIN_UNALIGNED = 12,  /* the origin is no multiple of 4096 */
+    TP_LENGTH_UNALIGNED = 13,  /* the window's length is no multiple of 4096 */
+    TP_POOL_UNALIGNED = 14,    /* the pool's address is no multiple of 4096 */
+    TP_ROOT_UNALIGNED = 15,    /* the root's address is no multiple of 4096 */
+    TP_POOL_LARGE = 16,        /* more pages than a book can list */
+    TP_POOL_SMALL = 17,        /* no room for the book and a root */
+    TP_POOL_OUTSIDE = 18,      /* the pool does not lie in the window */
+    TP_BAD_ROOT = 19,          /* the root is no page of the pool behind its book, or not the book's */
+    TP_NO_BOOK = 20,           /* no pool was made here */
+    TP_OTHER_BOOK = 21,        /* a pool of another size was made here */
+    TP_BAD_BOOK = 22,          /* the book does not add up */
     /* told */
-    TP_UNKNOWN = 23,        /* a ticket above the present one */
-    TP_SPENT = 24,          /* no ticket is left: 2^62 tables were set aside */
+    TP_UNKNOWN = 23,           /* a ticket above the present one */
+    TP_SPENT = 24,             /* no ticket is left: 2^62 tables were set aside */
     /* map and protect, before all else */
-    TP_RIGHTS = 25,         /* the rights have a bit that means nothing */
+    TP_RIGHTS = 25,            /* the rights have a bit that means nothing */
     /* every call but look-up and entry, before all else: said by this header, not by the library */
-    TP_POINTER_UNALIGNED = 26 /* the pointer and the origin differ modulo 4096 */
+    TP_POINTER_UNALIGNED = 26  /* the pointer and the origin differ modulo 4096 */
+    /* tools/reasons: end */
 };
 
 /* Rights: of a page in map and protect; of the whole way in look-up. */
@@ -262,6 +264,7 @@ TP_CHECKED static inline struct tp_said tp_entry(const struct tp_space *space, u
 /* A reason in words. */
 static inline const char *tp_reason_text(uint64_t reason) {
     switch (reason) {
+    /* tools/reasons: text */
     case TP_DONE: return "done";
     case TP_SIZE: return "the size is none of the three";
     case TP_BASE_UNALIGNED: return "the base is no multiple of the size";
@@ -289,6 +292,7 @@ static inline const char *tp_reason_text(uint64_t reason) {
     case TP_SPENT: return "no ticket is left: 2^62 tables were set aside";
     case TP_RIGHTS: return "the rights have a bit that means nothing";
     case TP_POINTER_UNALIGNED: return "the pointer and the origin differ modulo 4096";
+    /* tools/reasons: end */
     default: return "a reason that this header does not know";
     }
 }

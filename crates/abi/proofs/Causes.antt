@@ -17,7 +17,7 @@ use Rattle.plan.specs.Map as map
 use Rattle.plan.specs.Map.{Placed, shapeOf}
 use Rattle.plan.specs.Protect as protect
 use Rattle.plan.specs.declared.Reason.{Reason}
-use Rattle.plan.specs.declared.Reason.the-variants.{Size, BaseUnaligned, FrameUnaligned, BaseRange, FrameRange, Pool, FrameInPool, Overlap, NoRoom, NothingStarts, Stray, BadList}
+use Rattle.plan.specs.declared.Reason.the-variants.{NothingStarts}
 use Rattle.plan.specs.declared.protects.Change.{Change}
 use Rattle.plan.specs.declared.maps.Shape.the-variants.{Bad}
 use Rattle.plan.specs.declared.unmaps.Removal.{Removal}
@@ -25,13 +25,15 @@ use Rattle.plan.specs.declared.unmaps.Removing.{Removing}
 use Rattle.plan.specs.declared.unmaps.Removing.the-variants as removing
 use Rattle.plan.specs.declared.protects.Changing.{Changing}
 use Rattle.plan.specs.declared.protects.Changing.the-variants as changing
-use Rattle.effect.specs.MapRefused.{Cause, Given}
+use Rattle.effect.specs.MapRefused.{Cause}
 use Rattle.effect.specs.StartsAt.{StartsAt}
-use Rattle.effect.proofs.MapRefused.{map-refused, map-reasons}
+use Rattle.effect.proofs.MapRefused.{map-refused}
 use Rattle.effect.proofs.Exactly.{unmap-exactly, protect-exactly, told-exactly}
 use Rattle.effect.proofs.Wholes.{book-opens}
 use Rattle.tablepath.specs.Answers as the
-use Rattle.abi.specs.Answers.{reasonOf, rightsIn, mapped, unmapped, protected, told}
+use Rattle.abi.specs.ReasonNumbers as why
+use Rattle.abi.specs.ReasonNumbers.{reasonOf, numberOf}
+use Rattle.abi.specs.Answers.{rightsIn, mapped, unmapped, protected, told}
 use Rattle.abi.specs.Calls.{siteOf, askedSite, shapedSite, mapSite, protectSite, ask, createAnswer, mapAnswer, unmapAnswer, protectAnswer, toldAnswer}
 use Rattle.abi.specs.Relied as c
 use Rattle.abi.specs.Relied.{Numbers, spaceOf, asked, granted, WholeAt, Call, Meant, reason, tpCreate, tpMap, tpUnmap, tpProtect, tpTold}
@@ -72,21 +74,6 @@ protect-zero (changing.Refused x) = (λ e. absurd (never-done x e), λ k. let z 
 along : {A B D : Type 0} → A ↔ B → B ↔ D → A ↔ D
 along f g = (λ a. g .0 (f .0 a), λ d. f .1 (g .1 d))
 
-given-small : (y : Reason) → Given y → reasonOf y ≤ 8
-unfolding reasonOf
-given-small Size g = omega arith
-given-small BaseUnaligned g = omega arith
-given-small FrameUnaligned g = omega arith
-given-small BaseRange g = omega arith
-given-small FrameRange g = omega arith
-given-small (Pool y) g = absurd g
-given-small FrameInPool g = omega arith
-given-small Overlap g = omega arith
-given-small NoRoom g = omega arith
-given-small NothingStarts g = absurd g
-given-small Stray g = absurd g
-given-small BadList g = absurd g
-
 -- In a space that is whole ---------------------------------------------------------------------------------------------------------------
 
 module _ (s : List ℕ) (n : Numbers) (w : WholeAt s n) where
@@ -101,37 +88,34 @@ module _ (s : List ℕ) (n : Numbers) (w : WholeAt s n) where
         ↔ ((rights < 8) × Cause (holds s (n .origin)) (spaceOf n) (memory s (n .origin)) (asked base frame size rights) y)
     map-for y = (λ e. let l = map-given s n base frame size rights (reasonOf y) e (never-rights y) in (l, map-by l y .0 e), λ k. map-by (k .0) y .1 (k .1))
 
-    few : rights < 8 → tpMap s n base frame size rights .reason ≤ 8
+    known : rights < 8 → (tpMap s n base frame size rights .reason ≡ 0) ⊎ ((y : Reason) × (tpMap s n base frame size rights .reason ≡ reasonOf y))
     unfolding the.mapAnswer mapped the.mapSaid
-    few l = rw (map-answers n (w .aligned) s base frame size rights l) (go (map.decideOf (holds s (n .origin)) (memory s (n .origin)) (spaceOf n) (asked base frame size rights)) refl)
+    known l = rw (map-answers n (w .aligned) s base frame size rights l) (go (map.decideOf (holds s (n .origin)) (memory s (n .origin)) (spaceOf n) (asked base frame size rights)))
       where
-        go : (d : Placed) → map.decideOf (holds s (n .origin)) (memory s (n .origin)) (spaceOf n) (asked base frame size rights) ≡ d → mapped (the.mapSaid d) .reason ≤ 8
-        go (map.Go p) e = omega arith
-        go (map.Refused y) e = given-small y (map-reasons (w .whole) (asked base frame size rights) y e)
+        go : (d : Placed) → (mapped (the.mapSaid d) .reason ≡ 0) ⊎ ((y : Reason) × (mapped (the.mapSaid d) .reason ≡ reasonOf y))
+        go (map.Go p) = inl refl
+        go (map.Refused y) = inr (y, refl)
 
     pub map-causes : MapReasons (tpMap s n base frame size rights .reason) rights
         (Cause (holds s (n .origin)) (spaceOf n) (memory s (n .origin)) (asked base frame size rights))
-    unfolding reasonOf reason
+    unfolding reason
     map-causes = record {
       rights-mean = (λ e. go e (below-8 rights), λ l. rights-causes s n (c.map base frame size rights) (omega (arith, l)));
-      size = map-for Size;
-      base-unaligned = map-for BaseUnaligned;
-      frame-unaligned = map-for FrameUnaligned;
-      base-range = map-for BaseRange;
-      frame-range = map-for FrameRange;
-      frame-in-pool = map-for FrameInPool;
-      overlap = map-for Overlap;
-      no-room = map-for NoRoom;
-      no-other = few;
+      refused = map-for;
+      known = known;
     }
       where
-        go : tpMap s n base frame size rights .reason ≡ 25 → (rights < 8) ⊎ (8 ≤ rights) → 8 ≤ rights
-        go e (inl l) = absurd (omega (arith, e, few l))
+        go : tpMap s n base frame size rights .reason ≡ numberOf why.rights → (rights < 8) ⊎ (8 ≤ rights) → 8 ≤ rights
+        go e (inl l) = absurd (not-rights (known l))
+          where
+            not-rights : (tpMap s n base frame size rights .reason ≡ 0) ⊎ ((y : Reason) × (tpMap s n base frame size rights .reason ≡ reasonOf y)) → ⊥
+            not-rights (inl z) = omega (arith, e, z)
+            not-rights (inr k) = never-rights (k .0) (sym (k .1) ∙ e)
         go e (inr l) = l
 
   -- UNMAP
   pub unmap-causes : (base : ℕ) → StartReasons (tpUnmap s n base .reason) (StartsAt (settingOf (holds s (n .origin)) (spaceOf n)) (memory s (n .origin)) base)
-  unfolding the.unmapAnswer reasonOf
+  unfolding the.unmapAnswer
   unmap-causes base =
       let k = unmap-exactly (w .whole) base in
       rw (unmap-answers n (w .aligned) s base) (record {
@@ -142,7 +126,7 @@ module _ (s : List ℕ) (n : Numbers) (w : WholeAt s n) where
   -- PROTECT
   module _ (base rights : ℕ) where
     starts-by : rights < 8 → StartReasons (tpProtect s n base rights .reason) (StartsAt (settingOf (holds s (n .origin)) (spaceOf n)) (memory s (n .origin)) base)
-    unfolding the.protectAnswer reasonOf
+    unfolding the.protectAnswer
     starts-by l =
         let k = protect-exactly (w .whole) base (granted rights) in
         rw (protect-answers n (w .aligned) s base rights l) (record {
@@ -150,11 +134,11 @@ module _ (s : List ℕ) (n : Numbers) (w : WholeAt s n) where
           nothing-starts = along (protect-number _ NothingStarts) (k .refused);
         })
 
-    not-rights : rights < 8 → tpProtect s n base rights .reason ≢ 25
+    not-rights : rights < 8 → tpProtect s n base rights .reason ≢ numberOf why.rights
     unfolding the.protectAnswer protected the.protectSaid
     not-rights l = rw (protect-answers n (w .aligned) s base rights l) (go (protect.decideOf (holds s (n .origin)) (memory s (n .origin)) (spaceOf n) base (granted rights)))
       where
-        go : (d : Changing) → protected (the.protectSaid d) .reason ≢ 25
+        go : (d : Changing) → protected (the.protectSaid d) .reason ≢ numberOf why.rights
         go (changing.Go p) e = omega (arith, e)
         go (changing.Refused y) e = never-rights y e
 
@@ -163,10 +147,10 @@ module _ (s : List ℕ) (n : Numbers) (w : WholeAt s n) where
     protect-causes = record {
       rights-mean = (λ e. go e (below-8 rights), λ l. rights-causes s n (c.protect base rights) (omega (arith, l)));
       done = (λ e. let l = protect-given s n base rights 0 e (omega arith) in (l, starts-by l .done .0 e), λ k. starts-by (k .0) .done .1 (k .1));
-      nothing-starts = (λ e. let l = protect-given s n base rights 9 e (omega arith) in (l, starts-by l .nothing-starts .0 e), λ k. starts-by (k .0) .nothing-starts .1 (k .1));
+      nothing-starts = (λ e. let l = protect-given s n base rights (reasonOf NothingStarts) e (never-rights NothingStarts) in (l, starts-by l .nothing-starts .0 e), λ k. starts-by (k .0) .nothing-starts .1 (k .1));
     }
       where
-        go : tpProtect s n base rights .reason ≡ 25 → (rights < 8) ⊎ (8 ≤ rights) → 8 ≤ rights
+        go : tpProtect s n base rights .reason ≡ numberOf why.rights → (rights < 8) ⊎ (8 ≤ rights) → 8 ≤ rights
         go e (inl l) = absurd (not-rights l e)
         go e (inr l) = l
 
@@ -189,12 +173,12 @@ module _ (s : List ℕ) (n : Numbers) (w : WholeAt s n) where
       zero due.Unknown = (λ e. absurd (omega arith), λ x. none (cc (x .1)))
       zero due.Spent = (λ e. absurd (omega arith), λ x. none (cc (x .1)))
 
-      strange : (d : Due) → (told (the.dueSaid d) .reason ≡ 23) ↔ (d ≡ due.Unknown)
+      strange : (d : Due) → (told (the.dueSaid d) .reason ≡ numberOf why.unknown) ↔ (d ≡ due.Unknown)
       strange (due.Pages k) = (λ e. absurd (omega arith), λ e. none cc)
       strange due.Unknown = (λ e. refl, λ e. refl)
       strange due.Spent = (λ e. absurd (omega arith), λ e. none cc)
 
-      late : (d : Due) → (told (the.dueSaid d) .reason ≡ 24) ↔ (d ≡ due.Spent)
+      late : (d : Due) → (told (the.dueSaid d) .reason ≡ numberOf why.spent) ↔ (d ≡ due.Spent)
       late (due.Pages k) = (λ e. absurd (omega arith), λ e. none cc)
       late due.Unknown = (λ e. absurd (omega arith), λ e. none cc)
       late due.Spent = (λ e. refl, λ e. refl)
@@ -223,8 +207,8 @@ module _ (s : List ℕ) (n : Numbers) where
   pub site-causes : (x : Call) → Meant x → Shaped x → SiteReasons (reason s n x) n
   unfolding siteOf
   site-causes x m l = record {
-    pool-unaligned = λ p. refused-says x m l 14 (rw (ne-eqb _ _ p));
-    root-unaligned = λ p r. refused-says x m l 15 (rw (eq-eqb _ _ p, ne-eqb _ _ r));
+    pool-unaligned = λ p. refused-says x m l (numberOf why.pool-unaligned) (rw (ne-eqb _ _ p));
+    root-unaligned = λ p r. refused-says x m l (numberOf why.root-unaligned) (rw (eq-eqb _ _ p, ne-eqb _ _ r));
   }
 
 pub create-causes : (s : List ℕ) (origin pool pages : ℕ) → CreateReasons (tpCreate s origin pool pages .reason) (length s) origin pool

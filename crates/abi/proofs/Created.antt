@@ -23,7 +23,8 @@ use Rattle.effect.proofs.Wholes.{root-in}
 use Rattle.tablepath.proofs.Witness.{nothing-yet}
 use Rattle.tablepath.specs.Looks.{WholeBytes}
 use Rattle.tablepath.proofs.Wholes.{create-whole}
-use Rattle.abi.specs.Answers.{poolReason, created, lookedUp}
+use Rattle.abi.specs.ReasonNumbers.{poolReason, numberOf, pool-unaligned}
+use Rattle.abi.specs.Answers.{created, lookedUp}
 use Rattle.abi.specs.Calls as call
 use Rattle.abi.specs.Calls.{createAnswer}
 use Rattle.abi.specs.Relied.{WholeAt, tpCreate, createLeaves, tpLookUp, nothing, newNumbers, CreateDone}
@@ -41,7 +42,7 @@ module _ (s : List ℕ) (origin pool pages : ℕ) where
   unfolding createAnswer created createdOf createdIn mayCreate poolReason fits
   create-answers a = rw (eq-eqb _ _ a) (go (eqb (origin % 4096) 0) (eqb (length s % 4096) 0))
     where
-      go : (x y : Bool) → cond x (cond y (created (createdIn (pool / 4096) pages (fits x y))) (record { reason = 13; root = 0 })) (record { reason = 12; root = 0 })
+      go : (x y : Bool) → cond x (cond y (created (createdIn (pool / 4096) pages (fits x y))) (record { reason = poolReason LengthUnaligned; root = 0 })) (record { reason = poolReason OriginUnaligned; root = 0 })
           ≡ created (createdIn (pool / 4096) pages (fits x y))
       go true true = refl
       go true false = refl
@@ -64,11 +65,11 @@ module _ (s : List ℕ) (origin pool pages : ℕ) where
 
   -- any other pool is refused
   done-aligned : tpCreate s origin pool pages .reason ≡ 0 → pool % 4096 ≡ 0
-  unfolding createAnswer
+  unfolding createAnswer poolReason
   done-aligned e = go (eqb (origin % 4096) 0) (eqb (length s % 4096) 0) (eqb (pool % 4096) 0) refl e
     where
       go : (x y z : Bool) → eqb (pool % 4096) 0 ≡ z
-          → cond x (cond y (cond z (created (createdOf (length s) (holds s origin) origin (pool / 4096) pages)) (record { reason = 14; root = 0 })) (record { reason = 13; root = 0 })) (record { reason = 12; root = 0 }) .reason ≡ 0
+          → cond x (cond y (cond z (created (createdOf (length s) (holds s origin) origin (pool / 4096) pages)) (record { reason = numberOf pool-unaligned; root = 0 })) (record { reason = poolReason LengthUnaligned; root = 0 })) (record { reason = poolReason OriginUnaligned; root = 0 }) .reason ≡ 0
           → pool % 4096 ≡ 0
       go x y true f k = eqb-true _ _ f
       go true true false f k = absurd (omega arith)

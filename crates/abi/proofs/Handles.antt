@@ -14,6 +14,7 @@ use Rattle.plan.specs.declared.maps.Shape.{Shape}
 use Rattle.plan.specs.declared.maps.Shape.the-variants.{Level, Bad}
 use Rattle.tablepath.specs.Handles as the
 use Rattle.tablepath.proofs.Handles.{other-numbers, other-first, others-kept}
+use Rattle.abi.specs.ReasonNumbers.{numberOf, pool-unaligned, root-unaligned}
 use Rattle.abi.specs.Answers.{rightsIn, mapped, unmapped, protected, told}
 use Rattle.abi.specs.Calls.{siteOf, shapedSite, askedSite, ask, mapAnswer, unmapAnswer, protectAnswer, toldAnswer}
 use Rattle.abi.specs.Relied as c
@@ -72,8 +73,8 @@ module _ (s : List ℕ) (n : Numbers) where
     where
       go : Dec (n .pool % 4096 ≡ 0) → Dec (n .root % 4096 ≡ 0) → Alignment
       go (yes a) (yes b) = aligned (record { pool = a; root = b })
-      go (yes a) (no b) = unaligned 15 (λ e. omega arith) (rw (eq-eqb _ _ a, ne-eqb _ _ b))
-      go (no a) b = unaligned 14 (λ e. omega arith) (rw (ne-eqb _ _ a))
+      go (yes a) (no b) = unaligned (numberOf root-unaligned) (λ e. omega arith) (rw (eq-eqb _ _ a, ne-eqb _ _ b))
+      go (no a) b = unaligned (numberOf pool-unaligned) (λ e. omega arith) (rw (ne-eqb _ _ a))
 
   rejects : (Aligned n → (x : Call) → the.Rejected (holds s (n .origin)) (memory s (n .origin)) (spaceOf n) (callOf x)) → (x : Call) → Rejected s n x
   rejects f x = go alignment

@@ -7,6 +7,8 @@ use mathlib.Core.Path.{_≡_, refl, sym, ap, _∙_}
 use native.Mathlib.Omega.{arith}
 use lib.Dec.{ltb}
 use borrow.Author.Tests.{lt-ltb, le-ltb, ltb-true, ltb-false}
+use Rattle.abi.specs.ReasonNumbers as why
+use Rattle.abi.specs.ReasonNumbers.{numberOf}
 use Rattle.abi.specs.Answers.{rightsIn}
 use Rattle.abi.specs.Calls.{siteOf, askedSite, ask, rightsSite, bytesAfter, mapAnswer, mapWrites, protectAnswer, protectWrites}
 use Rattle.abi.specs.Relied as c
@@ -25,13 +27,13 @@ pub meant : (rights : ℕ) (x : Sited) → rights < 8 → rightsSite rights x �
 unfolding rightsSite
 meant rights x l = rw (lt-ltb rights 8 l)
 
-pub meaningless : (rights : ℕ) (x : Sited) → 8 ≤ rights → rightsSite rights x ≡ Refused 25
+pub meaningless : (rights : ℕ) (x : Sited) → 8 ≤ rights → rightsSite rights x ≡ Refused (numberOf why.rights)
 unfolding rightsSite
 meaningless rights x l = rw (le-ltb rights 8 l)
 
 module _ (s : List ℕ) (n : Numbers) where
   -- THE REASON
-  pub rights-causes : (x : Call) → ¬ Meant x → reason s n x ≡ 25
+  pub rights-causes : (x : Call) → ¬ Meant x → reason s n x ≡ numberOf why.rights
   unfolding reason mapAnswer protectAnswer
   rights-causes (c.map base frame size rights) k =
       ap (λ x. mapAnswer s (ask base frame size rights) x .reason)
@@ -58,7 +60,7 @@ module _ (s : List ℕ) (n : Numbers) where
   meant-or-same (c.told ticket) = inl tt
 
   -- any other answer is given to rights that mean something
-  pub map-given : (base frame size rights k : ℕ) → tpMap s n base frame size rights .reason ≡ k → k ≢ 25 → rights < 8
+  pub map-given : (base frame size rights k : ℕ) → tpMap s n base frame size rights .reason ≡ k → k ≢ numberOf why.rights → rights < 8
   unfolding reason
   map-given base frame size rights k e other = go (below-8 rights)
     where
@@ -66,7 +68,7 @@ module _ (s : List ℕ) (n : Numbers) where
       go (inl l) = l
       go (inr l) = absurd (other (sym e ∙ rights-causes (c.map base frame size rights) (omega (arith, l))))
 
-  pub protect-given : (base rights k : ℕ) → tpProtect s n base rights .reason ≡ k → k ≢ 25 → rights < 8
+  pub protect-given : (base rights k : ℕ) → tpProtect s n base rights .reason ≡ k → k ≢ numberOf why.rights → rights < 8
   unfolding reason
   protect-given base rights k e other = go (below-8 rights)
     where

@@ -28,6 +28,8 @@ use Rattle.plan.specs.declared.unmaps.Removing.the-variants as removing
 use Rattle.plan.specs.declared.protects.Changing.{Changing}
 use Rattle.plan.specs.declared.protects.Changing.the-variants as changing
 use Rattle.tablepath.specs.Answers as the
+use Rattle.pool.specs.declared.Reason.the-variants.{OriginUnaligned, LengthUnaligned}
+use Rattle.abi.specs.ReasonNumbers.{poolReason, numberOf, pool-unaligned}
 use Rattle.abi.specs.Answers.{rightsIn, created, mapped, unmapped, protected, told}
 use Rattle.abi.specs.Calls as call
 use Rattle.abi.specs.Calls.{siteOf, mapSite, protectSite, ask, bytesAfter, createAnswer, mapAnswer, mapBytes, unmapAnswer, unmapBytes, protectAnswer, protectBytes, toldAnswer, toldBytes}
@@ -112,8 +114,8 @@ module _ (s : List ℕ) where
     where
       answer : Bool → Bool → Bool → Fit → Created
       answer x y z f =
-          cond x (cond y (cond z (created (createdIn (pool / 4096) pages f)) (record { reason = 14; root = 0 })) (record { reason = 13; root = 0 }))
-          (record { reason = 12; root = 0 })
+          cond x (cond y (cond z (created (createdIn (pool / 4096) pages f)) (record { reason = numberOf pool-unaligned; root = 0 })) (record { reason = poolReason LengthUnaligned; root = 0 }))
+          (record { reason = poolReason OriginUnaligned; root = 0 })
 
       bytes : Bool → Bool → Bool → Fit → List ℕ
       bytes x y z f = carried s origin (cond x (cond y (cond z (createIn (newSpace origin (pool / 4096) pages) f) []) []) [])

@@ -24,10 +24,11 @@ use Rattle.tablepath.specs.declared.Protected as ofProtect
 use Rattle.tablepath.specs.declared.Protected.the-variants as protect
 use Rattle.tablepath.specs.declared.Report.{Report}
 use Rattle.tablepath.specs.declared.Report.the-variants as report
-use Rattle.abi.specs.Answers.{reasonOf, poolReason, rightsWord, created, mapped, unmapped, protected, told, uncounted, counted, lookedUp}
+use Rattle.abi.specs.ReasonNumbers.{reasonOf, poolReason, numberOf}
+use Rattle.abi.specs.Answers.{rightsWord, created, mapped, unmapped, protected, told, uncounted, counted, lookedUp}
 use Rattle.abi.specs.Relied.{Numbers, Aligned, spaceOf, granted, asked, tpMap, tpUnmap, tpProtect, tpTold, tpState, tpLookUp}
-use Rattle.abi.specs.Reasons as why
-use Rattle.abi.specs.Reasons.{CreateSays, MapSays, UnmapSays, ProtectSays, ToldSays, StateSays, LookUpSays, numberOf}
+use Rattle.abi.specs.ReasonNumbers as why
+use Rattle.abi.specs.Reasons.{CreateSays, MapSays, UnmapSays, ProtectSays, ToldSays, StateSays, LookUpSays}
 use Rattle.abi.proofs.Named.{rights-granted, map-answers, unmap-answers, protect-answers, told-answers, state-answers}
 use Rattle.abi.proofs.Reasons.{one-number, one-reason, one-pool-reason, never-done, pool-never-done}
 use Rattle.abi.proofs.Walked.{rights-told}
@@ -63,11 +64,11 @@ protected-says (protect.Refused z) = record { done = λ e. absurd (never-done z 
 
 -- a reason of the pool is neither of told's own
 not-told : (y : inPool.Reason) (x : why.Why) → poolReason y ≡ numberOf x → why.refused (plan.Pool y) ≡ x
-unfolding numberOf reasonOf
+unfolding reasonOf
 not-told y x e = one-number (why.refused (plan.Pool y)) x e
 
 told-struct : (a : Report) → ToldSays (told a) a
-unfolding told numberOf
+unfolding told
 told-struct (report.Released k) = record {
   done = λ e. refl;
   unknown = λ e. absurd (omega arith);

@@ -13,7 +13,9 @@ use Rattle.plan.specs.declared.direct.Once.the-variants.{Done, Overlap, Unsaid}
 use Rattle.plan.proofs.Placings.{placing-here}
 use Rattle.tablepath.specs.Answers as the
 use Rattle.tablepath.proofs.Handed.{here-answer, here-writes}
-use Rattle.abi.specs.Answers.{reasonOf, mapped}
+use Rattle.plan.specs.declared.Reason.the-variants as plan
+use Rattle.abi.specs.ReasonNumbers.{reasonOf}
+use Rattle.abi.specs.Answers.{mapped}
 use Rattle.abi.specs.Calls.{siteOf, askedSite, bytesAfter, InOrder, mapAnswer, mapWrites, AtOnce}
 use Rattle.abi.specs.declared.answers.Mapped.{Mapped}
 use Rattle.abi.specs.declared.sites.Sited.{Sited}
@@ -39,11 +41,11 @@ module _ (q : Asked) (origin pool pages root left rest : ℕ) (s after : List �
           }
       go (Refused y) e k = let z : _≡_ {A = ℕ} 0 1 = cc (k .0) in absurd (omega arith)
 
-  pub overlap : AtOnce left rest s after q (siteOf origin pool pages root) Overlap → Answered (record { reason = 7; tables = 0 })
+  pub overlap : AtOnce left rest s after q (siteOf origin pool pages root) Overlap → Answered (record { reason = reasonOf plan.Overlap; tables = 0 })
   unfolding mapped reasonOf the.mapAnswer the.mapSaid the.mapWrites didOf
   overlap = go (siteOf origin pool pages root) refl
     where
-      go : (x : Sited) → siteOf origin pool pages root ≡ x → AtOnce left rest s after q x Overlap → Answered (record { reason = 7; tables = 0 })
+      go : (x : Sited) → siteOf origin pool pages root ≡ x → AtOnce left rest s after q x Overlap → Answered (record { reason = reasonOf plan.Overlap; tables = 0 })
       go (At sp) e k =
           record {
             answer = sym (answer-asked q origin pool pages root s sp e ∙ rw (k .0));

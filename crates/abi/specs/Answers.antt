@@ -6,14 +6,10 @@ use Rattle.entry.specs.Words.{flag}
 use Rattle.entry.specs.declared.Rights.{Rights}
 use Rattle.walk.specs.declared.Found.{Found}
 use Rattle.walk.specs.declared.Found.the-variants.{Page, Nothing, Outside}
-use Rattle.pool.specs.declared.Reason as inPool
-use Rattle.pool.specs.declared.Reason.the-variants as pool
 use Rattle.pool.specs.declared.Created as ofPool
 use Rattle.pool.specs.declared.Created.the-variants as create
 use Rattle.pool.specs.declared.moment.Stated.{Stated}
 use Rattle.pool.specs.declared.moment.Stated.the-variants as state
-use Rattle.plan.specs.declared.Reason.{Reason}
-use Rattle.plan.specs.declared.Reason.the-variants as plan
 use Rattle.tablepath.specs.declared.Mapped as ofMap
 use Rattle.tablepath.specs.declared.Mapped.the-variants as map
 use Rattle.tablepath.specs.declared.Unmapped as ofUnmap
@@ -22,6 +18,7 @@ use Rattle.tablepath.specs.declared.Protected as ofProtect
 use Rattle.tablepath.specs.declared.Protected.the-variants as protect
 use Rattle.tablepath.specs.declared.Report.{Report}
 use Rattle.tablepath.specs.declared.Report.the-variants as report
+use Rattle.abi.specs.ReasonNumbers.{reasonOf, poolReason, numberOf, unknown, spent}
 use Rattle.abi.specs.declared.answers.Created.{Created}
 use Rattle.abi.specs.declared.answers.Mapped.{Mapped}
 use Rattle.abi.specs.declared.answers.Unmapped.{Unmapped}
@@ -38,33 +35,6 @@ rightsWord r = flag (r .writable) + 2 * flag (r .user) + 4 * flag (r .noexec)
 -- by the three lowest bits
 unfoldable pub rightsIn : ℕ → Rights
 rightsIn w = record { writable = eqb (w % 2) 1; user = eqb (w / 2 % 2) 1; noexec = eqb (w / 4 % 2) 1 }
-
--- Reasons: 0 is done; 14, 15 and 25 are in Calls, 23 and 24 in `told` below ------------------------------------------------------
-
-unfoldable pub poolReason : inPool.Reason → ℕ
-poolReason pool.OriginUnaligned = 12
-poolReason pool.LengthUnaligned = 13
-poolReason pool.PoolLarge = 16
-poolReason pool.PoolSmall = 17
-poolReason pool.PoolOutside = 18
-poolReason pool.BadRoot = 19
-poolReason pool.NoBook = 20
-poolReason pool.OtherBook = 21
-poolReason pool.BadBook = 22
-
-unfoldable pub reasonOf : Reason → ℕ
-reasonOf plan.Size = 1
-reasonOf plan.BaseUnaligned = 2
-reasonOf plan.FrameUnaligned = 3
-reasonOf plan.BaseRange = 4
-reasonOf plan.FrameRange = 5
-reasonOf (plan.Pool y) = poolReason y
-reasonOf plan.FrameInPool = 6
-reasonOf plan.Overlap = 7
-reasonOf plan.NoRoom = 8
-reasonOf plan.NothingStarts = 9
-reasonOf plan.Stray = 10
-reasonOf plan.BadList = 11
 
 -- Answers -----------------------------------------------------------------------------------------------------------------------
 
@@ -91,8 +61,8 @@ protected (protect.Refused y) = record { reason = reasonOf y; frame = 0; size = 
 
 unfoldable pub told : Report → Told
 told (report.Released k) = record { reason = 0; released = k }
-told report.Unknown = record { reason = 23; released = 0 }
-told report.Spent = record { reason = 24; released = 0 }
+told report.Unknown = record { reason = numberOf unknown; released = 0 }
+told report.Spent = record { reason = numberOf spent; released = 0 }
 told (report.Refused y) = record { reason = poolReason y; released = 0 }
 
 unfoldable pub uncounted : ℕ → Counts

@@ -11,6 +11,7 @@ use Rattle.entry.specs.declared.Rights.{Rights}
 use Rattle.walk.specs.Walk.{walk}
 use Rattle.pool.specs.State.{stateOf}
 use Rattle.pool.specs.declared.Space.{Space}
+use Rattle.pool.specs.declared.Reason.the-variants.{OriginUnaligned, LengthUnaligned}
 use Rattle.plan.specs.Map.{shapeOf, decideOf}
 use Rattle.plan.specs.AtOnce as plan
 use Rattle.plan.specs.declared.direct.Once.{Once}
@@ -20,7 +21,9 @@ use Rattle.plan.specs.declared.maps.Shape.{Shape}
 use Rattle.plan.specs.declared.maps.Shape.the-variants.{Level, Bad}
 use Rattle.tablepath.specs.Answers as the
 use Rattle.tablepath.specs.Looks.{inWindow}
-use Rattle.abi.specs.Answers.{reasonOf, rightsIn, created, mapped, unmapped, protected, told, uncounted, counted, lookedUp}
+use Rattle.abi.specs.ReasonNumbers as why
+use Rattle.abi.specs.ReasonNumbers.{reasonOf, poolReason, numberOf, pool-unaligned, root-unaligned}
+use Rattle.abi.specs.Answers.{rightsIn, created, mapped, unmapped, protected, told, uncounted, counted, lookedUp}
 use Rattle.abi.specs.declared.answers.Created.{Created}
 use Rattle.abi.specs.declared.answers.Mapped.{Mapped}
 use Rattle.abi.specs.declared.answers.Unmapped.{Unmapped}
@@ -38,8 +41,8 @@ siteOf origin pool pages root =
     cond (eqb (pool % 4096) 0)
     (cond (eqb (root % 4096) 0)
     (At (record { origin = origin; first = pool / 4096; pages = pages; root = root / 4096 }))
-    (Refused 15))
-    (Refused 14)
+    (Refused (numberOf root-unaligned)))
+    (Refused (numberOf pool-unaligned))
 
 unfoldable pub shapedSite : Shape → Sited → Sited
 shapedSite (Level n) s = s
@@ -62,7 +65,7 @@ ask base frame size rights = record { base = base; frame = frame; size = size; r
 
 -- before all else, map and protect look at the rights: bits above the third mean nothing
 unfoldable pub rightsSite : ℕ → Sited → Sited
-rightsSite rights s = cond (ltb rights 8) s (Refused 25)
+rightsSite rights s = cond (ltb rights 8) s (Refused (numberOf why.rights))
 
 abbrev pub mapSite : ℕ → ℕ → ℕ → ℕ → ℕ → ℕ → ℕ → ℕ → Sited
 mapSite origin pool pages root base frame size rights = rightsSite rights (askedSite origin pool pages root (ask base frame size rights))
@@ -90,9 +93,9 @@ createAnswer s origin pool pages =
     (cond (eqb (length s % 4096) 0)
     (cond (eqb (pool % 4096) 0)
     (created (the.createAnswer s origin (pool / 4096) pages))
-    (record { reason = 14; root = 0 }))
-    (record { reason = 13; root = 0 }))
-    (record { reason = 12; root = 0 })
+    (record { reason = numberOf pool-unaligned; root = 0 }))
+    (record { reason = poolReason LengthUnaligned; root = 0 }))
+    (record { reason = poolReason OriginUnaligned; root = 0 })
 
 unfoldable pub createWrites : List ℕ → ℕ → ℕ → ℕ → List Write
 createWrites s origin pool pages =

@@ -1,3 +1,4 @@
+pub mod ReasonNumbers
 pub mod Answers
 pub mod Calls
 pub mod Entries

@@ -96,49 +96,12 @@ pub fn rights(w: u64) -> Rights
     }
 }
 
-// The number of a reason that the pool has.
-fn pool_reason(r: pool::Reason) -> u64
-    ensures { λ n. ⌜ n ≡ the.poolReason r ⌝ }
-{
-    match r {
-        pool::Reason::OriginUnaligned => 12,
-        pool::Reason::LengthUnaligned => 13,
-        pool::Reason::PoolLarge => 16,
-        pool::Reason::PoolSmall => 17,
-        pool::Reason::PoolOutside => 18,
-        pool::Reason::BadRoot => 19,
-        pool::Reason::NoBook => 20,
-        pool::Reason::OtherBook => 21,
-        pool::Reason::BadBook => 22,
-    }
-}
-
-// The number of a reason.
-pub fn reason(r: plan::Reason) -> u64
-    ensures { λ n. ⌜ n ≡ the.reasonOf r ⌝ }
-{
-    match r {
-        plan::Reason::Size => 1,
-        plan::Reason::BaseUnaligned => 2,
-        plan::Reason::FrameUnaligned => 3,
-        plan::Reason::BaseRange => 4,
-        plan::Reason::FrameRange => 5,
-        plan::Reason::Pool(y) => pool_reason(y),
-        plan::Reason::FrameInPool => 6,
-        plan::Reason::Overlap => 7,
-        plan::Reason::NoRoom => 8,
-        plan::Reason::NothingStarts => 9,
-        plan::Reason::Stray => 10,
-        plan::Reason::BadList => 11,
-    }
-}
-
 pub fn of_create(c: pool::Created) -> Created
     ensures { λ r. ⌜ (the.Low c → r ≡ the.created c) ⌝ }
 {
     match c {
         pool::Created::Refused(y) => Created {
-            reason: pool_reason(y),
+            reason: crate::numbers::pool_reason(y),
             root: 0,
         },
         pool::Created::Root(p) => {
@@ -158,7 +121,7 @@ pub fn of_map(a: tablepath::Mapped) -> Mapped
 {
     match a {
         tablepath::Mapped::Refused(y) => Mapped {
-            reason: reason(y),
+            reason: crate::numbers::reason(y),
             tables: 0,
         },
         tablepath::Mapped::Done(n) => Mapped {
@@ -173,7 +136,7 @@ pub fn of_unmap(a: tablepath::Unmapped) -> Unmapped
 {
     match a {
         tablepath::Unmapped::Refused(y) => Unmapped {
-            reason: reason(y),
+            reason: crate::numbers::reason(y),
             frame: 0,
             size: 0,
             aside: 0,
@@ -194,7 +157,7 @@ pub fn of_protect(a: tablepath::Protected) -> Protected
 {
     match a {
         tablepath::Protected::Refused(y) => Protected {
-            reason: reason(y),
+            reason: crate::numbers::reason(y),
             frame: 0,
             size: 0,
             ticket: 0,
@@ -213,15 +176,15 @@ pub fn of_told(a: tablepath::Report) -> Told
 {
     match a {
         tablepath::Report::Refused(y) => Told {
-            reason: pool_reason(y),
+            reason: crate::numbers::pool_reason(y),
             released: 0,
         },
         tablepath::Report::Unknown => Told {
-            reason: 23,
+            reason: crate::numbers::UNKNOWN,
             released: 0,
         },
         tablepath::Report::Spent => Told {
-            reason: 24,
+            reason: crate::numbers::SPENT,
             released: 0,
         },
         tablepath::Report::Released(k) => Told {
@@ -249,7 +212,7 @@ pub fn of_state(a: pool::Stated) -> Counts
     ensures { λ r. ⌜ r ≡ the.counted a ⌝ }
 {
     match a {
-        pool::Stated::Refused(y) => uncounted(pool_reason(y)),
+        pool::Stated::Refused(y) => uncounted(crate::numbers::pool_reason(y)),
         pool::Stated::Counts(c) => Counts {
             reason: 0,
             pages: c.pages,

@@ -11,6 +11,7 @@ use word::Cell;
 mod answers;
 mod entries;
 mod maps;
+mod numbers;
 mod sites;
 mod up_to;
 

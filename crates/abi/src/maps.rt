@@ -88,7 +88,7 @@ fn sized(
             tables: 0,
         },
         Once::Overlap => Mapped {
-            reason: 7,
+            reason: crate::numbers::OVERLAP,
             tables: 0,
         },
         Once::Unsaid => whole(
@@ -124,7 +124,7 @@ pub fn map_up_to(
 {
     if 8 <= rights {
         return Mapped {
-            reason: 25,
+            reason: crate::numbers::RIGHTS,
             tables: 0,
         };
     }

@@ -16,10 +16,10 @@ pub fn site(origin: u64, pool: u64, pages: u64, root: u64) -> Sited
     ensures { λ r. ⌜ r ≡ call.siteOf origin pool pages root ⌝ }
 {
     if pool % 4096 != 0 {
-        return Sited::Refused(14);
+        return Sited::Refused(crate::numbers::POOL_UNALIGNED);
     }
     if root % 4096 != 0 {
-        return Sited::Refused(15);
+        return Sited::Refused(crate::numbers::ROOT_UNALIGNED);
     }
     Sited::At(Space {
         origin: origin,
@@ -36,7 +36,7 @@ pub fn misplaced(q: Asked, y: u64) -> u64
 {
     let s = plan::shaped(q.size, q.base, q.frame);
     match s {
-        Shape::Bad(r) => crate::answers::reason(r),
+        Shape::Bad(r) => crate::numbers::reason(r),
         Shape::Level(n) => y,
     }
 }

@@ -16,19 +16,19 @@ pub fn create_up_to(mem: &mut [u8], left: &mut u64, origin: u64, pool: u64, page
 {
     if origin % 4096 != 0 {
         return Created {
-            reason: 12,
+            reason: crate::numbers::ORIGIN_UNALIGNED,
             root: 0,
         };
     }
     if mem.len() % 4096 != 0 {
         return Created {
-            reason: 13,
+            reason: crate::numbers::LENGTH_UNALIGNED,
             root: 0,
         };
     }
     if pool % 4096 != 0 {
         return Created {
-            reason: 14,
+            reason: crate::numbers::POOL_UNALIGNED,
             root: 0,
         };
     }
@@ -82,7 +82,7 @@ pub fn protect_up_to(
 {
     if 8 <= rights {
         return Protected {
-            reason: 25,
+            reason: crate::numbers::RIGHTS,
             frame: 0,
             size: 0,
             ticket: 0,

@@ -3,6 +3,7 @@ use entry::Rights;
 use plan::Asked;
 use pool::Created;
 use pool::Space;
+use reasons::not_released;
 use reasons::pool_refused;
 use reasons::refused;
 use tablepath::Gone;
@@ -118,15 +119,6 @@ pub fn protect(mem: &mut [u8], space: Space, base: u64, rights: Rights) {
             refused(r);
             unchanged(mem, &old);
         }
-    }
-}
-
-fn not_released(r: Report) {
-    match r {
-        Report::Released(_) => {}
-        Report::Unknown => say::text(b"    refused: a ticket above the present one"),
-        Report::Spent => say::text(b"    refused: no ticket is left"),
-        Report::Refused(p) => pool_refused(p),
     }
 }
 

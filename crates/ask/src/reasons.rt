@@ -1,45 +1,56 @@
-// Every refusal in words.
+// Every refusal in words: those of include/reasons.txt, by tools/reasons.
 use plan::Reason;
+use tablepath::Report;
 
 // Why an operation was refused.
 pub fn refused(r: Reason) {
     match r {
         Reason::Pool(p) => pool_refused(p),
-        Reason::Size => size(),
+        // tools/reasons: plan
+        Reason::Size => because(b"the size is none of the three"),
         Reason::BaseUnaligned => because(b"the base is no multiple of the size"),
         Reason::FrameUnaligned => because(b"the frame is no multiple of the size"),
-        Reason::BaseRange => because(b"the range does not end at 2^48 or below"),
-        Reason::FrameRange => because(b"the frame does not end at 2^52 or below"),
-        Reason::FrameInPool => because(b"the frame overlaps the pool, where the tables are"),
-        Reason::Overlap => because(b"some address of the range is mapped already"),
-        Reason::NoRoom => because(b"no room: fewer pages are free than tables are missing"),
-        Reason::NothingStarts => because(b"no page starts there"),
-        Reason::Stray => because(
-            b"damaged tables: the way leads to a page that is no table of this pool",
-        ),
-        Reason::BadList => because(b"damaged book: it lists as free what can be no table"),
+        Reason::BaseRange => because(b"the range ends beyond 2^48"),
+        Reason::FrameRange => because(b"the frame ends beyond 2^52"),
+        Reason::FrameInPool => because(b"the frame and the pool share a byte"),
+        Reason::Overlap => because(b"some address of the range is mapped"),
+        Reason::NoRoom => because(b"fewer free pages than tables that are missing"),
+        Reason::NothingStarts => because(b"no page starts at the base"),
+        Reason::Stray => because(b"the way leads to a table that is not of the pool"),
+        Reason::BadList => because(b"the book lists as free what it can't"),
+        // tools/reasons: end
     }
 }
 
 // Why a window, a pool, a root or a book is refused.
 pub fn pool_refused(r: pool::Reason) {
     match r {
-        pool::Reason::OriginUnaligned => because(b"the window does not begin at a page boundary"),
-        pool::Reason::LengthUnaligned => because(b"the window does not end at a page boundary"),
-        pool::Reason::PoolLarge => because(b"a pool has at most 2^32 pages"),
-        pool::Reason::PoolSmall => because(b"too few pages for a book, a root and one table"),
+        // tools/reasons: pool
+        pool::Reason::OriginUnaligned => because(b"the origin is no multiple of 4096"),
+        pool::Reason::LengthUnaligned => because(b"the window's length is no multiple of 4096"),
+        pool::Reason::PoolLarge => because(b"more pages than a book can list"),
+        pool::Reason::PoolSmall => because(b"no room for the book and a root"),
         pool::Reason::PoolOutside => because(b"the pool does not lie in the window"),
         pool::Reason::BadRoot => because(
             b"the root is no page of the pool behind its book, or not the book's",
         ),
-        pool::Reason::NoBook => because(b"there is no book: no pool was created there"),
-        pool::Reason::OtherBook => because(b"the book is of a pool of another size"),
-        pool::Reason::BadBook => because(b"damaged book: its counts cannot be"),
+        pool::Reason::NoBook => because(b"no pool was made here"),
+        pool::Reason::OtherBook => because(b"a pool of another size was made here"),
+        pool::Reason::BadBook => because(b"the book does not add up"),
+        // tools/reasons: end
     }
 }
 
-fn size() {
-    because(b"the size is none of 4 KiB, 2 MiB and 1 GiB");
+// Why a report is refused.
+pub fn not_released(r: Report) {
+    match r {
+        Report::Released(_) => {}
+        Report::Refused(p) => pool_refused(p),
+        // tools/reasons: told
+        Report::Unknown => because(b"a ticket above the present one"),
+        Report::Spent => because(b"no ticket is left: 2^62 tables were set aside"),
+        // tools/reasons: end
+    }
 }
 
 fn because(words: &[u8]) {

@@ -24,45 +24,58 @@ pub struct Space {
 #[derive(Clone, Copy, PartialEq, Eq, Debug)]
 #[repr(u64)]
 pub enum Reason {
-    /// Not 4 KiB, 2 MiB or 1 GiB.
+    // tools/reasons: reasons (of include/reasons.txt)
+    /// The size is none of the three.
     Size = 1,
+    /// The base is no multiple of the size.
     BaseUnaligned = 2,
+    /// The frame is no multiple of the size.
     FrameUnaligned = 3,
-    /// The range ends after 2^48.
+    /// The range ends beyond 2^48.
     BaseRange = 4,
-    /// The frame ends after 2^52.
+    /// The frame ends beyond 2^52.
     FrameRange = 5,
+    /// The frame and the pool share a byte.
     FrameInPool = 6,
     /// Some address of the range is mapped.
     Overlap = 7,
-    /// Fewer free pages than missing tables.
+    /// Fewer free pages than tables that are missing.
     NoRoom = 8,
-    /// No page has that base.
+    /// No page starts at the base.
     NothingStarts = 9,
-    /// The way leads to a page that is no table's.
+    /// The way leads to a table that is not of the pool.
     Stray = 10,
-    /// The book lists a page that is no table's.
+    /// The book lists as free what it can't.
     BadList = 11,
+    /// The origin is no multiple of 4096.
     OriginUnaligned = 12,
+    /// The window's length is no multiple of 4096.
     LengthUnaligned = 13,
+    /// The pool's address is no multiple of 4096.
     PoolUnaligned = 14,
+    /// The root's address is no multiple of 4096.
     RootUnaligned = 15,
+    /// More pages than a book can list.
     PoolLarge = 16,
+    /// No room for the book and a root.
     PoolSmall = 17,
+    /// The pool does not lie in the window.
     PoolOutside = 18,
+    /// The root is no page of the pool behind its book, or not the book's.
     BadRoot = 19,
-    /// There is no mark.
+    /// No pool was made here.
     NoBook = 20,
-    /// The book of a pool of another size.
+    /// A pool of another size was made here.
     OtherBook = 21,
-    /// Its counts cannot be.
+    /// The book does not add up.
     BadBook = 22,
     /// A ticket above the present one.
     UnknownTicket = 23,
-    /// No ticket is left.
+    /// No ticket is left: 2^62 tables were set aside.
     SpentTickets = 24,
-    /// A bit of the rights means nothing.
+    /// The rights have a bit that means nothing.
     Rights = 25,
+    // tools/reasons: end
 }
 
 /// The page that was unmapped. `ticket` is what `told` takes once every cache knows.

@@ -68,7 +68,8 @@ pub trait Operations {
 }
 
 /// The reasons, by number; 0 is no refusal.
-pub const REASONS: [&str; 26] = [
+// tools/reasons: names (of include/reasons.txt)
+pub const REASONS: [&str; 27] = [
     "done",
     "Size",
     "BaseUnaligned",
@@ -95,7 +96,9 @@ pub const REASONS: [&str; 26] = [
     "UnknownTicket",
     "SpentTickets",
     "Rights",
+    "PointerUnaligned",
 ];
+// tools/reasons: end
 
 /// Asks so many requests, in one scene after the other, or until something is wrong: then the scene's number, and its steps.
 /// The scenes depend on the seed and on what is answered.

@@ -67,6 +67,7 @@ macro_rules! reasons {
 }
 
 reasons! {
+    // tools/reasons: reasons (of include/reasons.txt)
     Size = 1, "the size is none of the three";
     BaseUnaligned = 2, "the base is no multiple of the size";
     FrameUnaligned = 3, "the frame is no multiple of the size";
@@ -93,6 +94,7 @@ reasons! {
     SpentTickets = 24, "no ticket is left: 2^62 tables were set aside";
     Rights = 25, "the rights have a bit that means nothing";
     PointerUnaligned = 26, "the pointer and the origin differ modulo 4096";
+    // tools/reasons: end
 }
 
 impl core::error::Error for Reason {}

@@ -5,7 +5,7 @@ use Rattle.abi.proofs.answers.of_create.Statement.{statement}
 use Rattle.abi.proofs.answers.of_create.Tie as tie
 use Rattle.abi.proofs.answers.of_create.Reads as reads
 use Rattle.abi.proofs.answers.of_create.Lts as lts
-use Rattle.abi.proofs.answers.pool_reason.Reads as pool-reason-reads
+use Rattle.abi.proofs.numbers.pool_reason.Reads as pool-reason-reads
 
 enum-known-c : tie.Need-enum-known-c
 enum-known-c c = search needs

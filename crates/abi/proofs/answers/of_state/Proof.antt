@@ -4,7 +4,7 @@ use Rattle.abi.proofs.answers.of_state.Statement.{statement}
 use Rattle.abi.proofs.answers.of_state.Tie as tie
 use Rattle.abi.proofs.answers.of_state.Reads as reads
 use Rattle.abi.proofs.answers.of_state.Lts as lts
-use Rattle.abi.proofs.answers.pool_reason.Reads as pool-reason-reads
+use Rattle.abi.proofs.numbers.pool_reason.Reads as pool-reason-reads
 use Rattle.abi.proofs.answers.uncounted.Reads as uncounted-reads
 
 enum-known-a : tie.Need-enum-known-a

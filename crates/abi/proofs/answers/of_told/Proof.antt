@@ -4,7 +4,7 @@ use Rattle.abi.proofs.answers.of_told.Statement.{statement}
 use Rattle.abi.proofs.answers.of_told.Tie as tie
 use Rattle.abi.proofs.answers.of_told.Reads as reads
 use Rattle.abi.proofs.answers.of_told.Lts as lts
-use Rattle.abi.proofs.answers.pool_reason.Reads as pool-reason-reads
+use Rattle.abi.proofs.numbers.pool_reason.Reads as pool-reason-reads
 
 enum-known-a : tie.Need-enum-known-a
 enum-known-a c = search needs

@@ -1,4 +1,5 @@
 use mathlib.Core.Path.{sym, _∙_}
+use Rattle.abi.specs.ReasonNumbers.{reasonOf}
 use Rattle.abi.proofs.Shortcut.{done, overlap, unsaid}
 use borrow.Author.Needs.{needs}
 use Rattle.abi.proofs.maps.sized.Statement.{statement}
@@ -37,6 +38,7 @@ same-length-2 : tie.Need-same-length-2
 same-length-2 c = search needs
 
 returns-2 : tie.Need-returns-2
+unfolding reasonOf
 returns-2 c = let k = overlap (record { base = c .before .before .before .before .before .before .before .before .before .args .base; frame = c .before .before .before .before .before .before .before .before .before .args .frame; size = c .before .before .before .before .before .before .before .before .before .args .size; rights = c .before .before .before .before .before .before .before .rights .result }) (c .before .before .before .before .before .before .before .before .before .args .origin) (c .before .before .before .before .before .before .before .before .before .args .pool) (c .before .before .before .before .before .before .before .before .before .args .pages) (c .before .before .before .before .before .before .before .before .before .args .root) _ _ _ (c .before .before .before .before .at-once .last .0) (rw (c .enum-told2 .given .1) at (c .before .before .before .before .at-once .ensures)) in (rw (sym (c .before .before .before .before .before .before .before .rights .ensures)) (k .answer), rw (sym (c .before .before .before .before .before .before .before .rights .ensures)) (k .order))
 
 same-length-3 : tie.Need-same-length-3

@@ -5,7 +5,7 @@ use Rattle.abi.proofs.sites.misplaced.Statement.{statement}
 use Rattle.abi.proofs.sites.misplaced.Tie as tie
 use Rattle.abi.proofs.sites.misplaced.Reads as reads
 use Rattle.abi.proofs.sites.misplaced.Lts as lts
-use Rattle.abi.proofs.answers.reason.Reads as reason-reads
+use Rattle.abi.proofs.numbers.reason.Reads as reason-reads
 use Rattle.plan.proofs.shaped.Reads as shaped-reads
 
 shaped-requires : tie.Need-shaped-requires

@@ -1,6 +1,7 @@
 use borrow.Author.Tests.{eq-eqb, ne-eqb}
 use mathlib.Core.Path.{_∙_}
 use Rattle.word.proofs.Budget.{wrote-none}
+use Rattle.abi.specs.ReasonNumbers.{poolReason}
 use Rattle.abi.specs.Calls.{createAnswer, createWrites}
 use Rattle.abi.proofs.Rooted.{root-low}
 use borrow.Author.Needs.{needs}
@@ -12,11 +13,11 @@ use Rattle.abi.proofs.answers.of_create.Reads as of-create-reads
 use Rattle.tablepath.proofs.create_up_to.Reads as create-up-to-reads
 
 returns : tie.Need-returns
-unfolding createAnswer createWrites
+unfolding createAnswer createWrites poolReason
 returns c = let a = ne-eqb _ _ (c .if1 .taken) in (simp a, simp a (wrote-none _ _ _))
 
 returns-2 : tie.Need-returns-2
-unfolding createAnswer createWrites
+unfolding createAnswer createWrites poolReason
 returns-2 c = let a = eq-eqb _ _ (c .before .if1 .left) in let b = ne-eqb _ _ (c .if2 .taken) in (simp (a, b), simp (a, b) (wrote-none _ _ _))
 
 returns-3 : tie.Need-returns-3
@@ -34,7 +35,12 @@ same-length c = search needs
 
 returns-4 : tie.Need-returns-4
 unfolding createAnswer createWrites
-returns-4 c = let a = eq-eqb _ _ (c .before .before .before .before .before .before .before .before .if1 .left) in let b = eq-eqb _ _ (c .before .before .before .before .before .before .before .if2 .left) in let d = eq-eqb _ _ (c .before .before .before .before .before .before .if3 .left) in let e = c .before .before .before .create-up-to .ensures .0 in (rw (a, b, d) (c .of-create .ensures (root-low _ _ _ _ _ _ e) ∙ rw e), rw (a, b, d) (c .before .before .before .create-up-to .ensures .1))
+returns-4 c =
+    let a = eq-eqb _ _ (c .before .before .before .before .before .before .before .before .if1 .left) in
+    let b = eq-eqb _ _ (c .before .before .before .before .before .before .before .if2 .left) in
+    let d = eq-eqb _ _ (c .before .before .before .before .before .before .if3 .left) in
+    let e = c .before .before .before .create-up-to .ensures .0 in
+    (rw (a, b, d) (c .of-create .ensures (root-low _ _ _ _ _ _ e) ∙ rw e), rw (a, b, d) (c .before .before .before .create-up-to .ensures .1))
 
 pub create-up-to-spec : {M : Type 1} → statement M
 create-up-to-spec =

@@ -42,7 +42,17 @@ same-length c = search needs
 
 returns-3 : tie.Need-returns-3
 unfolding protectAnswer rightsSite
-returns-3 c = let l = lt-ltb _ _ (c .before .before .before .before .before .before .before .before .before .before .before .if1 .left) in let e = sym (c .before .before .before .before .before .before .before .before .before .before .site .ensures) ∙ c .before .before .before .before .before .before .before .before .s2 .given .1 in (rw (l, e, sym (c .before .before .before .before .rights .ensures)) (rw (c .of-protect .ensures, c .before .before .before .protect-up-to .ensures .0)), rw (l, e, sym (c .before .before .before .before .rights .ensures)) (c .before .before .before .protect-up-to .ensures .1))
+returns-3 c =
+    let l = lt-ltb _ _ (c .before .before .before .before .before .before .before .before .before .before .before .if1 .left) in
+    let e = sym (c .before .before .before .before .before .before .before .before .before .before .site .ensures)
+    ∙ c .before .before .before .before .before .before .before .before .s2 .given .1 in (
+      rw (l, e, sym (c .before .before .before .before .rights .ensures)) (rw (
+        c .of-protect .ensures,
+        c .before .before .before .protect-up-to .ensures .0,
+      )),
+      rw (l, e, sym (c .before .before .before .before .rights .ensures))
+          (c .before .before .before .protect-up-to .ensures .1),
+    )
 
 pub protect-up-to-spec : {M : Type 1} → statement M
 protect-up-to-spec =

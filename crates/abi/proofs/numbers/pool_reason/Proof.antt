@@ -1,9 +1,9 @@
-use Rattle.abi.specs.Answers.{poolReason}
+use Rattle.abi.specs.ReasonNumbers.{poolReason}
 use borrow.Author.Needs.{needs}
-use Rattle.abi.proofs.answers.pool_reason.Statement.{statement}
-use Rattle.abi.proofs.answers.pool_reason.Tie as tie
-use Rattle.abi.proofs.answers.pool_reason.Reads as reads
-use Rattle.abi.proofs.answers.pool_reason.Lts as lts
+use Rattle.abi.proofs.numbers.pool_reason.Statement.{statement}
+use Rattle.abi.proofs.numbers.pool_reason.Tie as tie
+use Rattle.abi.proofs.numbers.pool_reason.Reads as reads
+use Rattle.abi.proofs.numbers.pool_reason.Lts as lts
 
 enum-told : tie.Need-enum-told
 enum-told c = search needs

@@ -1,10 +1,10 @@
-use Rattle.abi.specs.Answers.{reasonOf}
+use Rattle.abi.specs.ReasonNumbers.{reasonOf}
 use borrow.Author.Needs.{needs}
-use Rattle.abi.proofs.answers.reason.Statement.{statement}
-use Rattle.abi.proofs.answers.reason.Tie as tie
-use Rattle.abi.proofs.answers.reason.Reads as reads
-use Rattle.abi.proofs.answers.reason.Lts as lts
-use Rattle.abi.proofs.answers.pool_reason.Reads as pool-reason-reads
+use Rattle.abi.proofs.numbers.reason.Statement.{statement}
+use Rattle.abi.proofs.numbers.reason.Tie as tie
+use Rattle.abi.proofs.numbers.reason.Reads as reads
+use Rattle.abi.proofs.numbers.reason.Lts as lts
+use Rattle.abi.proofs.numbers.pool_reason.Reads as pool-reason-reads
 
 enum-told : tie.Need-enum-told
 enum-told c = search needs
