@@ -117,11 +117,3 @@ module _ {sp : Space} {m : ℕ → ℕ} {role : ℕ → Role} (o : Owned sp role
       go book e = let k = b .no-other p e in of-book (k .0) (k .1)
       go root e = the-root (o .alone p e)
       go (table l q i) e = a-table l q i
-
-  -- and what they say is so: no page is said to be two things
-  pub one-role : (p : ℕ) (r : Role) → OneOf sp m p r → ((l q i : ℕ) → r ≢ table l q i) → role p ≡ r
-  one-role p r (of-book u v) n = b .in-book p u v
-  one-role p r (listed-free k u e) n = ap role (sym e) ∙ b .lists .frees k u
-  one-role p r (listed-aside k u e) n = ap role (sym e) ∙ b .lists .asides k u
-  one-role p r (the-root e) n = ap role e ∙ o .starts
-  one-role p r (a-table l q i) n = absurd (n l q i refl)

@@ -2,7 +2,7 @@
 -- page starts at an address.
 use Prim.Native.Nat.{ℕ, zero, suc, _%_, _^_, _≤_, _<_}
 use mathlib.Core.Logic.{_↔_}
-use mathlib.Core.Path.{_≡_, refl, sym, ap, _∙_, subst}
+use mathlib.Core.Path.{_≡_, refl, sym, _∙_, subst}
 use native.Mathlib.Decide.{ℕ-discrete}
 use native.Mathlib.Nat.{div-add-mod'}
 use native.Mathlib.Omega.{arith}
@@ -14,7 +14,7 @@ use Rattle.entry.proofs.Fields.{last-no-table}
 use Rattle.walk.specs.Walk.{indexOf, baseOf}
 use Rattle.walk.specs.declared.Found.{Found}
 use Rattle.walk.specs.declared.Found.the-variants as found
-use Rattle.walk.proofs.Digits.{agree-up, same-index, size-up, size-pos}
+use Rattle.walk.proofs.Digits.{agree-up, same-index, size-pos}
 use Rattle.walk.proofs.Ranges.{page-covers}
 use Rattle.tables.specs.Roles.{Setting, Role, table, entryAt, Built, Holds, Filled, Sound}
 use Rattle.tables.specs.Near.{Near}
@@ -152,21 +152,6 @@ overlap {σ} {m} {role} {va} {l} k a (at-table-there q s g c e) =
 
 -- Which page starts at an address ----------------------------------------------------------------------------------------------
 
-size-zero : sizeOf 0 ≡ 4096
-unfolding sizeOf
-size-zero = refl
-
-size-least : (l : ℕ) → 4096 ≤ sizeOf l
-size-least zero = omega (arith, size-zero)
-size-least (suc l) = omega (arith, size-up l, size-least l)
-
--- sizes tell levels apart
-size-level : (k l : ℕ) → sizeOf k ≡ sizeOf l → k ≡ l
-size-level zero zero e = refl
-size-level zero (suc l) e = absurd (omega (arith, size-zero, size-up l, size-least l))
-size-level (suc k) zero e = absurd (omega (arith, size-zero, size-up k, size-least k))
-size-level (suc k) (suc l) e = ap suc (size-level k l (omega (arith, size-up k, size-up l)))
-
 -- the entry at which the walk of va finds a page of level l
 pub record PageAt (σ : Setting) (m : ℕ → ℕ) (va l f : ℕ) (g : Rights) : Type 0 where
   pub page : ℕ
@@ -185,17 +170,6 @@ page-where {σ} {m} b va base size f g = go (meaning σ m va) (ends b va)
         let frames : x ≡ f = cc in
         let grants : r ≡ g = cc in
         (l, record { page = q; comes = c; entry = w ∙ rw (frames, grants) }, cc, cc)
-
--- A PAGE OF LEVEL l STARTS AT va, exactly where va is aligned and its walk comes to an entry of level l that says it.
-pub starts-there : {σ : Setting} {m : ℕ → ℕ} {role : ℕ → Role} → Built σ m role → (va l f : ℕ) (g : Rights)
-    → (meaning σ m va ≡ found.Page va (sizeOf l) f g) ↔ ((baseOf l va ≡ va) × PageAt σ m va l f g)
-starts-there {σ} {m} b va l f g = (there, λ h. mean-page b (h .1 .comes) (h .1 .entry) ∙ ap (λ x. found.Page x (sizeOf l) f g) (h .0))
-  where
-    there : meaning σ m va ≡ found.Page va (sizeOf l) f g → (baseOf l va ≡ va) × PageAt σ m va l f g
-    there e =
-        let w = page-where b va va (sizeOf l) f g e in
-        let level : w .0 ≡ l = size-level (w .0) l (sym (w .3)) in
-        (sym (w .2 ∙ ap (λ k. baseOf k va) level), subst (λ k. PageAt σ m va k f g) level (w .1))
 
 -- Nothing else starts there: a page that any address means, and that begins at va, is what va means.
 pub starts-once : (σ : Setting) (m : ℕ → ℕ) (va vb size f : ℕ) (g : Rights) → meaning σ m vb ≡ found.Page va size f g → meaning σ m va ≡ found.Page va size f g

@@ -1,6 +1,6 @@
 -- ONE WAY: what the walk of an address comes to, and that a table is come to one way only. So the addresses that pass an entry are one
 -- aligned range, given as numbers.
-use Prim.Native.Nat.{ℕ, suc, _+_, _^_, _≤_, _<_}
+use Prim.Native.Nat.{ℕ, suc, _+_, _≤_, _<_}
 use mathlib.Core.Logic.{_↔_}
 use mathlib.Core.Path.{_≡_, sym, ap, _∙_, subst}
 use native.Mathlib.Omega.{arith}
@@ -13,10 +13,6 @@ use Rattle.tables.specs.Roles.{Setting, Role, table, left, entryAt, Buil
 use Rattle.tables.specs.Near.{Near}
 use Rattle.tables.proofs.Near.{near-up, near-top, near-below, near-range}
 use Rattle.tables.specs.Way.{Comes, begin, onto}
-
-pub comes-small : {σ : Setting} {m : ℕ → ℕ} {va n p : ℕ} → Comes σ m va n p → va < 2 ^ 48
-comes-small (begin e f u) = u
-comes-small (onto t g c e) = comes-small c
 
 pub comes-top : {σ : Setting} {m : ℕ → ℕ} {va n p : ℕ} → Comes σ m va n p → n ≤ 4
 comes-top (begin e f u) = omega arith

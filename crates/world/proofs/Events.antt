@@ -52,12 +52,6 @@ module _ {Word : Type 0} where
   all-front [] fs m P p = all-first fs m P p
   all-front (e ∷ es) fs m P p = (p .0, all-front es fs (happen m e) P (p .1))
 
-  -- and the rest
-  pub all-rest : (es fs : List (Event Word)) (m : ℕ → Word) (P : (ℕ → Word) → Type 0) → All m (es ++ fs) P → All (after m es) fs P
-  unfolding All after
-  all-rest [] fs m P p = p
-  all-rest (e ∷ es) fs m P p = all-rest es fs (happen m e) P (p .1)
-
   pub all-append : (es fs : List (Event Word)) (m : ℕ → Word) (P : (ℕ → Word) → Type 0) → All m es P → All (after m es) fs P → All m (es ++ fs) P
   unfolding All after
   all-append [] fs m P p q = q
