@@ -1,5 +1,5 @@
--- A WITNESS of honest and complete nights, with tables in it: of any five pages a pool is made, a page is mapped, which takes three tables, and
--- unmapped, which sets them aside; a shootdown tells its addresses, and the ticket is reported.
+-- The night of the witness: of any five pages a pool is made, a page is mapped and unmapped; a shootdown tells its addresses, and the ticket is
+-- reported.
 use Prim.Native.Nat.{ℕ, _<_}
 use mathlib.Core.Bool.{Bool}
 use mathlib.Core.List.{List, [], _∷_}

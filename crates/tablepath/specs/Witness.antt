@@ -1,5 +1,4 @@
--- A WITNESS of what holds between operations, with tables in it: any five pages, made a pool, and a page of 4 KiB mapped at 0. Map makes three
--- tables of the three free pages; the space is whole, and the address means the page.
+-- What the witnesses speak of: any five pages, made a pool, and a page of 4 KiB that is mapped at 0.
 use Prim.Native.Nat.{ℕ}
 use mathlib.Core.List.{List}
 use lib.ListN.{length}

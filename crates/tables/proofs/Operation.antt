@@ -1,4 +1,4 @@
--- An operation is a list of writes, one of which changes the meaning. What is carried along the list, edit by edit.
+-- What is carried along the writes of an operation, edit by edit.
 use Prim.Native.Nat.{ℕ, _/_}
 use mathlib.Core.Logic.{_⊎_, inl, inr}
 use mathlib.Core.List.{List, [], _∷_, _++_}

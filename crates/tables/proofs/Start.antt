@@ -1,4 +1,4 @@
--- At first: an empty root, and no table. This is what `create` makes.
+-- At first, with an empty root and no table, the invariant holds.
 use Prim.Native.Nat.{ℕ, suc, _<_}
 use mathlib.Core.Path.{_≡_, refl, ap, _∙_}
 use native.Mathlib.Omega.{arith}

@@ -1,4 +1,4 @@
--- The walker that takes `walk`'s own steps, so that its meaning is `walk`: what is proved of walkers is proved of walks through page tables.
+-- The walker of page tables has a walker's laws, and its meaning is `walk`: what is proved of walkers is proved of walks through page tables.
 use mathlib.Core.Path.{_≡_, refl, _∙_, ap, fun-ext, sym, subst}
 use mathlib.Core.Bool.{Bool, true, false, cond}
 use Prim.Native.Nat.{ℕ, zero, suc, _^_}

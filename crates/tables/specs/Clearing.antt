@@ -1,5 +1,4 @@
--- Lists of writes where no walk comes: the book's, and those that clear a page before it is linked. They leave all that is said of tables;
--- and a page that was cleared is all 0.
+-- A plan as events of `world`.
 use Prim.Native.Nat.{ℕ}
 use mathlib.Core.List.{List, [], _∷_}
 use Rattle.word.specs.Memory.{at}

@@ -1,5 +1,4 @@
--- Every edit keeps the discipline of `world`, with the words of the pages that are set aside as the frozen ones: whatever walks and caches
--- hold, they may go on through a table that was unlinked, since nothing writes there before the report.
+-- The walker of these tables, and what an operation shows of its writes: the frozen words are those of the pages that are set aside.
 use Prim.Native.Nat.{ℕ, _/_}
 use mathlib.Core.List.{List}
 use mathlib.Core.Path.{_≡_}

@@ -1,5 +1,4 @@
--- MAP, one step at a time: down through tables that are there, and tables that are cleared and then linked, to the page's own entry,
--- which is written last. And protect, which is one write.
+-- MAP, on its way down: what holds after each table that was there already, or was cleared and then linked.
 use Prim.Native.Nat.{ℕ}
 use mathlib.Core.List.{List}
 use mathlib.Core.Path.{_≡_}

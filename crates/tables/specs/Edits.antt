@@ -1,5 +1,4 @@
--- THE SIX EDITS, all that ever happens to a table: link an empty table, write a page over nothing, clear a page, change a page's rights,
--- unlink an empty table, write where no walk comes. For each: what every address then means, and that the invariant is kept.
+-- What an edit does to what addresses mean: nothing, or one range turns.
 use Prim.Native.Nat.{ℕ}
 use mathlib.Core.Path.{_≡_}
 use Rattle.walk.specs.declared.Found.{Found}

@@ -1,5 +1,4 @@
--- What an address means in tables that we built, from any place on its way. Every walk ends at an entry of the pool that says nothing or
--- says a page: none leaves the window, and none ends in the pool.
+-- What an address means: from the root, and from any place on its way.
 use Prim.Native.Nat.{ℕ}
 use Rattle.entry.specs.declared.Rights.{Rights}
 use Rattle.walk.specs.Walk.{run, foundOf, walk}

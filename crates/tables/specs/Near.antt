@@ -1,4 +1,4 @@
--- Addresses that agree from a level up lie in one aligned range of what an entry of that level covers.
+-- Addresses of one aligned range: that of an entry of a level.
 use Prim.Native.Nat.{ℕ, _/_}
 use mathlib.Core.Path.{_≡_}
 use Rattle.entry.specs.Entry.{sizeOf}

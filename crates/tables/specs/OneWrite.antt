@@ -1,5 +1,4 @@
--- One write of a word at an entry that walks read: which entries show it, which walks still come to their tables, and which addresses keep
--- their meaning. The edits of Edits.antt are instances.
+-- An entry that walks read.
 use Prim.Native.Nat.{ℕ, _<_}
 use Rattle.tables.specs.Roles.{Role, Live}
 

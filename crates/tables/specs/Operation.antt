@@ -1,4 +1,4 @@
--- An operation is a list of writes, one of which changes the meaning. What is carried along the list, edit by edit.
+-- An operation is a list of writes, one of which changes the meaning: what holds at each moment of it, and at its end.
 use Prim.Native.Nat.{ℕ}
 use mathlib.Core.Logic.{_⊎_}
 use mathlib.Core.List.{List}

@@ -1,5 +1,4 @@
--- What the walk of an address finds on its way to a level decides exactly whether some address of that level's range is mapped; and which
--- page starts at an address.
+-- Some address of a range is mapped; and where a walk stops on its way to a level.
 use Prim.Native.Nat.{ℕ, suc, _+_, _≤_, _<_}
 use mathlib.Core.Path.{_≡_}
 use Rattle.entry.specs.Entry.{sizeOf}

@@ -1,4 +1,4 @@
--- The walker that takes `walk`'s own steps, so that its meaning is `walk`: what is proved of walkers is proved of walks through page tables.
+-- The walker that takes `walk`'s own steps through page tables.
 use mathlib.Core.Path.{_≡_}
 use mathlib.Core.Bool.{Bool, cond}
 use Prim.Native.Nat.{ℕ, zero, suc, _/_}

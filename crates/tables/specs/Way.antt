@@ -1,5 +1,4 @@
--- ONE WAY: what the walk of an address comes to, and that a table is come to one way only. So the addresses that pass an entry are one
--- aligned range, given as numbers.
+-- ONE WAY: what the walk of an address comes to.
 use Prim.Native.Nat.{ℕ, suc, _^_, _<_}
 use mathlib.Core.Path.{_≡_}
 use Rattle.entry.specs.Entry.{tableOf}

@@ -1,5 +1,4 @@
--- THE DISCIPLINE of those who write: a cell that some walk may still read through a way that has since been cut is not written.
--- Whoever keeps it has the theorem of Held.antt.
+-- Whoever keeps THE DISCIPLINE has the theorem of Held.antt: what is held is on its way still, or all that it has still to read is frozen.
 use mathlib.Core.Path.{_≡_, sym, ap, subst}
 use mathlib.Core.List.{List, [], _∷_}
 use mathlib.Core.Logic.{_⊎_, inl, inr}

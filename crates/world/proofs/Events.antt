@@ -1,4 +1,4 @@
--- What happens to memory, one word at a time, and the moments of a list of such events.
+-- Laws of events: what holds at some moment of a list of them, and what holds at all.
 use mathlib.Core.Path.{_≡_, refl, subst}
 use mathlib.Core.List.{List, [], _∷_, _++_}
 use mathlib.Core.Logic.{_⊎_, inl, inr}

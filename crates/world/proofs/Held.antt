@@ -1,5 +1,5 @@
--- What walks and caches may hold while memory changes, and the theorem in its barest form: it asks only what each change does to
--- the outcome of what is held. Discipline.antt has the way by which code comes to keep that.
+-- The theorem in its barest form: it asks only what each change does to the outcome of what is held. Discipline.antt has the way by which
+-- code comes to keep that.
 use mathlib.Core.Path.{_≡_, refl, sym, _∙_, ap, subst}
 use mathlib.Core.List.{List, [], _∷_}
 use mathlib.Core.Logic.{inl, inr}

@@ -1,5 +1,4 @@
--- What comes in between the code's writes, anywhere: the machine's marks, and what other programs store. What an operation shows of its
--- writes alone holds with them too.
+-- What an operation shows of its writes alone holds with the machine's marks and other programs' stores anywhere in between, too.
 use mathlib.Core.Path.{_≡_, sym, _∙_, subst}
 use mathlib.Core.List.{List, [], _∷_}
 use mathlib.Core.Logic.{inl, inr}

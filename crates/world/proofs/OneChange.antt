@@ -1,5 +1,4 @@
--- ONE CHANGE: a list of writes that changes the meaning at one write only, for all addresses at once. A walk beside it ends with the old
--- meaning or with the new one, and never with something in between.
+-- A walk beside writes that change the meaning once ends with the old meaning or with the new one, and never with something in between.
 use mathlib.Core.Path.{_≡_, refl, sym, _∙_, ap, subst}
 use mathlib.Core.List.{List, [], _∷_, _++_, append-assoc}
 use mathlib.Core.Logic.{_⊎_, inl, inr}

@@ -1,4 +1,4 @@
--- Any number of walks, each at its own pace, beside whatever happens to memory, in any order; none of them uses a cache.
+-- EACH WALK, at its own pace beside whatever happens, ends with what its address meant at a moment between its first step and its last.
 use mathlib.Core.Path.{_≡_, refl, sym, _∙_, ap, subst}
 use mathlib.Core.List.{List, [], _∷_, _++_}
 use Prim.Native.Nat.{ℕ}

@@ -1,5 +1,4 @@
 -- THE DISCIPLINE of those who write: a cell that some walk may still read through a way that has since been cut is not written.
--- Whoever keeps it has the theorem of Held.antt.
 use mathlib.Core.Path.{_≡_}
 use mathlib.Core.List.{List, [], _∷_}
 use mathlib.Core.Logic.{_⊎_}

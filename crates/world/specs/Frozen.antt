@@ -1,5 +1,4 @@
--- What a list of writes freezes, some walk read at one of its moments. So a list that obeys from one frozen set obeys from a smaller one,
--- with no more than the list itself adds: a period may begin at any moment, and what was frozen before it does not count.
+-- A word that some walk reads.
 use Prim.Native.Nat.{ℕ}
 use Rattle.world.specs.Walker.{Walker, Reads}
 

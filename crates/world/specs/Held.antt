@@ -1,5 +1,4 @@
--- What walks and caches may hold while memory changes, and the theorem in its barest form: it asks only what each change does to
--- the outcome of what is held. Discipline.antt has the way by which code comes to keep that.
+-- What walks and caches may hold while memory changes, and what a change may do to it.
 use mathlib.Core.List.{List, [], _∷_}
 use mathlib.Core.Logic.{_⊎_}
 use Prim.Native.Nat.{ℕ}

@@ -1,5 +1,4 @@
--- What comes in between the code's writes, anywhere: the machine's marks, and what other programs store. What an operation shows of its
--- writes alone holds with them too.
+-- What comes in between the code's writes, anywhere: the machine's marks, and what other programs store.
 use mathlib.Core.Path.{_≡_}
 use mathlib.Core.List.{List, [], _∷_}
 use Prim.Native.Nat.{ℕ}

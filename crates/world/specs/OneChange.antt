@@ -1,5 +1,4 @@
--- ONE CHANGE: a list of writes that changes the meaning at one write only, for all addresses at once. A walk beside it ends with the old
--- meaning or with the new one, and never with something in between.
+-- ONE CHANGE: a list of writes that changes the meaning at one write only, for all addresses at once.
 use mathlib.Core.Path.{_≡_}
 use mathlib.Core.List.{List, _∷_, _++_}
 use Prim.Native.Nat.{ℕ}

@@ -1,4 +1,4 @@
--- How an operation shows that its writes keep the discipline: rules for one write, and for lists.
+-- What an operation shows of its writes: they keep the discipline, and no other cells are frozen at their end.
 use mathlib.Core.List.{List, [], _∷_}
 use Prim.Native.Nat.{ℕ}
 use Rattle.word.specs.Memory.{set}

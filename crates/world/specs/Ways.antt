@@ -1,4 +1,4 @@
--- Laws of ways: what a step, a change that a walk does not see, and a write do to what is left of a walk.
+-- What is left of a walk follows what was left: it comes to the same, and reads nothing else.
 use mathlib.Core.Path.{_≡_}
 use Prim.Native.Nat.{ℕ}
 use Rattle.world.specs.Walker.{Walker, finish, Reads}
