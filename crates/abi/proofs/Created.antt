@@ -21,7 +21,8 @@ use Rattle.pool.specs.declared.Fit.the-variants as fit
 use Rattle.pool.specs.declared.Reason.the-variants.{OriginUnaligned, LengthUnaligned}
 use Rattle.effect.proofs.Wholes.{root-in}
 use Rattle.tablepath.proofs.Witness.{nothing-yet}
-use Rattle.tablepath.proofs.Wholes.{WholeBytes, create-whole}
+use Rattle.tablepath.specs.Looks.{WholeBytes}
+use Rattle.tablepath.proofs.Wholes.{create-whole}
 use Rattle.abi.specs.Answers.{poolReason, created, lookedUp}
 use Rattle.abi.specs.Calls as call
 use Rattle.abi.specs.Calls.{createAnswer}

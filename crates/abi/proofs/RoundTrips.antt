@@ -12,7 +12,9 @@ use Rattle.tablepath.specs.declared.Unmapped.the-variants as unmap
 use Rattle.tablepath.specs.declared.Report.the-variants as report
 use Rattle.tablepath.specs.declared.Gone.{Gone}
 use Rattle.tablepath.proofs.RoundTrips as the
-use Rattle.tablepath.proofs.RoundTrips.{lookUp, look-up-after-map, look-up-beside-map, look-up-after-unmap, look-up-after-protect, look-up-after-told}
+use Rattle.tablepath.specs.Looks as the-laws
+use Rattle.tablepath.specs.Looks.{lookUp}
+use Rattle.tablepath.proofs.RoundTrips.{look-up-after-map, look-up-beside-map, look-up-after-unmap, look-up-after-protect, look-up-after-told}
 use Rattle.tablepath.proofs.MapUnmap.{unmap-after-map}
 use Rattle.tablepath.proofs.Wholes.{call-kept}
 use Rattle.tablepath.proofs.Tickets.{told-after-unmap}
@@ -59,7 +61,7 @@ module _ (n : Numbers) (a : Aligned n) where
   pub looks : (s : List ℕ) (va : ℕ) → tpLookUp s n va ≡ lookedUp (lookUp s (spaceOf n) va)
   looks s va = let same : 4096 * (n .root / 4096) ≡ n .root = omega (arith, a .root) in rw same
 
-  swapped : {s s' : List ℕ} {base size frame : ℕ} {o : Found} → the.Swapped s s' (spaceOf n) base size frame o → Swapped s s' n base size frame (lookedUp o)
+  swapped : {s s' : List ℕ} {base size frame : ℕ} {o : Found} → the-laws.Swapped s s' (spaceOf n) base size frame o → Swapped s s' n base size frame (lookedUp o)
   swapped {s} {s'} {base} {size} {frame} k = record {
     had = rightsWord (k .had);
     before = looks s base ∙ ap lookedUp (k .before) ∙ page-had base size frame (k .had);

@@ -10,8 +10,7 @@ use Rattle.tables.specs.Roles.{Role}
 use Rattle.pool.specs.declared.Space.{Space}
 use Rattle.plan.specs.declared.maps.Asked.{Asked}
 use Rattle.tablepath.specs.Calls as calls
-use Rattle.tablepath.proofs.RoundTrips.{In}
-use Rattle.tablepath.proofs.Wholes.{WholeBytes}
+use Rattle.tablepath.specs.Looks.{In, WholeBytes}
 use Rattle.abi.specs.Answers.{rightsIn}
 use Rattle.abi.specs.Calls.{siteOf, mapSite, protectSite, ask, createAnswer, createBytes, mapAnswer, mapBytes, unmapAnswer, unmapBytes, protectAnswer, protectBytes, toldAnswer, toldBytes, stateAnswer, lookUpAnswer}
 use Rattle.abi.specs.declared.answers.Created.{Created}

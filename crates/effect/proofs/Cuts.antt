@@ -7,14 +7,15 @@ use mathlib.Core.Path.{_≡_, refl, sym, ap, ap₂, _∙_}
 use native.Mathlib.Omega.{arith}
 use borrow.Author.Tests.{le-leb, lt-leb}
 use Rattle.word.specs.Memory.{set}
-use Rattle.word.specs.Writes.{Write, write, after}
-use Rattle.word.proofs.Writes.{Every, every-one}
+use Rattle.word.specs.Writes.{Write, write, after, Every}
+use Rattle.word.proofs.Writes.{every-one}
 use Rattle.walk.specs.Walk.{indexOf}
 use Rattle.walk.proofs.Digits.{index-lt}
 use Rattle.walk.specs.declared.Found.the-variants as found
 use Rattle.tables.specs.Roles.{Role, aside}
-use Rattle.tables.specs.Way.{Comes, comes-left}
-use Rattle.tables.specs.Up.{Stays, up-start, up-bare, up-holds, unmap-done}
+use Rattle.tables.specs.Way.{Comes}
+use Rattle.tables.proofs.Way.{comes-left}
+use Rattle.tables.proofs.Up.{Stays, up-start, up-bare, up-holds, unmap-done}
 use Rattle.tables.specs.Operation.{Changed}
 use Rattle.pool.proofs.Alone.{Unmarking, unmarking-one, unmarking-append, aside-unmarking}
 use Rattle.pool.specs.Book.{bookOf}

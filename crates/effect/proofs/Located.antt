@@ -8,9 +8,11 @@ use Rattle.entry.specs.declared.Entry.the-variants as entry
 use Rattle.walk.specs.Walk.{indexOf, baseOf}
 use Rattle.walk.specs.declared.Found.the-variants as found
 use Rattle.tables.specs.Roles.{Setting, Role, left, entryAt}
-use Rattle.tables.specs.Way.{Comes, comes-left}
-use Rattle.tables.specs.Meaning.{meaning, mean-page}
-use Rattle.tables.specs.Overlap.{aligned-base}
+use Rattle.tables.specs.Way.{Comes}
+use Rattle.tables.proofs.Way.{comes-left}
+use Rattle.tables.specs.Meaning.{meaning}
+use Rattle.tables.proofs.Meaning.{mean-page}
+use Rattle.tables.proofs.Overlap.{aligned-base}
 use Rattle.pool.specs.Booked.{settingOf}
 use Rattle.pool.specs.declared.Space.{Space}
 use Rattle.plan.specs.declared.finding.Spot.{Spot}

@@ -7,8 +7,8 @@ use mathlib.Core.Path.{_≡_, ap, _∙_, fun-ext}
 use native.Mathlib.Omega.{arith}
 use borrow.Author.Tests.{lt-ltb}
 use lib.Dec.{ltb}
-use Rattle.word.specs.Writes.{Write, after}
-use Rattle.word.proofs.Writes.{Every, none, every-map, after-append}
+use Rattle.word.specs.Writes.{Write, after, Every, none}
+use Rattle.word.proofs.Writes.{every-map, after-append}
 use Rattle.tables.specs.Roles.{Role}
 use Rattle.pool.specs.Layout.{bookPages}
 use Rattle.pool.specs.Book.{bookOf, pageAt}

@@ -7,8 +7,8 @@ use mathlib.Core.Path.{_≡_, refl, sym, ap, _∙_, subst}
 use native.Mathlib.Omega.{arith}
 use borrow.Author.Tests.{leb-true, leb-false}
 use lib.Dec.{leb}
-use Rattle.word.specs.Writes.{Write, write, after}
-use Rattle.word.proofs.Writes.{Every, every-one, every-append, every-map}
+use Rattle.word.specs.Writes.{Write, write, after, Every}
+use Rattle.word.proofs.Writes.{every-one, every-append, every-map}
 use Rattle.entry.specs.Entry.{sizeOf, says}
 use Rattle.entry.specs.Clean.{Clean}
 use Rattle.entry.specs.Words.{largeFlag, pageWord}
@@ -22,10 +22,11 @@ use Rattle.walk.specs.declared.Found.the-variants as found
 use Rattle.walk.proofs.Digits.{index-lt}
 use Rattle.tables.specs.Roles.{Setting, Role, foreign, book, Home, entryAt}
 use Rattle.tables.specs.Way.{Comes}
-use Rattle.tables.specs.Clearing.{book-spare}
-use Rattle.tables.specs.Down.{down-start, map-done}
-use Rattle.tables.specs.Operation.{Changed, changed-sound, changed-spare}
-use Rattle.tables.specs.Overlap.{aligned-base}
+use Rattle.tables.proofs.Clearing.{book-spare}
+use Rattle.tables.proofs.Down.{down-start, map-done}
+use Rattle.tables.specs.Operation.{Changed}
+use Rattle.tables.proofs.Operation.{changed-sound, changed-spare}
+use Rattle.tables.proofs.Overlap.{aligned-base}
 use Rattle.pool.proofs.Alone.{alone-after}
 use Rattle.pool.specs.Layout.{bookPages}
 use Rattle.pool.specs.Book.{bookOf, pageAt}

@@ -1,25 +1,20 @@
 -- MAP DOES WHAT WAS ASKED: where it decides to go on, in a space that is whole, its writes change exactly that, and leave the space whole.
 use Prim.Native.Nat.{ℕ, _+_, _<_, _≤_}
 use mathlib.Core.Bool.{Bool}
-use mathlib.Core.List.{List}
 use mathlib.Core.Path.{_≡_, subst}
 use native.Mathlib.Omega.{arith}
-use Rattle.word.specs.Memory.{memory, holds}
-use Rattle.word.specs.Writes.{carried, after}
-use Rattle.word.proofs.Writes.{every-map, memory-carried}
+use Rattle.word.specs.Writes.{after}
 use Rattle.walk.specs.declared.Found.the-variants as found
 use Rattle.tables.specs.Roles.{Role}
-use Rattle.tables.specs.Edits.{turns-inside, turns-outside}
+use Rattle.tables.proofs.Edits.{turns-inside, turns-outside}
 use Rattle.tables.specs.Meaning.{meaning}
-use Rattle.tables.specs.Overlap.{aligned-base}
+use Rattle.tables.proofs.Overlap.{aligned-base}
 use Rattle.walk.specs.Walk.{baseOf}
 use Rattle.pool.specs.Booked.{settingOf}
 use Rattle.pool.specs.declared.Space.{Space}
 use Rattle.plan.specs.declared.maps.Asked.{Asked}
 use Rattle.plan.specs.declared.maps.Mapping.{Mapping}
-use Rattle.plan.specs.Map.{Placed}
-use Rattle.plan.specs.Map.{Go}
-use Rattle.plan.specs.Map.{decideOf, writesOf}
+use Rattle.plan.specs.Map.{Placed, Go, decideOf, writesOf}
 use Rattle.effect.specs.MapDone.{MapDone}
 use Rattle.effect.specs.Whole.{Whole}
 use Rattle.effect.proofs.MapBuilt.{planned-done}
@@ -51,8 +46,3 @@ module _ {h : ℕ → Bool} {sp : Space} {m : ℕ → ℕ} {role : ℕ → Role}
         → meaning (settingOf h sp) (after m (writesOf sp p)) va ≡ meaning (settingOf h sp) m va
     mapped-outside va n =
         turns-outside (d .changed .turns) va (λ u v. n (omega (arith, base-is)) (omega (arith, base-is, d .fitted .size-is)))
-
--- as bytes: the window after the plan is carried out is the memory after its writes
-pub done-carried : (s : List ℕ) (origin : ℕ) {sp : Space} {m : ℕ → ℕ} {role : ℕ → Role} {q : Asked} {p : Mapping} → MapDone (holds s origin) sp m role q p
-    → memory (carried s origin (writesOf sp p)) origin ≡ after (memory s origin) (writesOf sp p)
-done-carried s origin {sp} {p = p} d = memory-carried s origin (writesOf sp p) (every-map (λ x u. u .held) (writesOf sp p) (d .proper))

@@ -6,8 +6,8 @@ use mathlib.Core.Path.{_≡_, refl, subst}
 use native.Mathlib.Omega.{arith}
 use borrow.Author.Tests.{leb-true, leb-false, ltb-true, eqb-true}
 use lib.Dec.{leb, ltb, eqb}
-use Rattle.word.specs.Writes.{Write, write, zeros}
-use Rattle.word.proofs.Writes.{Every, none, every-one, every-append, every-map, every-zeros}
+use Rattle.word.specs.Writes.{Write, write, zeros, Every, none}
+use Rattle.word.proofs.Writes.{every-one, every-append, every-map, every-zeros}
 use Rattle.entry.specs.Words.{fits, pageWord, madePage, tableWord}
 use Rattle.entry.specs.declared.Rights.{Rights}
 use Rattle.entry.specs.declared.Made.{Made}
@@ -34,14 +34,13 @@ use Rattle.plan.specs.declared.descent.Why.the-variants as why
 use Rattle.plan.specs.declared.maps.Asked.{Asked}
 use Rattle.plan.specs.declared.maps.Fresh.{Fresh}
 use Rattle.plan.specs.declared.maps.Mapping.{Mapping}
-use Rattle.plan.specs.Map.{Go, Refused}
+use Rattle.plan.specs.Map.{Go, Refused, noBook, shapeOf, meetsOf, nthOf, freshThree, freshOf, stockOf, supplyOf, sparedOf, madeOf, placeOf, becauseOf, stoppedOf, fittingOf, standingOf, shapedOf, decideOf, linkOf, nextOf, growOf, reached0, reached1, reached2, reached3, buildOf, writesOf}
 use Rattle.plan.specs.declared.building.Reached.{Reached}
 use Rattle.plan.specs.declared.maps.Shape.{Shape}
 use Rattle.plan.specs.declared.maps.Shape.the-variants as shape
 use Rattle.plan.specs.declared.maps.Supply.{Supply}
 use Rattle.plan.specs.declared.maps.Supply.the-variants.{Pages, Lacking}
 use Rattle.plan.specs.Descend.{wayOf}
-use Rattle.plan.specs.Map.{noBook, shapeOf, meetsOf, nthOf, freshThree, freshOf, stockOf, supplyOf, sparedOf, madeOf, placeOf, becauseOf, stoppedOf, fittingOf, standingOf, shapedOf, decideOf, linkOf, nextOf, growOf, reached0, reached1, reached2, reached3, buildOf, writesOf}
 use Rattle.plan.proofs.Sparing.{spared-same}
 use Rattle.effect.specs.OfPool.{OfPool}
 use Rattle.effect.proofs.MapBook.{bookWrites, book-writes-proper}

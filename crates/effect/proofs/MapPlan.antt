@@ -13,7 +13,8 @@ use Rattle.entry.specs.declared.Made.the-variants as made
 use Rattle.entry.specs.declared.Entry.the-variants.{Nothing}
 use Rattle.walk.specs.Walk.{indexOf}
 use Rattle.tables.specs.Roles.{Role, left, entryAt}
-use Rattle.tables.specs.Way.{Comes, comes-left}
+use Rattle.tables.specs.Way.{Comes}
+use Rattle.tables.proofs.Way.{comes-left}
 use Rattle.pool.specs.Book.{bookOf, pageAt, listedOf}
 use Rattle.pool.specs.Booked.{settingOf}
 use Rattle.pool.specs.declared.Space.{Space}
@@ -25,11 +26,10 @@ use Rattle.plan.specs.declared.descent.Way.{Way}
 use Rattle.plan.specs.declared.maps.Asked.{Asked}
 use Rattle.plan.specs.declared.maps.Fresh.{Fresh}
 use Rattle.plan.specs.declared.maps.Mapping.{Mapping}
-use Rattle.plan.specs.Map.{Go, Refused}
+use Rattle.plan.specs.Map.{Go, Refused, fitsOf, shapeOf, meetsOf, noBook, nthOf, freshThree, freshOf, stockOf, supplyOf, sparedOf, madeOf, placeOf, stoppedOf, fittingOf, standingOf, shapedOf, decideOf}
 use Rattle.plan.specs.declared.maps.Shape.the-variants.{Level, Bad}
 use Rattle.plan.specs.declared.maps.Supply.the-variants.{Pages, Lacking}
 use Rattle.plan.specs.Descend.{wayOf}
-use Rattle.plan.specs.Map.{fitsOf, shapeOf, meetsOf, noBook, nthOf, freshThree, freshOf, stockOf, supplyOf, sparedOf, madeOf, placeOf, stoppedOf, fittingOf, standingOf, shapedOf, decideOf}
 use Rattle.effect.specs.MapDone.{Fitted}
 use Rattle.effect.specs.MapRefused.{OfLevel, Meets, FrameApart}
 use Rattle.effect.specs.Whole.{Whole}

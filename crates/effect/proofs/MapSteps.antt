@@ -9,17 +9,18 @@ use native.Mathlib.Omega.{arith}
 use borrow.Author.Tests.{lt-ltb, le-leb, lt-leb}
 use lib.Dec.{leb}
 use Rattle.word.specs.Memory.{at, set}
-use Rattle.word.specs.Writes.{Write, write, after, zeros}
-use Rattle.word.proofs.Writes.{Every, none, every-one, every-append, every-zeros}
+use Rattle.word.specs.Writes.{Write, write, after, zeros, Every, none}
+use Rattle.word.proofs.Writes.{every-one, every-append, every-zeros}
 use Rattle.entry.specs.Words.{tableWord}
 use Rattle.entry.specs.declared.Entry.the-variants.{Nothing}
 use Rattle.entry.proofs.Written.{table-word-says}
 use Rattle.walk.specs.Walk.{indexOf}
 use Rattle.walk.proofs.Digits.{index-lt}
 use Rattle.tables.specs.Roles.{Role, free, table, left, entryAt, Home}
-use Rattle.tables.specs.Way.{comes-left}
-use Rattle.tables.specs.Kept.{zero-bare}
-use Rattle.tables.specs.Down.{Down, down-make, made-zero}
+use Rattle.tables.proofs.Way.{comes-left}
+use Rattle.tables.proofs.Kept.{zero-bare}
+use Rattle.tables.specs.Down.{Down}
+use Rattle.tables.proofs.Down.{down-make, made-zero}
 use Rattle.pool.specs.Layout.{bookPages}
 use Rattle.pool.specs.Book.{bookOf, pageAt}
 use Rattle.pool.specs.Booked.{settingOf, Taken}

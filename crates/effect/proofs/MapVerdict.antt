@@ -10,9 +10,11 @@ use Rattle.entry.specs.Entry.{sizeOf, says}
 use Rattle.entry.specs.declared.Entry.the-variants.{Nothing, Table}
 use Rattle.walk.specs.Walk.{indexOf}
 use Rattle.tables.specs.Roles.{Setting, Role, entryAt}
-use Rattle.tables.specs.Way.{Comes, begin, onto, comes-top, comes-same}
-use Rattle.tables.specs.OneWrite.{nothing-plain}
-use Rattle.tables.specs.Overlap.{Stop, Taken, at-nothing-above, at-page-above, at-table-there, overlap}
+use Rattle.tables.specs.Way.{Comes, begin, onto}
+use Rattle.tables.proofs.Way.{comes-top, comes-same}
+use Rattle.tables.proofs.OneWrite.{nothing-plain}
+use Rattle.tables.specs.Overlap.{Stop, Taken, at-nothing-above, at-page-above, at-table-there}
+use Rattle.tables.proofs.Overlap.{overlap}
 use Rattle.pool.specs.Book.{bookOf}
 use Rattle.pool.specs.Booked.{settingOf}
 use Rattle.pool.specs.declared.Space.{Space}
@@ -22,10 +24,8 @@ use Rattle.plan.specs.declared.descent.Way.{Way}
 use Rattle.plan.specs.declared.descent.Why.{Why}
 use Rattle.plan.specs.declared.maps.Asked.{Asked}
 use Rattle.plan.specs.declared.maps.Mapping.{Mapping}
-use Rattle.plan.specs.Map.{Placed}
-use Rattle.plan.specs.Map.{Go, Refused}
+use Rattle.plan.specs.Map.{Placed, Go, Refused, fitsOf, supplyOf, sparedOf, placeOf, becauseOf, stoppedOf, shapedOf, decideOf}
 use Rattle.plan.specs.Descend.{wayOf}
-use Rattle.plan.specs.Map.{fitsOf, supplyOf, sparedOf, placeOf, becauseOf, stoppedOf, shapedOf, decideOf}
 use Rattle.effect.specs.MapDone.{Fitted, Misses}
 use Rattle.effect.specs.MapRefused.{OfLevel, Meets, FrameApart, Mapped, Cause, no-size, base-unaligned, frame-unaligned, base-high, frame-high, frame-in-pool, mapped, no-room}
 use Rattle.effect.specs.Whole.{Whole}

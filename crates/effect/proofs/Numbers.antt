@@ -9,11 +9,9 @@ use Rattle.pool.specs.Book.{bookOf, pageAt, ticketOf}
 use Rattle.pool.specs.Booked.{Booked, SameBook, Numbered}
 use Rattle.pool.specs.declared.Space.{Space}
 use Rattle.pool.specs.declared.Book.{Book}
-use Rattle.pool.specs.Changes.{tookWrites, asideWrites, asideBook, releaseWrites}
+use Rattle.pool.specs.Changes.{tookWrites, releaseWrites}
 use Rattle.pool.proofs.Booked.{same-counts, same-numbered}
-use Rattle.pool.proofs.Counts.{is-sound}
 use Rattle.pool.proofs.Taking.{took-numbered, took-book}
-use Rattle.pool.proofs.SettingAside.{aside-others, aside-book}
 use Rattle.pool.proofs.Releasing.{release-book}
 use Rattle.effect.specs.Numbers.{KeepsNumbers}
 
@@ -55,13 +53,6 @@ later-number {sp} {m} a p k h n = elim (decLt k (ticketOf (bookOf m sp))) [ yes 
 pub took-keeps : {sp : Space} {m : ℕ → ℕ} {role : ℕ → Role} → Booked sp m role → (k : ℕ) → k ≤ bookOf m sp .free → KeepsNumbers sp m (after m (tookWrites sp (bookOf m sp) k))
 took-keeps b k u =
     record { numbers = took-numbered b k u; tickets = ap (λ (y : Book). y .tickets) (took-book b k u); more = omega (arith, ap (λ (y : Book). y .aside) (took-book b k u)) }
-
--- a page is set aside
-pub aside-keeps : {sp : Space} {m : ℕ → ℕ} {role : ℕ → Role} → Booked sp m role → (p : ℕ) → KeepsNumbers sp m (after m (asideWrites sp (bookOf m sp) p))
-aside-keeps {sp} {m} b p = record { numbers = aside-others b p; tickets = ap (λ y. y .tickets) counts; more = omega (arith, ap (λ y. y .aside) counts) }
-  where
-    counts : bookOf (after m (asideWrites sp (bookOf m sp) p)) sp ≡ record { head = bookOf m sp .head; free = bookOf m sp .free; aside = bookOf m sp .aside + 1; tickets = bookOf m sp .tickets }
-    counts = sym (aside-book b p) ∙ (unfold asideBook in rw (is-sound (sp .pages) (bookOf m sp) (b .sound)))
 
 -- A REPORT leaves the ticket of the moment as it is
 pub release-ticket : {sp : Space} {m : ℕ → ℕ} {role : ℕ → Role} → Booked sp m role → (k : ℕ) → k ≤ bookOf m sp .aside

@@ -4,8 +4,8 @@ use mathlib.Core.Bool.{Bool}
 use mathlib.Core.List.{List, [], _∷_}
 use mathlib.Core.Path.{_≡_, refl, sym, ap, _∙_, subst, subst₂}
 use native.Mathlib.Omega.{arith}
-use Rattle.word.specs.Writes.{Write, write, after}
-use Rattle.word.proofs.Writes.{Every, every-one}
+use Rattle.word.specs.Writes.{Write, write, after, Every}
+use Rattle.word.proofs.Writes.{every-one}
 use Rattle.entry.specs.Entry.{says}
 use Rattle.entry.specs.Words.{withRights}
 use Rattle.entry.specs.Clean.{Clean}
@@ -19,8 +19,9 @@ use Rattle.walk.specs.Walk.{indexOf}
 use Rattle.walk.specs.declared.Found.the-variants as found
 use Rattle.walk.proofs.Digits.{index-lt}
 use Rattle.tables.specs.Roles.{Role}
-use Rattle.tables.specs.Operation.{Changed, changed-sound}
-use Rattle.tables.specs.Down.{protect-done}
+use Rattle.tables.specs.Operation.{Changed}
+use Rattle.tables.proofs.Operation.{changed-sound}
+use Rattle.tables.proofs.Down.{protect-done}
 use Rattle.pool.specs.Book.{bookOf, ticketIn}
 use Rattle.pool.proofs.Alone.{unmarking-one, alone-after}
 use Rattle.pool.specs.Booked.{settingOf}

@@ -7,15 +7,16 @@ use mathlib.Core.Path.{_≡_, sym, ap, _∙_, subst, subst₂}
 use native.Mathlib.Decide.{ℕ-discrete}
 use native.Mathlib.Omega.{arith}
 use Rattle.word.specs.Memory.{set}
-use Rattle.word.specs.Writes.{Write, write, after}
-use Rattle.word.proofs.Writes.{Every, every-one, every-append}
+use Rattle.word.specs.Writes.{Write, write, after, Every}
+use Rattle.word.proofs.Writes.{every-one, every-append}
 use Rattle.word.proofs.Set.{set-at, set-other}
 use Rattle.entry.specs.Entry.{everything}
 use Rattle.walk.specs.Walk.{indexOf}
 use Rattle.walk.proofs.Digits.{index-lt}
 use Rattle.tables.specs.Roles.{Role, aside, table, left, Bare}
-use Rattle.tables.specs.Way.{Comes, onto, onto-role}
-use Rattle.tables.specs.Up.{Up, up-step, up-spare}
+use Rattle.tables.specs.Way.{Comes, onto}
+use Rattle.tables.proofs.Way.{onto-role}
+use Rattle.tables.proofs.Up.{Up, up-step, up-spare}
 use Rattle.pool.specs.Book.{bookOf, ticketOf}
 use Rattle.pool.specs.Booked.{settingOf, Booked, Numbered}
 use Rattle.pool.specs.Changes.{asideWrites, asideBook}

@@ -11,8 +11,9 @@ use Rattle.entry.specs.declared.Rights.{Rights}
 use Rattle.walk.specs.Walk.{baseOf, indexOf}
 use Rattle.walk.specs.declared.Found.the-variants as found
 use Rattle.tables.specs.Roles.{Role}
-use Rattle.tables.specs.Meaning.{meaning, high-nothing, mean-nothing, mean-page}
-use Rattle.tables.specs.Overlap.{starts-once}
+use Rattle.tables.specs.Meaning.{meaning}
+use Rattle.tables.proofs.Meaning.{high-nothing, mean-nothing, mean-page}
+use Rattle.tables.proofs.Overlap.{starts-once}
 use Rattle.pool.specs.Booked.{settingOf}
 use Rattle.pool.specs.declared.Space.{Space}
 use Rattle.plan.specs.declared.Reason.the-variants.{NothingStarts}

@@ -4,11 +4,10 @@ use mathlib.Core.Bool.{Bool}
 use mathlib.Core.List.{List}
 use mathlib.Core.Path.{_≡_, sym, ap, _∙_}
 use native.Mathlib.Omega.{arith}
-use Rattle.word.specs.Writes.{Write, after}
-use Rattle.word.proofs.Writes.{Every}
+use Rattle.word.specs.Writes.{Write, after, Every}
 use Rattle.tables.specs.Roles.{Role, left, Sound}
-use Rattle.tables.specs.Clearing.{Untouched, spare-untouched, untouched-holds}
-use Rattle.tables.specs.Unseen.{shift-sound}
+use Rattle.tables.proofs.Clearing.{Untouched, spare-untouched, untouched-holds}
+use Rattle.tables.proofs.Unseen.{shift-sound}
 use Rattle.pool.proofs.Alone.{alone-after, release-unmarking}
 use Rattle.pool.specs.Book.{bookOf, dueOf}
 use Rattle.pool.specs.Booked.{settingOf, Booked, released}

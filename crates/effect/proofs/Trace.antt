@@ -14,8 +14,9 @@ use Rattle.entry.specs.declared.Entry.the-variants as entry
 use Rattle.entry.proofs.Fields.{last-no-table}
 use Rattle.walk.specs.Walk.{indexOf, entryOf}
 use Rattle.tables.specs.Roles.{Setting, Role, book, left, entryAt, Built}
-use Rattle.tables.specs.Way.{Comes, onto, comes-left, onto-role}
-use Rattle.tables.specs.Meaning.{comes-root}
+use Rattle.tables.specs.Way.{Comes, onto}
+use Rattle.tables.proofs.Way.{comes-left, onto-role}
+use Rattle.tables.proofs.Meaning.{comes-root}
 use Rattle.pool.specs.Layout.{bookPages}
 use Rattle.pool.specs.Book.{inPool}
 use Rattle.pool.specs.Booked.{settingOf, Booked}
@@ -25,8 +26,7 @@ use Rattle.pool.proofs.Pages.{root-page}
 use Rattle.plan.specs.declared.descent.Way.{Way}
 use Rattle.plan.specs.declared.descent.Why.{Why}
 use Rattle.plan.specs.declared.descent.Why.the-variants as why
-use Rattle.plan.specs.Descend.{Trail, At, Stopped}
-use Rattle.plan.specs.Descend.{pushOf, stopOf, toldOf, arriveOf, stepOf, downOf, endOf, noWay, wayOf}
+use Rattle.plan.specs.Descend.{Trail, At, Stopped, pushOf, stopOf, toldOf, arriveOf, stepOf, downOf, endOf, noWay, wayOf}
 
 -- entry i of level l of page q names the table t, and the walk of va comes to q
 pub record Names (σ : Setting) (m : ℕ → ℕ) (va l q t : ℕ) : Type 0 where

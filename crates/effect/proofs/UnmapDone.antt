@@ -7,11 +7,11 @@ use native.Mathlib.Decide.{ℕ-discrete}
 use native.Mathlib.Omega.{arith}
 use borrow.Author.Tests.{eq-eqb, ne-eqb, le-leb}
 use lib.Dec.{eqb}
-use Rattle.word.specs.Writes.{after}
-use Rattle.word.proofs.Writes.{Every}
+use Rattle.word.specs.Writes.{after, Every}
 use Rattle.tables.specs.Roles.{Role}
 use Rattle.walk.specs.declared.Found.the-variants as found
-use Rattle.tables.specs.Operation.{Changed, changed-sound}
+use Rattle.tables.specs.Operation.{Changed}
+use Rattle.tables.proofs.Operation.{changed-sound}
 use Rattle.pool.proofs.Alone.{alone-after}
 use Rattle.pool.specs.Layout.{bookPages}
 use Rattle.pool.specs.Book.{bookOf, ticketOf}

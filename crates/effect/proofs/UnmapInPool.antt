@@ -6,8 +6,8 @@ use mathlib.Core.Path.{_≡_, refl, subst}
 use native.Mathlib.Omega.{arith}
 use borrow.Author.Tests.{leb-false}
 use lib.Dec.{leb, eqb}
-use Rattle.word.specs.Writes.{write}
-use Rattle.word.proofs.Writes.{Every, none, every-one, every-append}
+use Rattle.word.specs.Writes.{write, Every, none}
+use Rattle.word.proofs.Writes.{every-one, every-append}
 use Rattle.walk.specs.Walk.{indexOf}
 use Rattle.walk.proofs.Digits.{index-lt}
 use Rattle.pool.specs.Book.{openedOf}

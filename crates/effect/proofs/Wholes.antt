@@ -5,19 +5,19 @@ use mathlib.Core.List.{List}
 use mathlib.Core.Logic.{inr}
 use mathlib.Core.Path.{_≡_}
 use native.Mathlib.Omega.{arith}
-use Rattle.word.specs.Writes.{Write}
-use Rattle.word.proofs.Writes.{Every, every-map}
+use Rattle.word.specs.Writes.{Write, Every}
+use Rattle.word.proofs.Writes.{every-map}
 use Rattle.tables.specs.Roles.{Role, left}
-use Rattle.tables.specs.Clearing.{Spare, book-spare}
+use Rattle.tables.proofs.Clearing.{Spare, book-spare}
 use Rattle.pool.specs.Book.{bookOf, namesOf, openedOf}
-use Rattle.pool.specs.Booked.{settingOf, Booked}
+use Rattle.pool.specs.Booked.{settingOf, Booked, Owned}
 use Rattle.pool.specs.declared.Space.{Space}
 use Rattle.pool.specs.declared.Fit.the-variants as fit
 use Rattle.pool.specs.declared.Opened.the-variants as opened
 use Rattle.pool.proofs.Counts.{InPool, pool-in}
 use Rattle.pool.proofs.Booked.{Beside}
 use Rattle.pool.proofs.Listing.{booked-names, booked-opens}
-use Rattle.pool.proofs.Pages.{Owned, built-owned}
+use Rattle.pool.proofs.Pages.{built-owned}
 use Rattle.pool.proofs.Proper.{OfBook}
 use Rattle.effect.specs.OfPool.{OfPool}
 use Rattle.plan.specs.Descend.{wayOf}

@@ -2,8 +2,7 @@
 use Prim.Native.Nat.{ℕ, suc, _+_, _%_, _^_, _≤_}
 use mathlib.Core.Bool.{Bool}
 use mathlib.Core.Path.{_≡_}
-use Rattle.word.specs.Writes.{after}
-use Rattle.word.proofs.Writes.{Every}
+use Rattle.word.specs.Writes.{after, Every}
 use Rattle.entry.specs.Entry.{sizeOf}
 use Rattle.entry.specs.declared.Entry.the-variants.{Nothing}
 use Rattle.walk.specs.Walk.{indexOf}

@@ -3,8 +3,7 @@ use Prim.Native.Nat.{ℕ, _/_, _%_}
 use mathlib.Core.Bool.{Bool}
 use mathlib.Core.Path.{_≡_}
 use Rattle.word.specs.Memory.{at}
-use Rattle.word.specs.Writes.{after}
-use Rattle.word.proofs.Writes.{Every}
+use Rattle.word.specs.Writes.{after, Every}
 use Rattle.entry.specs.Entry.{sizeOf}
 use Rattle.entry.specs.Kept.{Kept}
 use Rattle.entry.specs.declared.Rights.{Rights}

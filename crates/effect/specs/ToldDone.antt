@@ -3,8 +3,7 @@ use Prim.Native.Nat.{ℕ, _<_, _≤_}
 use mathlib.Core.Bool.{Bool}
 use mathlib.Core.Logic.{_≢_}
 use mathlib.Core.Path.{_≡_}
-use Rattle.word.specs.Writes.{after}
-use Rattle.word.proofs.Writes.{Every}
+use Rattle.word.specs.Writes.{after, Every}
 use Rattle.world.specs.OneChange.{Quiet}
 use Rattle.tables.specs.Roles.{Role, free, aside}
 use Rattle.tables.specs.Meaning.{meaning}

@@ -1,5 +1,5 @@
 -- What map hands on: the entry itself where no table is missing, and else what is to be built.
-use Prim.Native.Nat.{ℕ, _+_, _-_, _%_, _^_, _<_, _≤_}
+use Prim.Native.Nat.{ℕ, _-_, _%_, _^_, _<_, _≤_}
 use mathlib.Core.Bool.{Bool, true, false, cond, _&&_}
 use mathlib.Core.Path.{_≡_, refl, sym, ap, _∙_}
 use native.Mathlib.Omega.{arith}
@@ -7,7 +7,7 @@ use borrow.Author.Tests.{le-leb, lt-leb, lt-ltb, leb-true, eq-eqb, eqb-true}
 use lib.Dec.{leb, eqb}
 use Rattle.word.proofs.Tests.{and-both}
 use Rattle.entry.specs.Entry.{sizeOf}
-use Rattle.entry.specs.Words.{fits, pageWord, madePage}
+use Rattle.entry.specs.Words.{fits, madePage}
 use Rattle.entry.specs.declared.Rights.{Rights}
 use Rattle.entry.specs.declared.Made.the-variants as made
 use Rattle.walk.specs.Walk.{indexOf}
@@ -22,14 +22,9 @@ use Rattle.plan.specs.declared.maps.Supply.{Supply}
 use Rattle.plan.specs.declared.maps.Supply.the-variants.{Pages, Lacking}
 use Rattle.plan.specs.declared.maps.Leaf.{Leaf}
 use Rattle.plan.specs.declared.building.Making.the-variants as making
-use Rattle.plan.specs.declared.maps.Placing.{Placing}
 use Rattle.plan.specs.declared.maps.Placing.the-variants as placing
 use Rattle.plan.specs.Map.{Placed, Go, Refused, supplyOf, apartOf, sparedOf, madeOf, placeOf, nextOf, growOf, buildOf, writesOf, leafOf, leafWrites, didOf, makingOf, placingOf}
 use Rattle.plan.proofs.Shapes.{Shaped}
-
-pub refused-placing : (r : Reason) → placingOf (Refused r) ≡ placing.Refused r
-unfolding placingOf
-refused-placing r = refl
 
 module _ (q : Asked) (target level table x : ℕ) where
   pub place-lacking : (s : Supply) (y : Reason) → s ≡ Lacking y → placing.Refused y ≡ placingOf (placeOf q target level table s)

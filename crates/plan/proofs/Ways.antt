@@ -1,7 +1,7 @@
 -- Of any bytes: where a way stops is one of the four levels, and one that stopped at a page did; and what the code keeps of a way.
 use Prim.Native.Nat.{ℕ, zero, suc, _<_, _≤_}
 use mathlib.Core.Bool.{Bool, true, false, cond}
-use mathlib.Core.Path.{_≡_, refl, sym, ap, _∙_}
+use mathlib.Core.Path.{_≡_, refl}
 use native.Mathlib.Omega.{arith}
 use lib.Dec.{eqb}
 use Rattle.entry.specs.Entry.{bit, says}
@@ -14,7 +14,6 @@ use Rattle.plan.specs.declared.descent.Way.{Way}
 use Rattle.plan.specs.declared.descent.Why.{Why}
 use Rattle.plan.specs.declared.descent.Why.the-variants as why
 use Rattle.plan.specs.declared.descent.Arrival.{Arrival}
-use Rattle.plan.specs.declared.descent.Track.{Track}
 use Rattle.plan.specs.declared.descent.Track.the-variants as track
 use Rattle.plan.specs.Descend.{Trail, At, Stopped, pushOf, stopOf, toldOf, arriveOf, stepOf, downOf, endOf, noWay, wayOf, levelOf, Paged, framedOf, stopAt, trackOf}
 
@@ -62,9 +61,6 @@ way-low h m sp va target =
 abbrev Known : Trail → Type 0
 Known (At t w) = w .why ≡ why.Stray
 Known (Stopped w) = w .why ≡ why.Page → Paged w
-
-not-page : (w : Way) (y : Why) → w .why ≡ y → (y ≡ why.Page → ⊥) → w .why ≡ why.Page → Paged w
-not-page w y e n k = absurd (n (sym e ∙ k))
 
 told-known : (target n x : ℕ) (w : Way) (e : Entry) → says n x ≡ e → w .why ≡ why.Stray → Known (toldOf target n x w e)
 unfolding toldOf stopOf

@@ -4,8 +4,8 @@ use mathlib.Core.List.{List}
 use mathlib.Core.Logic.{_⊎_, inl, inr, _≢_}
 use mathlib.Core.Path.{_≡_, sym, ap, _∙_, subst}
 use native.Mathlib.Omega.{arith}
-use Rattle.word.specs.Writes.{Write, after}
-use Rattle.word.proofs.Writes.{Every, every-map, after-other}
+use Rattle.word.specs.Writes.{Write, after, Every}
+use Rattle.word.proofs.Writes.{every-map, after-other}
 use Rattle.tables.specs.Roles.{Role, book}
 use Rattle.pool.specs.declared.Space.{Space}
 use Rattle.pool.specs.declared.Book.{Book}

@@ -7,8 +7,8 @@ use native.Mathlib.Decide.{decLt}
 use native.Mathlib.Omega.{arith}
 use borrow.Author.Tests.{ne-eqb}
 use Rattle.word.specs.Memory.{at}
-use Rattle.word.specs.Writes.{Write, after, zeros}
-use Rattle.word.proofs.Writes.{Every, every-append, every-map, every-zeros, after-append, after-other, after-zeros}
+use Rattle.word.specs.Writes.{Write, after, zeros, Every}
+use Rattle.word.proofs.Writes.{every-append, every-map, every-zeros, after-append, after-other, after-zeros}
 use Rattle.tables.specs.Roles.{Zero}
 use Rattle.pool.specs.declared.Space.{Space}
 use Rattle.pool.specs.declared.Book.{Book}

@@ -17,7 +17,7 @@ use Rattle.pool.specs.declared.Opened.the-variants as opened
 use Rattle.pool.specs.Layout.{markAt, pagesAt, rootAt, ticketsAt, freeAt, asideAt, headerWords, slotAt}
 use Rattle.pool.specs.Book.{wordOf, mark, openedOf}
 use Rattle.pool.specs.Changes.{put}
-use Rattle.pool.specs.Create.{mayCreate, newSpace, row, fills, blanks, unmarks, bared, slots, header, newFree, layOut, createWrites, createIn}
+use Rattle.pool.specs.Create.{mayCreate, newSpace, row, fills, blanks, unmarks, bared, slots, header, newFree, layOut, createWrites, createIn, begun}
 use Rattle.pool.proofs.Far.{word-at}
 use Rattle.pool.proofs.Words.{book-some}
 use Rattle.pool.proofs.Rows.{put-same}
@@ -102,10 +102,6 @@ module _ (sp : Space) (behind : sp .first < sp .root) where
   laid-unmarked m (suc k) z u = after-elsewhere (wordOf sp markAt) (after m (put sp markAt 0 ∷ [])) (take k rest) (rest-until k (omega arith)) ∙ put-same m sp markAt 0
 
 module _ (s : List ℕ) (origin first pages : ℕ) where
-  -- the window when so many words are written
-  abbrev pub begun : ℕ → List ℕ
-  begun k = carried s origin (take k (createWrites (length s) (holds s origin) origin first pages))
-
   unmarked : (k : ℕ) (f : Fit) → mayCreate (length s) (holds s origin) origin first pages ≡ f → 0 < k → k < length (createIn (newSpace origin first pages) f)
       → memory (carried s origin (take k (createIn (newSpace origin first pages) f))) origin (wordOf (newSpace origin first pages) markAt) ≡ 0
   unfolding createIn
@@ -120,9 +116,9 @@ module _ (s : List ℕ) (origin first pages : ℕ) where
 
   -- NO BOOK YET: stopped between its first write and its last, whatever was there before and whatever is then opened there
   pub create-interrupted : (k : ℕ) → 0 < k → k < length (createWrites (length s) (holds s origin) origin first pages)
-      → (sp : Space) → sp .origin ≡ origin → sp .first ≡ first → (b : Book) → openedOf (holds (begun k) origin) (memory (begun k) origin) sp ≢ opened.Book b
+      → (sp : Space) → sp .origin ≡ origin → sp .first ≡ first → (b : Book) → openedOf (holds (begun s origin first pages k) origin) (memory (begun s origin first pages k) origin) sp ≢ opened.Book b
   unfolding createWrites
   create-interrupted k z u sp same here b e =
       let o = open-shows _ _ sp b e in
       let none = unmarked k (mayCreate (length s) (holds s origin) origin first pages) refl z u in
-      omega (arith, sym none ∙ ap (λ (p : ℕ). memory (begun k) origin (512 * p + markAt)) (sym here) ∙ o .names .marked)
+      omega (arith, sym none ∙ ap (λ (p : ℕ). memory (begun s origin first pages k) origin (512 * p + markAt)) (sym here) ∙ o .names .marked)

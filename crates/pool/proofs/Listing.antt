@@ -15,13 +15,12 @@ use Rattle.pool.specs.declared.Listed.{Listed}
 use Rattle.pool.specs.declared.Listed.the-variants.{Page, Bad}
 use Rattle.pool.specs.Layout.{slotAt, bookPages}
 use Rattle.pool.specs.Book.{wordOf, bookOf, spotOf, pageAt, inPool, soundOf, namesOf, openedOf, usableOf, namedOf, listedOf}
-use Rattle.pool.specs.Booked.{Booked}
+use Rattle.pool.specs.Booked.{Booked, Owned}
 use Rattle.pool.proofs.Counts.{InPool, pool-in, in-pool, is-sound, spot-in}
 use Rattle.pool.proofs.Words.{word-page, slot-word}
 use Rattle.pool.specs.declared.Fit.the-variants as fit
 use Rattle.pool.specs.declared.Opened.the-variants as opened
 use Rattle.pool.proofs.Opening.{Fitting, Names, names, opens}
-use Rattle.pool.proofs.Pages.{Owned}
 
 -- a page for tables
 pub record Usable (sp : Space) (p : ℕ) : Type 0 where

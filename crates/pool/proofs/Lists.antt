@@ -7,7 +7,7 @@ use native.Mathlib.Omega.{arith}
 use Rattle.word.specs.Memory.{set}
 use Rattle.word.proofs.Set.{set-at, set-other}
 use Rattle.tables.specs.Roles.{Role, free, aside, table, Idle}
-use Rattle.tables.specs.Unseen.{Shifted}
+use Rattle.tables.proofs.Unseen.{Shifted}
 use Rattle.pool.specs.Booked.{Lists, Taken, thawed}
 
 -- p is one of f 0, .. f (k - 1), or none of them

@@ -6,8 +6,8 @@ use mathlib.Core.Path.{_≡_, refl}
 use native.Mathlib.Omega.{arith}
 use lib.ListN.{length, replicate, length-replicate}
 use Rattle.word.specs.Memory.{memory, holds}
-use Rattle.word.specs.Writes.{Write, after, carried, zeros}
-use Rattle.word.proofs.Writes.{Every, every-append, every-map, every-zeros, holds-carried, memory-carried}
+use Rattle.word.specs.Writes.{Write, after, carried, zeros, Every}
+use Rattle.word.proofs.Writes.{every-append, every-map, every-zeros, holds-carried, memory-carried}
 use Rattle.tables.specs.Roles as tables
 use Rattle.pool.specs.declared.Space.{Space}
 use Rattle.pool.specs.declared.Fit.{Fit}

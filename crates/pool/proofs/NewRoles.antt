@@ -7,7 +7,8 @@ use native.Mathlib.Decide.{decLe, decLt, ℕ-discrete}
 use native.Mathlib.Omega.{arith}
 use borrow.Author.Tests.{le-leb, lt-leb, lt-ltb, le-ltb, eq-eqb, ne-eqb}
 use Rattle.tables.specs.Roles.{Role, foreign, free, aside, book, root, table, Sound, Zero}
-use Rattle.tables.specs.Start.{Fresh, fresh-sound}
+use Rattle.tables.specs.Start.{Fresh}
+use Rattle.tables.proofs.Start.{fresh-sound}
 use Rattle.pool.specs.declared.Space.{Space}
 use Rattle.pool.specs.Layout.{bookPages}
 use Rattle.pool.specs.Booked.{settingOf, newRole}

@@ -4,21 +4,13 @@ use mathlib.Core.Bool.{Bool, true, false≢true}
 use mathlib.Core.Logic.{_≢_}
 use mathlib.Core.Path.{_≡_, refl, sym, ap, _∙_}
 use native.Mathlib.Omega.{arith}
-use Rattle.tables.specs.Roles.{Role, foreign, free, aside, book, root, table}
+use Rattle.tables.specs.Roles.{Role, foreign, free, aside, book, root, table, Built}
 use Rattle.pool.specs.declared.Space.{Space}
 use Rattle.pool.specs.Layout.{bookPages}
 use Rattle.pool.specs.Book.{bookOf, pageAt}
-use Rattle.tables.specs.Roles.{Built}
 use Rattle.entry.specs.Entry.{tableOf}
-use Rattle.pool.specs.Booked.{settingOf, Booked, tablesOf, howMany, isFree, isAside, isBook, isRoot}
+use Rattle.pool.specs.Booked.{settingOf, Booked, tablesOf, howMany, isFree, isAside, isBook, isRoot, Owned, OneOf, of-book, listed-free, listed-aside, the-root, a-table}
 use Rattle.pool.proofs.Census.{Names, names-count, census}
-
--- The pages of the pool, and no others, have roles here, and the root is one of them.
-pub record Owned (sp : Space) (role : ℕ → Role) : Type 0 where
-  pub home : (p : ℕ) → role p ≢ foreign → (sp .first ≤ p) × (p < sp .first + sp .pages)
-  pub whole : (p : ℕ) → sp .first ≤ p → p < sp .first + sp .pages → role p ≢ foreign
-  pub starts : role (sp .root) ≡ root
-  pub alone : (p : ℕ) → role p ≡ root → p ≡ sp .root
 
 -- the root's page, from CR3
 pub root-page : (p : ℕ) → p < 2 ^ 40 → tableOf (4096 * p) ≡ p
@@ -114,14 +106,6 @@ module _ {sp : Space} {role : ℕ → Role} (o : Owned sp role) where
         rw (free-count, aside-count, names-count _ (sp .first) (sp .pages) (λ j. sp .root) 1 root-names, names-count _ (sp .first) (sp .pages) (λ j. sp .first + j) (bookPages (sp .pages)) book-names) at
         (census role (sp .first) (sp .pages) (o .whole))
 
--- A PAGE OF THE POOL IS EXACTLY ONE OF FIVE: its role is one, and the book's bytes and the root say which.
-pub data OneOf (sp : Space) (m : ℕ → ℕ) (p : ℕ) : Role → Type 0 where
-  of-book : sp .first ≤ p → p < sp .first + bookPages (sp .pages) → OneOf sp m p book
-  listed-free : (k : ℕ) → k < bookOf m sp .free → pageAt m sp k ≡ p → OneOf sp m p free
-  listed-aside : (k : ℕ) → k < bookOf m sp .aside → pageAt m sp (bookOf m sp .free + k) ≡ p → OneOf sp m p aside
-  the-root : p ≡ sp .root → OneOf sp m p root
-  a-table : (l q i : ℕ) → OneOf sp m p (table l q i)
-
 module _ {sp : Space} {m : ℕ → ℕ} {role : ℕ → Role} (o : Owned sp role) (b : Booked sp m role) where
   pub one-of : (p : ℕ) → sp .first ≤ p → p < sp .first + sp .pages → OneOf sp m p (role p)
   one-of p u v = go (role p) refl
@@ -133,11 +117,3 @@ module _ {sp : Space} {m : ℕ → ℕ} {role : ℕ → Role} (o : Owned sp role
       go book e = let k = b .no-other p e in of-book (k .0) (k .1)
       go root e = the-root (o .alone p e)
       go (table l q i) e = a-table l q i
-
-  -- and what they say is so: no page is said to be two things
-  pub one-role : (p : ℕ) (r : Role) → OneOf sp m p r → ((l q i : ℕ) → r ≢ table l q i) → role p ≡ r
-  one-role p r (of-book u v) n = b .in-book p u v
-  one-role p r (listed-free k u e) n = ap role (sym e) ∙ b .lists .frees k u
-  one-role p r (listed-aside k u e) n = ap role (sym e) ∙ b .lists .asides k u
-  one-role p r (the-root e) n = ap role e ∙ o .starts
-  one-role p r (a-table l q i) n = absurd (n l q i refl)

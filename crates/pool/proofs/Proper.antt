@@ -6,10 +6,10 @@ use mathlib.Core.Path.{_≡_, refl}
 use native.Mathlib.Omega.{arith}
 use borrow.Author.Tests.{leb-true}
 use lib.Dec.{leb}
-use Rattle.word.specs.Writes.{Write}
+use Rattle.word.specs.Writes.{Write, Proper, Every}
 use Rattle.word.proofs.Tests.{and-both}
-use Rattle.word.proofs.Writes.{Proper, Every, every-append}
-use Rattle.word.proofs.Writes.Every.{none, more}
+use Rattle.word.proofs.Writes.{every-append}
+use Rattle.word.specs.Writes.Every.{none, more}
 use Rattle.pool.specs.declared.Space.{Space}
 use Rattle.pool.specs.declared.Book.{Book}
 use Rattle.pool.specs.Layout.{markAt, pagesAt, rootAt, ticketsAt, freeAt, asideAt, headAt, headerWords, slotAt, bookWords, bookPages}

@@ -12,13 +12,12 @@ use Rattle.tables.specs.Roles.{Role, free, aside, book}
 use Rattle.pool.specs.declared.Space.{Space}
 use Rattle.pool.specs.declared.Book.{Book}
 use Rattle.pool.specs.Layout.{markAt, pagesAt, rootAt, headAt, freeAt, asideAt, ticketsAt, headerWords, slotAt}
-use Rattle.pool.specs.Book.{wordOf, bookOf, spotOf, pageAt, Sound}
+use Rattle.pool.specs.Book.{wordOf, bookOf, spotOf, pageAt, Sound, dueOf}
 use Rattle.pool.specs.Changes.{releaseWrites}
-use Rattle.pool.specs.Book.{dueOf, ticketOf}
 use Rattle.pool.specs.declared.Due.the-variants as due
 use Rattle.pool.specs.Booked.{Lists, Booked, released, Numbered}
 use Rattle.pool.proofs.Counts.{is-sound}
-use Rattle.tables.specs.Unseen.{Shifted}
+use Rattle.tables.proofs.Unseen.{Shifted}
 use Rattle.pool.proofs.Lists.{among, lists-same, lists-thawed, thawed-free, thawed-stays, thawed-shifted}
 use Rattle.pool.proofs.Words.{header-slot, puts, becomes, puts-word, puts-book}
 use Rattle.pool.proofs.Booked.{numbered-by, changed}
@@ -142,9 +141,6 @@ module _ {sp : Space} {m : ℕ → ℕ} {role : ℕ → Role} (b : Booked sp m r
   one-number p n n' h k =
       let e = b .lists .once (bookOf m sp .free + h .0) (bookOf m sp .free + k .0) (omega (arith, h .1)) (omega (arith, k .1)) (h .2 ∙ sym (k .2)) in
       omega (arith, h .3, k .3)
-
-  pub below-ticket : (p n : ℕ) → Numbered m sp p n → n < ticketOf (bookOf m sp)
-  below-ticket p n h = omega (arith, h .1, h .3)
 
   -- WHAT A REPORT DOES: pages with a number below the ticket are free, all others that were set aside stay so, with their numbers
   pub record Told (t k : ℕ) : Type 0 where

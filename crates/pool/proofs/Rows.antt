@@ -7,10 +7,10 @@ use native.Mathlib.Decide.{ℕ-discrete}
 use native.Mathlib.Numerals.{add-one}
 use native.Mathlib.Omega.{arith}
 use Rattle.word.specs.Memory.{at}
-use Rattle.word.specs.Writes.{write, Wrote, after}
+use Rattle.word.specs.Writes.{write, Wrote, after, Every, none}
 use Rattle.word.proofs.Budget.{wrote-none, wrote-then}
 use Rattle.word.proofs.Set.{set-same, set-other}
-use Rattle.word.proofs.Writes.{Every, none, every-append, every-one, after-append}
+use Rattle.word.proofs.Writes.{every-append, every-one, after-append}
 use Rattle.pool.specs.declared.Space.{Space}
 use Rattle.pool.specs.Book.{wordOf}
 use Rattle.pool.specs.Changes.{put}

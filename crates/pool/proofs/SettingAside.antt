@@ -15,11 +15,11 @@ use Rattle.pool.specs.declared.Book.{Book}
 use Rattle.pool.specs.Layout.{markAt, pagesAt, rootAt, headAt, freeAt, asideAt, ticketsAt, headerWords, slotAt, bookPages}
 use Rattle.pool.specs.Book.{wordOf, bookOf, spotOf, pageAt, Sound}
 use Rattle.pool.specs.Changes.{asideWrites, asideBook}
-use Rattle.pool.specs.Booked.{Lists, Booked, Numbered, tablesOf, isTable}
+use Rattle.pool.specs.Booked.{Lists, Booked, Numbered, tablesOf, isTable, Owned}
 use Rattle.pool.proofs.Counts.{is-sound, spot-once}
 use Rattle.pool.proofs.Lists.{lists-aside}
 use Rattle.pool.proofs.Census.{many-some}
-use Rattle.pool.proofs.Pages.{Owned, adds-up}
+use Rattle.pool.proofs.Pages.{adds-up}
 use Rattle.pool.proofs.Words.{header-slot, slot-header, slot-once, puts, becomes, puts-word, puts-book}
 use Rattle.pool.proofs.Booked.{numbered-by, changed}
 

@@ -119,3 +119,18 @@ newRole sp p =
     cond (leb (sp .first) p && ltb p (sp .first + sp .pages))
     (cond (ltb p (sp .first + bookPages (sp .pages))) book (cond (eqb p (sp .first + bookPages (sp .pages))) root free))
     foreign
+
+-- The pages of the pool, and no others, have roles here, and the root is one of them.
+pub record Owned (sp : Space) (role : ℕ → Role) : Type 0 where
+  pub home : (p : ℕ) → role p ≢ foreign → (sp .first ≤ p) × (p < sp .first + sp .pages)
+  pub whole : (p : ℕ) → sp .first ≤ p → p < sp .first + sp .pages → role p ≢ foreign
+  pub starts : role (sp .root) ≡ root
+  pub alone : (p : ℕ) → role p ≡ root → p ≡ sp .root
+
+-- A PAGE OF THE POOL IS EXACTLY ONE OF FIVE: its role is one, and the book's bytes and the root say which.
+pub data OneOf (sp : Space) (m : ℕ → ℕ) (p : ℕ) : Role → Type 0 where
+  of-book : sp .first ≤ p → p < sp .first + bookPages (sp .pages) → OneOf sp m p book
+  listed-free : (k : ℕ) → k < bookOf m sp .free → pageAt m sp k ≡ p → OneOf sp m p free
+  listed-aside : (k : ℕ) → k < bookOf m sp .aside → pageAt m sp (bookOf m sp .free + k) ≡ p → OneOf sp m p aside
+  the-root : p ≡ sp .root → OneOf sp m p root
+  a-table : (l q i : ℕ) → OneOf sp m p (table l q i)

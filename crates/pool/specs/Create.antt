@@ -3,7 +3,9 @@ use Prim.Native.Nat.{ℕ, zero, suc, _+_, _-_, _*_, _%_, _^_, _<_, _≤_}
 use mathlib.Core.Bool.{Bool, cond}
 use mathlib.Core.List.{List, [], _∷_, _++_}
 use lib.Dec.{eqb}
-use Rattle.word.specs.Writes.{Write, write, zeros}
+use lib.ListN.{length, take}
+use Rattle.word.specs.Memory.{holds}
+use Rattle.word.specs.Writes.{Write, write, zeros, carried}
 use Rattle.pool.specs.declared.Space.{Space}
 use Rattle.pool.specs.declared.Fit.{Fit}
 use Rattle.pool.specs.declared.Fit.the-variants as fit
@@ -85,3 +87,7 @@ createIn sp (fit.Refused r) = []
 -- WHAT IT WRITES
 unfoldable pub createWrites : ℕ → (ℕ → Bool) → ℕ → ℕ → ℕ → List Write
 createWrites len h origin first pages = createIn (newSpace origin first pages) (mayCreate len h origin first pages)
+
+-- the window when so many of these words are written
+abbrev pub begun : List ℕ → ℕ → ℕ → ℕ → ℕ → List ℕ
+begun s origin first pages k = carried s origin (take k (createWrites (length s) (holds s origin) origin first pages))

@@ -10,14 +10,17 @@ use Rattle.word.specs.Writes as word
 use Rattle.walk.specs.Walk.{baseOf}
 use Rattle.walk.specs.declared.Found.{Found}
 use Rattle.walk.specs.declared.Found.the-variants.{Page, Nothing, Outside}
-use Rattle.world.specs.Events.{Event, after, after-append, among-all, All, all-map, all-both, all-append, all-last}
+use Rattle.world.specs.Events.{Event, after, All}
+use Rattle.world.proofs.Events.{after-append, among-all, all-map, all-both, all-append, all-last}
 use Rattle.world.specs.Reports.{now}
 use Rattle.world.proofs.Reports.{last-ends}
 use Rattle.tables.specs.Roles.{Role}
-use Rattle.tables.specs.Near.{Near, near-range}
-use Rattle.tables.specs.Overlap.{aligned-base, nothing-mapped}
-use Rattle.tables.specs.Meaning.{never-outside}
-use Rattle.tables.specs.Clearing.{eventsOf, events-after}
+use Rattle.tables.specs.Near.{Near}
+use Rattle.tables.proofs.Near.{near-range}
+use Rattle.tables.proofs.Overlap.{aligned-base, nothing-mapped}
+use Rattle.tables.proofs.Meaning.{never-outside}
+use Rattle.tables.specs.Clearing.{eventsOf}
+use Rattle.tables.proofs.Clearing.{events-after}
 use Rattle.pool.specs.Book.{bookOf, ticketOf}
 use Rattle.pool.specs.declared.Space.{Space}
 use Rattle.plan.specs.Map as map

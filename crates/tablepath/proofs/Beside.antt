@@ -11,14 +11,19 @@ use Rattle.word.specs.Memory.{set, at}
 use Rattle.word.proofs.Set.{set-at, set-other}
 use Rattle.word.proofs.Writes.{page-of}
 use Rattle.walk.specs.declared.Found.{Found}
-use Rattle.world.specs.Events.{Event, write, mark, store, happen, after, Among, among-map, All}
+use Rattle.world.specs.Events.{Event, write, mark, store, happen, after, Among, All}
+use Rattle.world.proofs.Events.{among-map}
 use Rattle.world.specs.Walker.{Gives}
 use Rattle.world.specs.Held.{Can, None}
-use Rattle.world.specs.Discipline.{Grow, Safe, interleaving}
-use Rattle.world.specs.Rules.{frozen, safe-first, safe-rest}
+use Rattle.world.specs.Discipline.{Grow, Safe}
+use Rattle.world.proofs.Discipline.{interleaving}
+use Rattle.world.specs.Rules.{frozen}
+use Rattle.world.proofs.Rules.{safe-first, safe-rest}
 use Rattle.world.specs.Frozen.{SomeReads}
-use Rattle.world.specs.Turns.{Turn, events, Idle, places, begun, each-walk}
-use Rattle.world.specs.Walks.{At, one-space-meaning}
+use Rattle.world.specs.Turns.{Turn, events, Idle, places, begun}
+use Rattle.world.proofs.Turns.{each-walk}
+use Rattle.tables.specs.Walks.{At}
+use Rattle.tables.proofs.Walks.{one-space-meaning, laws-of}
 use Rattle.world.proofs.Cut.{read-or-frozen}
 use Rattle.tables.specs.Roles.{Role}
 use Rattle.tables.specs.Discipline.{walkerOf}
@@ -52,7 +57,7 @@ module _ (h : ℕ → Bool) (sp : Space) (n : ℕ) (m : ℕ → ℕ) (role : ℕ
       → Among (after m (events earlier)) (events during) (λ x. means h sp x (who i) ≡ o)
   each-walk-ends who earlier during later r i d d' o g =
       among-map (events during) (after m (events earlier)) _ _ (λ x e. sym (one-space-meaning h (4096 * sp .root) x (who i)) ∙ e)
-      (each-walk (walkerOf (settingOf h sp)) who earlier during later (From sp n m) m (reached-safe h sp n m role w u cs (events (earlier ++ (during ++ later))) r) i d d' o g)
+      (each-walk (walkerOf (settingOf h sp)) (laws-of (settingOf h sp)) who earlier during later (From sp n m) m (reached-safe h sp n m role w u cs (events (earlier ++ (during ++ later))) r) i d d' o g)
 
   module _ (gs : List (Event ℕ)) (r : Reached h sp n m cs gs) where
     -- EVERY CACHE that was empty at first, and every walk that goes on from what one holds: since then.
@@ -60,7 +65,7 @@ module _ (h : ℕ → Bool) (sp : Space) (n : ℕ) (m : ℕ → ℕ) (role : ℕ
         → Gives (walkerOf (settingOf h sp)) va p o → Among m gs (λ x. means h sp x va ≡ o)
     every-answer va p o c g =
         among-map gs m _ _ (λ x e. sym (one-space-meaning h (4096 * sp .root) x va) ∙ e)
-        (interleaving (walkerOf (settingOf h sp)) gs (From sp n m) m (reached-safe h sp n m role w u cs gs r) va p o c g)
+        (interleaving (walkerOf (settingOf h sp)) (laws-of (settingOf h sp)) gs (From sp n m) m (reached-safe h sp n m role w u cs gs r) va p o c g)
 
     -- What holds between operations holds whenever nothing waits.
     pub run-whole : r .waiting ≡ [] → (role' : ℕ → Role) × Whole h sp (after m gs) role'
@@ -76,10 +81,10 @@ module _ (h : ℕ → Bool) (sp : Space) (n : ℕ) (m : ℕ → ℕ) (role : ℕ
   -- A WORD THAT WALKS READ is written by nothing from the moment on that none reads it: a table, from the write on that unlinks it.
   pub unwritten-since : (es fs : List (Event ℕ)) → Reached h sp n m cs (es ++ fs) → (x : ℕ) → SomeReads (walkerOf (settingOf h sp)) x m
       → ¬ SomeReads (walkerOf (settingOf h sp)) x (after m es) → All (after m es) fs (λ y. Remarked sp x (after m es x) (y x))
-  unwritten-since es fs r x reads none = elim (read-or-frozen (walkerOf (settingOf h sp)) es (From sp n m) m x (safe-first (walkerOf (settingOf h sp)) es fs (From sp n m) m safe) reads) [
+  unwritten-since es fs r x reads none = elim (read-or-frozen (walkerOf (settingOf h sp)) (laws-of (settingOf h sp)) es (From sp n m) m x (safe-first (walkerOf (settingOf h sp)) (laws-of (settingOf h sp)) es fs (From sp n m) m safe) reads) [
     | inl s ↦ absurd (none s)
     | inr f ↦ frozen-stays h sp fs (frozen (walkerOf (settingOf h sp)) (From sp n m) m es) (after m es) (after m es) x
-        (safe-rest (walkerOf (settingOf h sp)) es fs (From sp n m) m safe) (others-rest sp es fs m (r .others)) f (inl refl)
+        (safe-rest (walkerOf (settingOf h sp)) (laws-of (settingOf h sp)) es fs (From sp n m) m safe) (others-rest sp es fs m (r .others)) f (inl refl)
   ]
     where
       safe : Safe (walkerOf (settingOf h sp)) (From sp n m) m (es ++ fs)

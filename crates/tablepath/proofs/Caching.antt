@@ -7,8 +7,9 @@ use Rattle.walk.specs.declared.Found.{Found}
 use Rattle.walk.specs.declared.Place.{Place}
 use Rattle.walk.specs.declared.Place.the-variants.{Going, Ended}
 use Rattle.world.specs.Walker.{finish, Reads}
-use Rattle.world.specs.Walks.{At, stepAt, ended-gives}
-use Rattle.world.specs.Ties.{ended-reads}
+use Rattle.tables.specs.Walks.{At, stepAt}
+use Rattle.tables.proofs.Walks.{ended-gives}
+use Rattle.tables.proofs.Ties.{ended-reads}
 use Rattle.world.specs.Reports.{Finishes}
 use Rattle.tables.specs.Discipline.{walkerOf}
 use Rattle.pool.specs.Booked.{settingOf}

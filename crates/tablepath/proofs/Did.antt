@@ -14,16 +14,19 @@ use Rattle.walk.specs.Walk.{baseOf}
 use Rattle.walk.specs.declared.Found.{Found}
 use Rattle.walk.specs.declared.Found.the-variants.{Page, Nothing}
 use Rattle.walk.proofs.Ranges.{page-covers}
-use Rattle.world.specs.Events.{Event, after, All, all-map, all-both, all-last}
-use Rattle.world.specs.Walks.{one-space-meaning}
-use Rattle.world.specs.OneChange.{OldOrNew, old-or-new}
+use Rattle.world.specs.Events.{Event, after, All}
+use Rattle.world.proofs.Events.{all-map, all-both, all-last}
+use Rattle.tables.proofs.Walks.{one-space-meaning, laws-of}
+use Rattle.world.proofs.OneChange.{OldOrNew, old-or-new}
 use Rattle.tables.specs.Roles.{Role}
-use Rattle.tables.specs.Near.{Near, near-range}
-use Rattle.tables.specs.Overlap.{aligned-base, nothing-mapped}
+use Rattle.tables.specs.Near.{Near}
+use Rattle.tables.proofs.Near.{near-range}
+use Rattle.tables.proofs.Overlap.{aligned-base, nothing-mapped}
 use Rattle.tables.specs.Discipline.{walkerOf}
-use Rattle.tables.specs.Clearing.{eventsOf, events-after}
+use Rattle.tables.specs.Clearing.{eventsOf}
+use Rattle.tables.proofs.Clearing.{events-after}
 use Rattle.tables.specs.Operation.{Changed}
-use Rattle.tables.specs.Unseen.{alike-means}
+use Rattle.tables.proofs.Unseen.{alike-means}
 use Rattle.pool.specs.Book.{bookOf, ticketOf, dueOf}
 use Rattle.pool.specs.Booked.{settingOf}
 use Rattle.pool.specs.declared.Space.{Space}
@@ -84,7 +87,7 @@ module _ (h : ℕ → Bool) (sp : Space) where
     turned : (c : Call) (va l : ℕ) (o : Found) (role' : ℕ → Role) (ws : List Write) → Changed (settingOf h sp) m role va l o ws (word.after m ws) role'
         → ((vb : ℕ) → Near l va vb → Did h sp m vb c (means h sp m vb) o) → Stirs c m m (eventsOf ws)
     turned c va l o role' ws k f = record {
-      moments = all-map (eventsOf ws) m _ _ (as-means m (after m (eventsOf ws))) (old-or-new (walkerOf (settingOf h sp)) (eventsOf ws) m (k .change));
+      moments = all-map (eventsOf ws) m _ _ (as-means m (after m (eventsOf ws))) (old-or-new (walkerOf (settingOf h sp)) (laws-of (settingOf h sp)) (eventsOf ws) m (k .change));
       did = λ vb. rw (events-after m ws) (go vb (ℕ-discrete (va / sizeOf l) (vb / sizeOf l)));
     }
       where

@@ -4,7 +4,8 @@ use Prim.Native.Nat.{ℕ}
 use mathlib.Core.Bool.{Bool}
 use mathlib.Core.List.{List, [], _∷_, _++_, append-assoc, append-nil}
 use mathlib.Core.Path.{_≡_, refl, sym, ap, _∙_, subst}
-use Rattle.world.specs.Events.{Event, after, after-append}
+use Rattle.world.specs.Events.{Event, after}
+use Rattle.world.proofs.Events.{after-append}
 use Rattle.world.specs.Marks.{writes}
 use Rattle.world.specs.Reports.{Period, now, last, underway, next, oldest, younger}
 use Rattle.world.proofs.Reports.{last-ends}

@@ -13,12 +13,15 @@ use Rattle.walk.specs.Walk.{baseOf}
 use Rattle.walk.specs.declared.Found.{Found}
 use Rattle.walk.specs.declared.Found.the-variants.{Page, Nothing, Outside}
 use Rattle.walk.proofs.Ranges.{page-covers}
-use Rattle.world.specs.Events.{Event, after, after-append, All, all-map, all-both, all-append, all-last, among-all}
+use Rattle.world.specs.Events.{Event, after, All}
+use Rattle.world.proofs.Events.{after-append, all-map, all-both, all-append, all-last, among-all}
 use Rattle.world.specs.Reports.{last, next}
 use Rattle.tables.specs.Roles.{Role}
-use Rattle.tables.specs.Near.{Near, near-range}
-use Rattle.tables.specs.Overlap.{aligned-base}
-use Rattle.tables.specs.Clearing.{eventsOf, events-after}
+use Rattle.tables.specs.Near.{Near}
+use Rattle.tables.proofs.Near.{near-range}
+use Rattle.tables.proofs.Overlap.{aligned-base}
+use Rattle.tables.specs.Clearing.{eventsOf}
+use Rattle.tables.proofs.Clearing.{events-after}
 use Rattle.pool.specs.Book.{bookOf, ticketOf}
 use Rattle.pool.specs.declared.Space.{Space}
 use Rattle.plan.specs.Unmap as unmap

@@ -8,13 +8,13 @@ use mathlib.Core.Path.{_≡_, refl, sym, ap, _∙_, subst}
 use native.Mathlib.Omega.{arith}
 use borrow.Author.Tests.{eq-eqb, ne-eqb}
 use Rattle.word.specs.Memory.{at, memory, holds}
-use Rattle.word.specs.Writes.{Write, after, carried}
-use Rattle.word.proofs.Writes.{Every, none, every-map, after-other, holds-carried, memory-carried}
+use Rattle.word.specs.Writes.{Write, after, carried, Every, none}
+use Rattle.word.proofs.Writes.{every-map, after-other, holds-carried, memory-carried}
 use Rattle.entry.specs.declared.Rights.{Rights}
 use Rattle.entry.specs.Clean.{Clean}
 use Rattle.entry.specs.Entry.{says}
 use Rattle.tables.specs.Roles.{Role, left}
-use Rattle.tables.specs.Unseen.{Alike, alike-sound}
+use Rattle.tables.proofs.Unseen.{Alike, alike-sound}
 use Rattle.pool.specs.Layout.{markAt, pagesAt, rootAt}
 use Rattle.pool.specs.Book.{wordOf, mark, roomOf, headedOf, rootedIn, namesIn, namesOf, openedOf, openedIn}
 use Rattle.pool.specs.Booked.{settingOf, SameBook}
@@ -43,7 +43,7 @@ use Rattle.tablepath.specs.Calls.{Call, callWrites}
 use Rattle.tablepath.specs.Calls as calls
 use Rattle.tablepath.specs.Handles.{Refuses, Rejected, NamedNot, RefusedFor, BookAt, Disjoint}
 use Rattle.tablepath.proofs.InPool.{call-in-pool}
-use Rattle.tablepath.proofs.Wholes.{WholeBytes}
+use Rattle.tablepath.specs.Looks.{WholeBytes}
 
 -- A space that no book names --------------------------------------------------------------------------------------------------------
 

@@ -10,11 +10,11 @@ use borrow.Author.Tests.{ltb-true}
 use lib.ListN.{getD}
 use Rattle.word.specs.Bytes.{putWord}
 use Rattle.word.specs.Memory.{memory, holds, at, written}
-use Rattle.word.specs.Writes.{Write, carried}
+use Rattle.word.specs.Writes.{Write, carried, Every, none, more}
 use Rattle.word.proofs.Bytes.{byte-put-apart}
 use Rattle.word.proofs.Memory.{held}
 use Rattle.word.proofs.Tests.{and-both}
-use Rattle.word.proofs.Writes.{Every, none, more, every-map}
+use Rattle.word.proofs.Writes.{every-map}
 use Rattle.entry.specs.declared.Rights.{Rights}
 use Rattle.pool.specs.Book.{openedOf, dueOf}
 use Rattle.pool.specs.declared.Space.{Space}

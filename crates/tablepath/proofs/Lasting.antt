@@ -9,7 +9,8 @@ use native.Mathlib.Omega.{arith}
 use Rattle.entry.specs.declared.Rights.{Rights}
 use Rattle.walk.specs.declared.Found.{Found}
 use Rattle.walk.specs.declared.Found.the-variants.{Page, Nothing, Outside}
-use Rattle.world.specs.Events.{after, after-append, All, all-first, all-map, all-append}
+use Rattle.world.specs.Events.{after, All}
+use Rattle.world.proofs.Events.{after-append, all-first, all-map, all-append}
 use Rattle.tables.specs.Roles.{Role}
 use Rattle.tables.specs.Near.{Near}
 use Rattle.tables.specs.Way.{Comes}

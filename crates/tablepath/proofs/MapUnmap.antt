@@ -28,16 +28,14 @@ use Rattle.tablepath.specs.Calls.{callWrites}
 use Rattle.tablepath.specs.declared.Mapped.the-variants as mapped
 use Rattle.tablepath.specs.declared.Unmapped.the-variants as unmapped
 use Rattle.tablepath.specs.declared.Gone.{Gone}
-use Rattle.tablepath.proofs.RoundTrips.{lookUp, In, Swapped, withPage, look-up-after-map, look-up-beside-map, look-up-after-unmap}
-use Rattle.tablepath.proofs.Wholes.{WholeBytes, call-kept}
+use Rattle.tablepath.specs.Looks.{lookUp, In, Swapped, WholeBytes, withPage}
+use Rattle.tablepath.proofs.RoundTrips.{look-up-after-map, look-up-beside-map, look-up-after-unmap}
+use Rattle.tablepath.proofs.Wholes.{call-kept}
 
 module _ (s : List ℕ) (sp : Space) (role : ℕ → Role) (w : WholeBytes s sp role) (q : Asked) (k : ℕ)
     (done : mapAnswer (holds s (sp .origin)) (memory s (sp .origin)) sp q ≡ mapped.Done k) where
-  -- the window after the map, and what holds there
-  abbrev pub mapped-window : List ℕ
-  mapped-window = withPage s sp role w q k done
-
-  still : (role' : ℕ → Role) × WholeBytes mapped-window sp role'
+  -- what holds after the map
+  still : (role' : ℕ → Role) × WholeBytes (withPage s sp q) sp role'
   unfolding callWrites
   still = call-kept s sp role w (calls.map q)
 
@@ -50,20 +48,20 @@ module _ (s : List ℕ) (sp : Space) (role : ℕ → Role) (w : WholeBytes s sp 
       go (map.Refused y) e f = let z : _≡_ {A = ℕ} 0 1 = cc in absurd (omega arith)
       go (map.Go p) e f = let d = decided-done w q p e in omega (arith, d .fitted .size-is, size-pos (p .target))
 
-  at-base : lookUp mapped-window sp (q .base) ≡ Page (q .base) (q .size) (q .frame) (q .rights)
+  at-base : lookUp (withPage s sp q) sp (q .base) ≡ Page (q .base) (q .size) (q .frame) (q .rights)
   at-base = look-up-after-map s sp role w q k done (q .base) (omega arith, omega (arith, wide))
 
   -- UNMAP AFTER MAP answers what was mapped
-  pub unmap-after-map : (g : Gone) × (unmapAnswer (holds mapped-window (sp .origin)) (memory mapped-window (sp .origin)) sp (q .base) ≡ unmapped.Done g)
+  pub unmap-after-map : (g : Gone) × (unmapAnswer (holds (withPage s sp q) (sp .origin)) (memory (withPage s sp q) (sp .origin)) sp (q .base) ≡ unmapped.Done g)
       × (g .frame ≡ q .frame) × (g .size ≡ q .size)
   unfolding unmapAnswer unmapSaid
   unmap-after-map =
-      let starts : StartsAt (settingOf (holds mapped-window (sp .origin)) sp) (memory mapped-window (sp .origin)) (q .base) =
+      let starts : StartsAt (settingOf (holds (withPage s sp q) (sp .origin)) sp) (memory (withPage s sp q) (sp .origin)) (q .base) =
       record { address = q .base; size = q .size; frame = q .frame; rights = q .rights; means = at-base } in
       let go = unmap-exactly (still .1) (q .base) .succeeds .1 starts in
-      let b = bookOf (memory mapped-window (sp .origin)) sp in
+      let b = bookOf (memory (withPage s sp q) (sp .origin)) sp in
       let g = goneOf b (go .0) in
-      let said : unmapSaid b (unmap.decideOf (holds mapped-window (sp .origin)) (memory mapped-window (sp .origin)) sp (q .base)) ≡ unmapped.Done g = rw (go .1) in
-      let there = look-up-after-unmap mapped-window sp (still .0) (still .1) (q .base) g said in
+      let said : unmapSaid b (unmap.decideOf (holds (withPage s sp q) (sp .origin)) (memory (withPage s sp q) (sp .origin)) sp (q .base)) ≡ unmapped.Done g = rw (go .1) in
+      let there = look-up-after-unmap (withPage s sp q) sp (still .0) (still .1) (q .base) g said in
       let same : Page (q .base) (q .size) (q .frame) (q .rights) ≡ Page (q .base) (g .size) (g .frame) (there .had) = sym at-base ∙ there .before in
       (g, said, cc, cc)

@@ -16,11 +16,12 @@ use Rattle.entry.specs.Clean.{Clean}
 use Rattle.entry.specs.Marks.{Marked}
 use Rattle.entry.proofs.Clean.{marked-clean}
 use Rattle.entry.proofs.Marks.{marks-say-nothing}
-use Rattle.world.specs.Events.{Event, write, mark, store, happen, after, All, all-first}
+use Rattle.world.specs.Events.{Event, write, mark, store, happen, after, All}
+use Rattle.world.proofs.Events.{all-first}
 use Rattle.world.specs.Marks.{writes, Fair, Agree}
 use Rattle.tables.specs.Roles.{Role, Built}
-use Rattle.tables.specs.Meaning.{live-home}
-use Rattle.tables.specs.Unseen.{Alike, alike-sound}
+use Rattle.tables.proofs.Meaning.{live-home}
+use Rattle.tables.proofs.Unseen.{Alike, alike-sound}
 use Rattle.tables.specs.Discipline.{walkerOf}
 use Rattle.tables.specs.Clearing.{eventsOf}
 use Rattle.pool.specs.Layout.{markAt, bookPages}

@@ -27,7 +27,8 @@ use Rattle.tablepath.specs.Calls.{Call, callWrites}
 use Rattle.tablepath.specs.Calls as calls
 use Rattle.tablepath.specs.Tickets.{StateSays, StateOpened, Handed}
 use Rattle.tablepath.proofs.Says.{unmap-says, protect-says}
-use Rattle.tablepath.proofs.Wholes.{WholeBytes, call-leaves}
+use Rattle.tablepath.specs.Looks.{WholeBytes}
+use Rattle.tablepath.proofs.Wholes.{call-leaves}
 
 -- State ----------------------------------------------------------------------------------------------------------------------------
 

@@ -9,10 +9,12 @@ use mathlib.Core.Path.{_≡_, refl, sym, ap, _∙_, subst}
 use Rattle.walk.specs.declared.Found.{Found}
 use Rattle.walk.specs.declared.Place.{Place}
 use Rattle.walk.specs.declared.Place.the-variants.{Going, Ended}
-use Rattle.world.specs.Events.{Event, write, mark, store, happen, Among, among-map, All, all-last}
+use Rattle.world.specs.Events.{Event, write, mark, store, happen, Among, All}
+use Rattle.world.proofs.Events.{among-map, all-last}
 use Rattle.world.specs.Marks.{writes}
 use Rattle.world.specs.Walker.{Reads}
-use Rattle.world.specs.Walks.{At, one-space-meaning}
+use Rattle.tables.specs.Walks.{At}
+use Rattle.tables.proofs.Walks.{one-space-meaning, laws-of}
 use Rattle.world.specs.Reports.{fromNow, now, last, next, Caches, NoMore, Held, Keeps, OnWay, Untold, Tells, Fresh, Enough}
 use Rattle.world.proofs.Reports.{last-ends, fresh, reaches-none, half-on, as-if-all, flushed, no-more-held}
 use Rattle.tables.specs.Near.{Near}
@@ -48,7 +50,7 @@ module _ (h : ℕ → Bool) (sp : Space) where
     given-apart N s a g =
         given-outside h sp (cachesOf half) N a g
         (s .outside (g .address) _
-        (fresh (walkerOf (settingOf h sp)) (cachesOf half) (finishes h sp half) (history N) (s .keeps) (s .tells) (g .address) (g .gets .place) _ (g .gets .held) (g .gets .gives)))
+        (fresh (walkerOf (settingOf h sp)) (laws-of (settingOf h sp)) (cachesOf half) (finishes h sp half) (history N) (s .keeps) (s .tells) (g .address) (g .gets .place) _ (g .gets .held) (g .gets .gives)))
 
     -- what happens: a write that waited first, a mark, or another's store outside the pool
     pub record Fits (N : Night) (e : Event ℕ) : Type 0 where
@@ -131,7 +133,7 @@ module _ (h : ℕ → Bool) (sp : Space) where
 
   pub night-flushed : (N : Night) → NightFlushed h sp N
   unfolding history
-  night-flushed N T all C va p = flushed (walkerOf (settingOf h sp)) C (history N) T all va p
+  night-flushed N T all C va p = flushed (walkerOf (settingOf h sp)) (laws-of (settingOf h sp)) C (history N) T all va p
 
   abbrev Half : At → Type 0
   Half p = IsHalf (p .place)
@@ -147,11 +149,11 @@ module _ (h : ℕ → Bool) (sp : Space) where
     -- a word that the walk of an address reads at no moment of the last period is read from nothing that is held
     pub night-reads : (va x : ℕ) → All (lastBegan N) (lastSince N) (λ y. ¬ Reads (walkerOf (settingOf h sp)) y va (walkerOf (settingOf h sp) .start va) x) → ¬ MayRead h sp untoldKept N va x
     night-reads va x none r =
-        reaches-none (walkerOf (settingOf h sp)) untoldKept (finishes h sp Half) (history N) (s .keeps) (s .tells) va x none (r .place) (r .held) (r .reads)
+        reaches-none (walkerOf (settingOf h sp)) (laws-of (settingOf h sp)) untoldKept (finishes h sp Half) (history N) (s .keeps) (s .tells) va x none (r .place) (r .held) (r .reads)
 
     -- a half-done walk that is held was on its way in the last period
     half-was-on : (va : ℕ) (p : At) → Held (walkerOf (settingOf h sp)) untoldKept (history N) va p → IsHalf (p .place) → OnWay (walkerOf (settingOf h sp)) (last (history N)) va p
-    half-was-on va p held half = half-on (walkerOf (settingOf h sp)) untoldKept (finishes h sp Half) (history N) (s .keeps) (s .tells) va p held (not-both p half)
+    half-was-on va p held half = half-on (walkerOf (settingOf h sp)) (laws-of (settingOf h sp)) untoldKept (finishes h sp Half) (history N) (s .keeps) (s .tells) va p held (not-both p half)
       where
         not-both : (p : At) → IsHalf (p .place) → ¬ IsFinished (p .place)
         not-both p = go (p .place)
@@ -202,7 +204,7 @@ module _ (h : ℕ → Bool) (sp : Space) where
     night-kind N honest told va o g =
         let s = sure Half (λ p x. x) N honest (inl (complete-of N told)) in
         among-map (lastSince N) (lastBegan N) _ _ (λ x e. sym (ap kind (one-space-meaning h (4096 * sp .root) x va)) ∙ e)
-        (as-if-all (walkerOf (settingOf h sp)) untoldKept (finishes h sp Half) kind (history N) (s .keeps) (s .tells) va (enough N honest told va) (g .place) o (g .held) (g .gives))
+        (as-if-all (walkerOf (settingOf h sp)) (laws-of (settingOf h sp)) untoldKept (finishes h sp Half) kind (history N) (s .keeps) (s .tells) va (enough N honest told va) (g .place) o (g .held) (g .gives))
 
   pub night-answer : (N : Night) → Honest h sp untoldKept N → Exact h sp N → NightAnswer h sp N
   night-answer = night-kind (λ o. o) (Hit h sp) (exactly h sp)
@@ -239,7 +241,7 @@ module _ (h : ℕ → Bool) (sp : Space) where
     t = sure (λ p. ⊥) (λ p x. absurd x) N honest (inr (λ p x. x))
 
     pub night-fresh : NightFresh h sp N
-    night-fresh va o g = fresh (walkerOf (settingOf h sp)) upperDropped (finishes h sp (λ p. ⊥)) (history N) (t .keeps) (t .tells) va (g .place) o (g .held) (g .gives)
+    night-fresh va o g = fresh (walkerOf (settingOf h sp)) (laws-of (settingOf h sp)) upperDropped (finishes h sp (λ p. ⊥)) (history N) (t .keeps) (t .tells) va (g .place) o (g .held) (g .gives)
 
     pub stale-stays-out : StaysOut h sp upperDropped N
     stale-stays-out = given-apart (λ p. ⊥) (λ p x. absurd x) N t

@@ -7,9 +7,10 @@ use mathlib.Core.Logic.{inl, inr}
 use mathlib.Core.Path.{_≡_, refl, sym, ap, _∙_, subst}
 use native.Mathlib.Omega.{arith}
 use Rattle.word.specs.Writes as word
-use Rattle.world.specs.Events.{Event, after, after-append}
+use Rattle.world.specs.Events.{Event, after}
+use Rattle.world.proofs.Events.{after-append}
 use Rattle.tables.specs.Roles.{Role, free, aside}
-use Rattle.tables.specs.Clearing.{events-after}
+use Rattle.tables.proofs.Clearing.{events-after}
 use Rattle.pool.specs.Book.{bookOf, ticketOf}
 use Rattle.pool.specs.Booked.{Numbered}
 use Rattle.pool.specs.declared.Space.{Space}
@@ -39,7 +40,7 @@ module _ (h : ℕ → Bool) (sp : Space) where
     act-rises = act-ticket h sp (ticketOf (bookOf m sp)) m role w (omega arith) a saw (within-less n (ticketOf (bookOf m sp)) (a .call) u within)
 
     -- A CALL HANDS OUT THE TICKET OF THE MOMENT AFTER IT.
-    pub handed-then : (t : ℕ) → Handed h (a .saw) sp (a .call) t → t ≡ ticketOf (bookOf (after m es) sp)
+    pub handed-then : (t : ℕ) → Handed h (a .saw) sp (a .call) t → t ≡ ticketOf (bookOf (after m (actWrites h sp a)) sp)
     handed-then t k =
         handed-now (seen-whole h sp n m role w u a saw within) (a .call) t k ∙ saw-ticket h sp (act-served h sp n m role w u a saw within .whole) saw-end
 

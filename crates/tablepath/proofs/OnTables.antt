@@ -17,14 +17,16 @@ use Rattle.walk.specs.declared.Place.{Place}
 use Rattle.walk.specs.declared.Place.the-variants.{Going, Ended}
 use Rattle.walk.proofs.Digits.{index-lt}
 use Rattle.world.specs.Walker.{On, here}
-use Rattle.world.specs.Ways.{on-step}
-use Rattle.world.specs.Walks.{At, stepAt}
-use Rattle.world.specs.Ties.{on-way}
+use Rattle.world.proofs.Ways.{on-step}
+use Rattle.tables.specs.Walks.{At, stepAt}
+use Rattle.tables.proofs.Ties.{on-way}
 use Rattle.tables.specs.Roles.{Setting, Role, entryAt, Built}
-use Rattle.tables.specs.Way.{Comes, begin, onto, comes-left, onto-role}
-use Rattle.tables.specs.Meaning.{live-home, everything-both}
-use Rattle.tables.specs.Reach.{way-comes}
+use Rattle.tables.specs.Way.{Comes, begin, onto}
+use Rattle.tables.proofs.Way.{comes-left, onto-role}
+use Rattle.tables.proofs.Meaning.{live-home, everything-both}
+use Rattle.tables.proofs.Reach.{way-comes}
 use Rattle.tables.specs.Discipline.{walkerOf}
+use Rattle.tables.proofs.Walks.{laws-of}
 
 module _ {σ : Setting} {m : ℕ → ℕ} {role : ℕ → Role} (b : Built σ m role) where
   -- on a way all rights are granted
@@ -65,7 +67,7 @@ module _ {σ : Setting} {m : ℕ → ℕ} {role : ℕ → Role} (b : Built σ m 
   comes-on {va} {n} {t} (begin e f u) =
       subst (λ (q : At). On (walkerOf σ) m va q (walkerOf σ .start va)) (rw (lt-ltb va (2 ^ 48) u, e, f)) here
   comes-on {va} {n} {t} (onto s g c e) =
-      subst (λ (q : At). On (walkerOf σ) m va q (walkerOf σ .start va)) step (on-step (walkerOf σ) m va _ _ (comes-on c))
+      subst (λ (q : At). On (walkerOf σ) m va q (walkerOf σ .start va)) step (on-step (walkerOf σ) (laws-of σ) m va _ _ (comes-on c))
     where
       step : stepAt (σ .window) m va (suc n) (Going s everything) ≡ record { levels = n; place = Going t everything }
       step = rw (live-home b (comes-left b c) .held, e, onto-role b c e .1, everything-both everything)

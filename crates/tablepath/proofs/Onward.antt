@@ -5,7 +5,8 @@ use mathlib.Core.Bool.{Bool}
 use mathlib.Core.List.{List, [], _∷_, _++_}
 use mathlib.Core.Path.{_≡_, refl, sym, ap, _∙_, subst}
 use native.Mathlib.Omega.{arith}
-use Rattle.world.specs.Events.{Event, happen, after, after-more}
+use Rattle.world.specs.Events.{Event, happen, after}
+use Rattle.world.proofs.Events.{after-more}
 use Rattle.world.specs.Reports.{now}
 use Rattle.world.proofs.Reports.{last-ends}
 use Rattle.pool.specs.Book.{bookOf, ticketOf}

@@ -6,7 +6,8 @@ use mathlib.Core.List.{List, [], _∷_, _++_, append-assoc, append-nil}
 use mathlib.Core.Logic.{_⊎_, inl, inr}
 use mathlib.Core.Path.{_≡_, refl, sym, ap, _∙_, subst}
 use native.Mathlib.Omega.{arith}
-use Rattle.world.specs.Events.{Event, write, mark, store, happen, after, after-append, Among, among-now, among-split, among-all, All, all-both}
+use Rattle.world.specs.Events.{Event, write, mark, store, happen, after, Among, All}
+use Rattle.world.proofs.Events.{after-append, among-now, among-split, among-all, all-both}
 use Rattle.world.specs.Marks.{writes}
 use Rattle.world.specs.Reports.{Period, fromNow, longer, eachLonger}
 use Rattle.tables.specs.Roles.{Role}

@@ -9,7 +9,8 @@ use Rattle.entry.specs.declared.Rights.{Rights}
 use Rattle.entry.specs.declared.Entry.the-variants.{Table}
 use Rattle.world.specs.Walker.{Reads}
 use Rattle.tables.specs.Roles.{Role, aside, left, Live, entryAt}
-use Rattle.tables.specs.Discipline.{walkerOf, unread}
+use Rattle.tables.specs.Discipline.{walkerOf}
+use Rattle.tables.proofs.Discipline.{unread}
 use Rattle.pool.specs.Booked.{settingOf, Numbered}
 use Rattle.pool.specs.declared.Space.{Space}
 use Rattle.effect.specs.Whole.{Whole}

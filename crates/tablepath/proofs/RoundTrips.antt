@@ -1,22 +1,19 @@
 -- EXACTLY AS ASKED, in the bytes: what look-up answers after each operation, and that what was mapped can be unmapped.
-use Prim.Native.Nat.{ℕ, _+_, _*_, _%_, _^_, _<_, _≤_}
-use mathlib.Core.Bool.{Bool, true}
+use Prim.Native.Nat.{ℕ, _*_, _%_}
+use mathlib.Core.Bool.{true}
 use mathlib.Core.List.{List}
-use mathlib.Core.Path.{_≡_, refl, sym, ap, _∙_, subst}
+use mathlib.Core.Path.{_≡_, refl, _∙_, subst}
 use native.Mathlib.Omega.{arith}
 use Rattle.word.specs.Memory.{memory, holds}
-use Rattle.word.specs.Writes.{Write, after, carried}
-use Rattle.word.proofs.Writes.{Every, every-map, holds-carried, memory-carried}
-use Rattle.entry.specs.Entry.{sizeOf}
+use Rattle.word.specs.Writes.{Write, after, carried, Every}
+use Rattle.word.proofs.Writes.{every-map, holds-carried, memory-carried}
 use Rattle.entry.specs.declared.Rights.{Rights}
 use Rattle.walk.specs.Walk.{walk, baseOf}
-use Rattle.walk.specs.declared.Found.{Found}
 use Rattle.walk.specs.declared.Found.the-variants.{Page, Nothing}
-use Rattle.tables.specs.Roles.{Role, Home}
-use Rattle.tables.specs.Edits.{turns-inside, turns-outside}
-use Rattle.tables.specs.Overlap.{aligned-base}
+use Rattle.tables.specs.Roles.{Role}
+use Rattle.tables.proofs.Edits.{turns-inside, turns-outside}
+use Rattle.tables.proofs.Overlap.{aligned-base}
 use Rattle.pool.specs.Book.{bookOf, dueOf}
-use Rattle.pool.specs.Booked.{settingOf}
 use Rattle.pool.specs.declared.Due.{Due}
 use Rattle.pool.specs.declared.Due.the-variants as due
 use Rattle.pool.specs.declared.Space.{Space}
@@ -30,7 +27,6 @@ use Rattle.plan.specs.declared.unmaps.Removing.the-variants as removing
 use Rattle.plan.specs.declared.protects.Changing.{Changing}
 use Rattle.plan.specs.declared.protects.Changing.the-variants as changing
 use Rattle.effect.specs.Whole.{Whole}
-use Rattle.effect.specs.MapDone.{MapDone}
 use Rattle.effect.specs.UnmapDone.{UnmapDone}
 use Rattle.effect.specs.ProtectDone.{ProtectDone}
 use Rattle.effect.proofs.Wholes.{book-opens, every-held}
@@ -38,21 +34,13 @@ use Rattle.effect.proofs.MapDone.{decided-done, mapped-inside, mapped-outside}
 use Rattle.effect.proofs.UnmapDone.{unmapped}
 use Rattle.effect.proofs.ProtectDone.{protected}
 use Rattle.effect.proofs.ToldDone.{told}
-use Rattle.effect.proofs.Exactly.{unmap-exactly}
 use Rattle.tablepath.specs.Answers.{mapAnswer, mapWrites, mapSaid, unmapAnswer, unmapWrites, unmapSaid, goneOf, protectAnswer, protectWrites, sameOf, protectSaid, toldWrites, toldDid, dueDid}
 use Rattle.tablepath.specs.declared.Mapped.the-variants as mapped
 use Rattle.tablepath.specs.declared.Unmapped.the-variants as unmapped′
 use Rattle.tablepath.specs.declared.Gone.{Gone}
 use Rattle.tablepath.specs.declared.Protected.the-variants as protected′
 use Rattle.tablepath.specs.declared.Same.{Same}
-
--- what look-up answers in a window
-abbrev pub lookUp : List ℕ → Space → ℕ → Found
-lookUp s sp va = walk (holds s (sp .origin)) (memory s (sp .origin)) (4096 * sp .root) va
-
--- an address of the range that begins at base
-abbrev pub In : ℕ → ℕ → ℕ → Type 0
-In base size va = (base ≤ va) × (va < base + size)
+use Rattle.tablepath.specs.Looks.{lookUp, In, Swapped, withPage}
 
 -- writes that lie in the window are, as bytes, what they are as memory
 look-up-carried : (s : List ℕ) (sp : Space) (ws : List Write) → Every (λ q. holds s (sp .origin) q ≡ true) ws
@@ -63,10 +51,6 @@ module _ (s : List ℕ) (sp : Space) (role : ℕ → Role) (w : Whole (holds s (
   -- Map -------------------------------------------------------------------------------------------------------------------------
 
   module _ (q : Asked) (k : ℕ) (done : mapAnswer (holds s (sp .origin)) (memory s (sp .origin)) sp q ≡ mapped.Done k) where
-    -- the window after it
-    abbrev pub withPage : List ℕ
-    withPage = carried s (sp .origin) (mapWrites (holds s (sp .origin)) (memory s (sp .origin)) sp q)
-
     map-looks : (x : Placed) → map.decideOf (holds s (sp .origin)) (memory s (sp .origin)) sp q ≡ x → mapSaid x ≡ mapped.Done k → (va : ℕ)
         → (In (q .base) (q .size) va → lookUp (carried s (sp .origin) (map.didOf sp x)) sp va ≡ Page (q .base) (q .size) (q .frame) (q .rights))
         × ((In (q .base) (q .size) va → ⊥) → lookUp (carried s (sp .origin) (map.didOf sp x)) sp va ≡ lookUp s sp va)
@@ -78,22 +62,15 @@ module _ (s : List ℕ) (sp : Space) (role : ℕ → Role) (w : Whole (holds s (
         (λ i. same ∙ mapped-inside w q p d va (i .0) (i .1), λ n. same ∙ mapped-outside w q p d va (λ x y. n (x, y)))
 
     -- LOOK-UP AFTER MAP: every address of the range gets that page, every other what it had.
-    pub look-up-after-map : (va : ℕ) → In (q .base) (q .size) va → lookUp withPage sp va ≡ Page (q .base) (q .size) (q .frame) (q .rights)
+    pub look-up-after-map : (va : ℕ) → In (q .base) (q .size) va → lookUp (withPage s sp q) sp va ≡ Page (q .base) (q .size) (q .frame) (q .rights)
     unfolding mapAnswer mapWrites
     look-up-after-map va i = map-looks (map.decideOf (holds s (sp .origin)) (memory s (sp .origin)) sp q) refl done va .0 i
 
-    pub look-up-beside-map : (va : ℕ) → (In (q .base) (q .size) va → ⊥) → lookUp withPage sp va ≡ lookUp s sp va
+    pub look-up-beside-map : (va : ℕ) → (In (q .base) (q .size) va → ⊥) → lookUp (withPage s sp q) sp va ≡ lookUp s sp va
     unfolding mapAnswer mapWrites
     look-up-beside-map va n = map-looks (map.decideOf (holds s (sp .origin)) (memory s (sp .origin)) sp q) refl done va .1 n
 
 -- Unmap and protect -----------------------------------------------------------------------------------------------------------
-
--- the page that started at base: o is what every address of it gets in the window s' now, and every other address gets what it had
-pub record Swapped (s s' : List ℕ) (sp : Space) (base size frame : ℕ) (o : Found) : Type 0 where
-  pub had : Rights
-  pub before : lookUp s sp base ≡ Page base size frame had
-  pub inside : (va : ℕ) → In base size va → lookUp s' sp va ≡ o
-  pub beside : (va : ℕ) → (In base size va → ⊥) → lookUp s' sp va ≡ lookUp s sp va
 
 module _ (s : List ℕ) (sp : Space) (role : ℕ → Role) (w : Whole (holds s (sp .origin)) sp (memory s (sp .origin)) role) where
   unmap-swaps : (base : ℕ) (g : Gone) (x : Removing) → unmap.decideOf (holds s (sp .origin)) (memory s (sp .origin)) sp base ≡ x → unmapSaid (bookOf (memory s (sp .origin)) sp) x ≡ unmapped′.Done g

@@ -9,19 +9,24 @@ use Rattle.word.specs.Writes.{Write}
 use Rattle.word.specs.Writes as word
 use Rattle.word.specs.Memory.{at}
 use Rattle.word.proofs.Writes.{page-of}
-use Rattle.world.specs.Events.{Event, after, after-append, All, all-map, all-front, all-append}
+use Rattle.world.specs.Events.{Event, after, All}
+use Rattle.world.proofs.Events.{after-append, all-map, all-front, all-append}
 use Rattle.world.specs.Discipline.{Safe}
-use Rattle.world.specs.Rules.{Obeys, obeys-nil, obeys-append, obeys-weaken, safe-less}
-use Rattle.world.specs.Marks.{writes, Inside, obeys-beside}
+use Rattle.world.specs.Rules.{Obeys}
+use Rattle.world.proofs.Rules.{obeys-nil, obeys-append, obeys-weaken, safe-less}
+use Rattle.world.specs.Marks.{writes, Inside}
+use Rattle.world.proofs.Marks.{obeys-beside}
 use Rattle.world.specs.Reports.{Thawed}
-use Rattle.world.specs.Ties.{reads-walk}
+use Rattle.tables.proofs.Ties.{reads-walk}
 use Rattle.world.proofs.Late.{late-safe}
 use Rattle.tables.specs.Roles.{Role, Live}
-use Rattle.tables.specs.Unseen.{alike-built}
-use Rattle.tables.specs.Meaning.{live-home}
-use Rattle.tables.specs.Reach.{walk-reads-tables}
+use Rattle.tables.proofs.Unseen.{alike-built}
+use Rattle.tables.proofs.Meaning.{live-home}
+use Rattle.tables.proofs.Reach.{walk-reads-tables}
 use Rattle.tables.specs.Discipline.{walkerOf}
-use Rattle.tables.specs.Clearing.{eventsOf, events-after}
+use Rattle.tables.specs.Clearing.{eventsOf}
+use Rattle.tables.proofs.Clearing.{events-after}
+use Rattle.tables.proofs.Walks.{laws-of}
 use Rattle.pool.specs.Book.{bookOf, ticketOf}
 use Rattle.pool.specs.Booked.{settingOf, Booked, Numbered}
 use Rattle.pool.specs.declared.Space.{Space}
@@ -109,10 +114,10 @@ module _ (h : ℕ → Bool) (sp : Space) where
 
     pub act-obeys : Obeys (walkerOf (settingOf h sp)) (From sp n m) m es (From sp n (after m es))
     act-obeys =
-        obeys-weaken (walkerOf (settingOf h sp)) es (From sp n m) (From sp n (a .saw)) (From sp n (after m es)) (From sp n (word.after (a .saw) ws)) m
+        obeys-weaken (walkerOf (settingOf h sp)) (laws-of (settingOf h sp)) es (From sp n m) (From sp n (a .saw)) (From sp n (after m es)) (From sp n (word.after (a .saw) ws)) m
         (λ x f. (f .0, f .1, saw-keeps w saw .numbers (x / 512) (f .0) (f .2)))
         (λ x f. (f .0, f .1, saw-keeps (act-served .whole) saw-end .numbers (x / 512) (f .0) (f .2)))
-        (obeys-beside (walkerOf (settingOf h sp)) (PoolWord sp) es (From sp n (a .saw)) (From sp n (word.after (a .saw) ws)) (a .saw) m
+        (obeys-beside (walkerOf (settingOf h sp)) (laws-of (settingOf h sp)) (PoolWord sp) es (From sp n (a .saw)) (From sp n (word.after (a .saw) ws)) (a .saw) m
         (from-pool n (a .saw) role seen-whole) (saw-agree h sp (saw-back sp saw)) (others-fair h sp es m (planned-others sp ws m))
         (subst (λ l. All (a .saw) l (Inside (walkerOf (settingOf h sp)) (PoolWord sp))) (sym (planned-writes ws))
         (all-map es (a .saw) (IsBuilt h sp) (Inside (walkerOf (settingOf h sp)) (PoolWord sp)) (built-inside h sp) (act-served .built)))
@@ -124,14 +129,14 @@ module _ (h : ℕ → Bool) (sp : Space) where
   -- A RUN
   pub run-ran : (n : ℕ) (m : ℕ → ℕ) (role : ℕ → Role) (cs : List Act) → Whole h sp m role → n ≤ ticketOf (bookOf m sp) → Runs h sp m cs → UpTo n cs → Ran n m cs
   unfolding wrote Runs UpTo after All
-  run-ran n m role [] w u r t = record { role = role; whole = w; obeys = obeys-nil (walkerOf (settingOf h sp)) (From sp n m) m; ticket = u; built = (role, w .sound .built) }
+  run-ran n m role [] w u r t = record { role = role; whole = w; obeys = obeys-nil (walkerOf (settingOf h sp)) (laws-of (settingOf h sp)) (From sp n m) m; ticket = u; built = (role, w .sound .built) }
   run-ran n m role (a ∷ cs) w u r t =
       let next = run-ran n (after m (actWrites h sp a)) (act-served n m role w u a (r .0) (t .0) .role) cs (act-whole n m role w u a (r .0) (t .0)) (act-ticket n m role w u a (r .0) (t .0)) (r .1) (t .1) in
       let end : after (after m (actWrites h sp a)) (wrote h sp cs) ≡ after m (actWrites h sp a ++ wrote h sp cs) = sym (after-append (actWrites h sp a) (wrote h sp cs) m) in
       record {
         role = next .role;
         whole = subst (λ x. Whole h sp x (next .role)) end (next .whole);
-        obeys = obeys-append (walkerOf (settingOf h sp)) (actWrites h sp a) (wrote h sp cs) (From sp n m) (From sp n (after m (actWrites h sp a))) (From sp n (after m (actWrites h sp a ++ wrote h sp cs))) m
+        obeys = obeys-append (walkerOf (settingOf h sp)) (laws-of (settingOf h sp)) (actWrites h sp a) (wrote h sp cs) (From sp n m) (From sp n (after m (actWrites h sp a))) (From sp n (after m (actWrites h sp a ++ wrote h sp cs))) m
             (act-obeys n m role w u a (r .0) (t .0))
             (subst (λ x. Obeys (walkerOf (settingOf h sp)) (From sp n (after m (actWrites h sp a))) (after m (actWrites h sp a)) (wrote h sp cs) (From sp n x)) end (next .obeys));
         ticket = subst (λ x. n ≤ ticketOf (bookOf x sp)) end (next .ticket);
@@ -155,13 +160,13 @@ module _ (h : ℕ → Bool) (sp : Space) where
     -- ALL THAT HAPPENS KEEPS THE DISCIPLINE, with the words frozen of pages that were set aside from the ticket on
     pub reached-safe : Safe (walkerOf (settingOf h sp)) (From sp n m) m gs
     reached-safe =
-        late-safe (walkerOf (settingOf h sp)) (PoolWord sp) gs (r .waiting) (wrote h sp cs) (r .in-order) m m (λ x o. refl) (others-fair h sp gs m (r .others))
+        late-safe (walkerOf (settingOf h sp)) (laws-of (settingOf h sp)) (PoolWord sp) gs (r .waiting) (wrote h sp cs) (r .in-order) m m (λ x o. refl) (others-fair h sp gs m (r .others))
         (From sp n m) (from-pool n m role w)
         (all-map (wrote h sp cs) m (IsBuilt h sp) (Inside (walkerOf (settingOf h sp)) (PoolWord sp)) (built-inside h sp) (reached-ran .built))
         (reached-ran .obeys .safe)
 
     pub reached-thawed : Safe (walkerOf (settingOf h sp)) Thawed m gs
-    reached-thawed = safe-less (walkerOf (settingOf h sp)) gs Thawed (From sp n m) m (λ x f. absurd f) reached-safe
+    reached-thawed = safe-less (walkerOf (settingOf h sp)) (laws-of (settingOf h sp)) gs Thawed (From sp n m) m (λ x f. absurd f) reached-safe
 
     -- where nothing waits, memory is what was written, but for marks; and what holds between operations holds
     pub reached-saw : r .waiting ≡ [] → Saw sp (after m (wrote h sp cs)) (after m gs)

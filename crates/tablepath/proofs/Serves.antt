@@ -1,29 +1,33 @@
 -- Every call serves: map, unmap, protect and told, whatever they answer.
-use Prim.Native.Nat.{ℕ, _+_, _-_, _*_, _/_, _<_, _≤_}
-use mathlib.Core.Bool.{Bool, true, false, cond, _&&_}
-use mathlib.Core.List.{List, [], _∷_}
+use Prim.Native.Nat.{ℕ, _/_, _≤_}
+use mathlib.Core.Bool.{Bool}
+use mathlib.Core.List.{List, []}
 use mathlib.Core.Logic.{_⊎_, inl, inr, _≢_}
 use mathlib.Core.Path.{_≡_, refl, sym, ap, _∙_, subst}
-use native.Mathlib.Decide.{decLe, decLt}
+use native.Mathlib.Decide.{decLt}
 use native.Mathlib.Omega.{arith}
-use Rattle.word.specs.Writes.{Write, after}
-use Rattle.word.proofs.Writes.{Every, every-map}
+use Rattle.word.specs.Writes.{Write, after, Every}
+use Rattle.word.proofs.Writes.{every-map}
 use Rattle.entry.specs.declared.Rights.{Rights}
-use Rattle.world.specs.Events.{Among, All, all-map}
-use Rattle.world.specs.Rules.{Obeys, obeys-nil}
-use Rattle.world.specs.Frozen.{SomeReads, obeys-from, among-none}
+use Rattle.world.specs.Events.{All}
+use Rattle.world.proofs.Events.{all-map}
+use Rattle.world.specs.Rules.{Obeys}
+use Rattle.world.proofs.Rules.{obeys-nil}
+use Rattle.world.specs.Frozen.{SomeReads}
+use Rattle.world.proofs.Frozen.{obeys-from, among-none}
 use Rattle.tables.specs.Roles.{Role, foreign, free, aside, book, root, table, left, Built}
-use Rattle.tables.specs.Discipline.{Aside, walkerOf, unread}
-use Rattle.tables.specs.Clearing.{Spare, book-spare, eventsOf, spare-untouched}
-use Rattle.pool.specs.Book.{wordOf, bookOf, ticketOf, openedOf, dueOf}
+use Rattle.tables.specs.Discipline.{Aside, walkerOf}
+use Rattle.tables.proofs.Discipline.{unread}
+use Rattle.tables.proofs.Clearing.{Spare, book-spare, spare-untouched}
+use Rattle.tables.specs.Clearing.{eventsOf}
+use Rattle.tables.proofs.Walks.{laws-of}
+use Rattle.pool.specs.Book.{bookOf, ticketOf, dueOf}
 use Rattle.pool.specs.Booked.{settingOf, released, Numbered}
 use Rattle.pool.specs.Changes.{releaseWrites}
 use Rattle.pool.specs.declared.Space.{Space}
 use Rattle.pool.specs.declared.Book.{Book}
 use Rattle.pool.specs.declared.Due.{Due}
 use Rattle.pool.specs.declared.Due.the-variants as due
-use Rattle.pool.specs.declared.Opened.{Opened}
-use Rattle.pool.specs.declared.Opened.the-variants as opened
 use Rattle.pool.proofs.Proper.{release-proper}
 use Rattle.pool.proofs.Releasing.{has-number, one-number}
 use Rattle.plan.specs.Map as map
@@ -36,7 +40,6 @@ use Rattle.plan.specs.declared.unmaps.Removing.the-variants as removing
 use Rattle.plan.specs.declared.protects.Changing.{Changing}
 use Rattle.plan.specs.declared.protects.Changing.the-variants as changing
 use Rattle.effect.specs.Whole.{Whole}
-use Rattle.effect.specs.Numbers.{KeepsNumbers}
 use Rattle.effect.specs.ToldDone.{ToldDone}
 use Rattle.effect.proofs.MapDone.{decided-done}
 use Rattle.effect.proofs.UnmapDone.{unmapped}
@@ -44,7 +47,6 @@ use Rattle.effect.proofs.ProtectDone.{protected}
 use Rattle.effect.proofs.ToldDone as effect
 use Rattle.effect.proofs.Wholes.{book-opens}
 use Rattle.effect.proofs.Numbers.{release-ticket}
-use Rattle.effect.proofs.Exactly.{told-exactly}
 use Rattle.tablepath.specs.Answers.{mapWrites, unmapWrites, protectWrites, toldWrites, toldDid, dueDid}
 use Rattle.tablepath.specs.Calls.{Call, Within, callWrites, From}
 use Rattle.tablepath.specs.Calls as calls
@@ -62,7 +64,7 @@ module _ (h : ℕ → Bool) (sp : Space) (n : ℕ) (m : ℕ → ℕ) (role : ℕ
   -- a call that is refused writes nothing
   none-served : Served h sp n m []
   unfolding after eventsOf All
-  none-served = record { role = role; whole = w; obeys = obeys-nil (walkerOf (settingOf h sp)) (From sp n m) m; ticket = u; built = (role, w .sound .built); earlier = λ p k e v. e }
+  none-served = record { role = role; whole = w; obeys = obeys-nil (walkerOf (settingOf h sp)) (laws-of (settingOf h sp)) (From sp n m) m; ticket = u; built = (role, w .sound .built); earlier = λ p k e v. e }
 
   map-served : (q : Asked) (x : Placed) → map.decideOf h m sp q ≡ x → Served h sp n m (map.didOf sp x)
   unfolding map.didOf
@@ -94,7 +96,7 @@ module _ (h : ℕ → Bool) (sp : Space) (n : ℕ) (m : ℕ → ℕ) (role : ℕ
   told-obeys : (t k : ℕ) → t ≤ n → ToldDone h sp m role t k
       → Obeys (walkerOf (settingOf h sp)) (From sp n m) m (eventsOf (releaseWrites sp (bookOf m sp) k)) (From sp n (after m (releaseWrites sp (bookOf m sp) k)))
   told-obeys t k v d =
-      obeys-from (walkerOf (settingOf h sp)) (eventsOf ws) (From sp n m) (From sp n (after m ws)) (Aside role) (Aside role) m (d .obeys)
+      obeys-from (walkerOf (settingOf h sp)) (laws-of (settingOf h sp)) (eventsOf ws) (From sp n m) (From sp n (after m ws)) (Aside role) (Aside role) m (d .obeys)
       (λ x f. numbered-aside (w .booked) (x / 512) (f .0) (f .2))
       (λ x f. (f .0, f .1, d .stays (x / 512) (f .0) (f .2) (omega (arith, f .1)) .1))
       (λ x e r. absurd (among-none (eventsOf ws) m (SomeReads (walkerOf (settingOf h sp)) x)
@@ -147,20 +149,3 @@ serves h sp n m role (calls.map q) v w u = map-served h sp n m role w u q (map.d
 serves h sp n m role (calls.unmap va) v w u = unmap-served h sp n m role w u va (unmap.decideOf h m sp va) refl
 serves h sp n m role (calls.protect va g) v w u = protect-served h sp n m role w u va g (protect.decideOf h m sp va g) refl
 serves h sp n m role (calls.told t) v w u = told-served h sp n m role w u t v
-
--- a report of a ticket above the present one writes nothing
-told-none : (h : ℕ → Bool) (sp : Space) (m : ℕ → ℕ) (role : ℕ → Role) (t : ℕ) → Whole h sp m role → ticketOf (bookOf m sp) < t → toldWrites h m sp t ≡ []
-unfolding toldWrites toldDid dueDid
-told-none h sp m role t w u = rw (book-opens w, told-exactly (sp .pages) (bookOf m sp) t (w .booked .sound) .unknown .1 u)
-
--- so every call serves from the present ticket on
-pub serves-now : (h : ℕ → Bool) (sp : Space) (m : ℕ → ℕ) (role : ℕ → Role) (c : Call) → Whole h sp m role → Served h sp (ticketOf (bookOf m sp)) m (callWrites h m sp c)
-unfolding callWrites
-serves-now h sp m role (calls.map q) w = serves h sp (ticketOf (bookOf m sp)) m role (calls.map q) tt w (omega arith)
-serves-now h sp m role (calls.unmap va) w = serves h sp (ticketOf (bookOf m sp)) m role (calls.unmap va) tt w (omega arith)
-serves-now h sp m role (calls.protect va g) w = serves h sp (ticketOf (bookOf m sp)) m role (calls.protect va g) tt w (omega arith)
-serves-now h sp m role (calls.told t) w = go (decLe t (ticketOf (bookOf m sp)))
-  where
-    go : Dec (t ≤ ticketOf (bookOf m sp)) → Served h sp (ticketOf (bookOf m sp)) m (toldWrites h m sp t)
-    go (yes u) = told-served h sp (ticketOf (bookOf m sp)) m role w (omega arith) t u
-    go (no u) = rw (told-none h sp m role t w (omega arith)) (none-served h sp (ticketOf (bookOf m sp)) m role w (omega arith))

@@ -7,14 +7,20 @@ use mathlib.Core.Path.{_≡_, refl, sym, ap, _∙_, subst}
 use native.Mathlib.Omega.{arith}
 use Rattle.word.specs.Writes.{Write, after}
 use Rattle.walk.specs.declared.Found.{Found}
-use Rattle.world.specs.Events.{Event, Among, All, all-map}
+use Rattle.world.specs.Events.{Event, Among, All}
+use Rattle.world.proofs.Events.{all-map}
 use Rattle.world.specs.Events as world
 use Rattle.world.specs.Rules.{Obeys}
-use Rattle.world.specs.Frozen.{SomeReads, obeys-from, among-none}
+use Rattle.world.specs.Frozen.{SomeReads}
+use Rattle.world.proofs.Frozen.{obeys-from, among-none}
 use Rattle.tables.specs.Roles.{Role, aside, left, Built}
-use Rattle.tables.specs.Discipline.{Aside, walkerOf, Unread}
-use Rattle.tables.specs.Clearing.{eventsOf, events-after}
-use Rattle.tables.specs.Operation.{Moment, Changed, changed-unread}
+use Rattle.tables.specs.Discipline.{Aside, walkerOf}
+use Rattle.tables.proofs.Discipline.{Unread}
+use Rattle.tables.specs.Clearing.{eventsOf}
+use Rattle.tables.proofs.Clearing.{events-after}
+use Rattle.tables.specs.Operation.{Moment, Changed}
+use Rattle.tables.proofs.Operation.{changed-unread}
+use Rattle.tables.proofs.Walks.{laws-of}
 use Rattle.pool.specs.Book.{bookOf, ticketOf}
 use Rattle.pool.specs.Booked.{settingOf, Booked, Numbered}
 use Rattle.pool.specs.declared.Space.{Space}
@@ -48,7 +54,7 @@ pub changed-serves : {h : ℕ → Bool} {sp : Space} {n : ℕ} {m : ℕ → ℕ}
 changed-serves {h} {sp} {n} {m} {role} {role'} {ws = ws} w u c w' k = record {
   role = role';
   whole = w';
-  obeys = obeys-from (walkerOf (settingOf h sp)) (eventsOf ws) (From sp n m) (From sp n (after m ws)) (Aside role) (Aside role') m (c .obeys)
+  obeys = obeys-from (walkerOf (settingOf h sp)) (laws-of (settingOf h sp)) (eventsOf ws) (From sp n m) (From sp n (after m ws)) (Aside role) (Aside role') m (c .obeys)
       (λ x f. numbered-aside (w .booked) (x / 512) (f .0) (f .2))
       (λ x f. (f .0, f .1, k .numbers (x / 512) (f .0) (f .2)))
       new;

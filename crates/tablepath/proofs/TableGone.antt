@@ -13,13 +13,17 @@ use Rattle.word.specs.Writes as word
 use Rattle.word.proofs.Writes.{page-of}
 use Rattle.entry.specs.declared.Rights.{Rights}
 use Rattle.walk.specs.declared.Found.{Found}
-use Rattle.world.specs.Events.{after, All, all-map, all-both, all-append}
+use Rattle.world.specs.Events.{after, All}
+use Rattle.world.proofs.Events.{all-map, all-both, all-append}
 use Rattle.world.specs.Walker.{Reads}
-use Rattle.world.specs.Ways.{follows-agree}
+use Rattle.world.proofs.Ways.{follows-agree}
 use Rattle.tables.specs.Roles.{Role, free, aside, table, left, Built}
-use Rattle.tables.specs.Discipline.{walkerOf, unread}
-use Rattle.tables.specs.Clearing.{eventsOf, events-after, spare-untouched}
+use Rattle.tables.specs.Discipline.{walkerOf}
+use Rattle.tables.proofs.Discipline.{unread}
+use Rattle.tables.specs.Clearing.{eventsOf}
+use Rattle.tables.proofs.Clearing.{events-after, spare-untouched}
 use Rattle.tables.specs.Operation.{Moment, Changed}
+use Rattle.tables.proofs.Walks.{laws-of}
 use Rattle.pool.specs.Book.{bookOf, ticketOf, dueOf, pageAt}
 use Rattle.pool.specs.Booked.{settingOf, released}
 use Rattle.pool.specs.Changes.{releaseWrites}
@@ -75,7 +79,7 @@ module _ (h : ℕ → Bool) (sp : Space) (t : ℕ) where
 
   saw-unreads : (x y : ℕ → ℕ) → Saw sp x y → IsBuilt h sp x × Unreads x → Unreads y
   saw-unreads x y k (b, f) i u va r =
-      f i u va (follows-agree (walkerOf (settingOf h sp)) va x y (walkerOf (settingOf h sp) .start va) (λ z q. saw-agree h sp k z (built-inside h sp x b va z q)) .within (at t i) r)
+      f i u va (follows-agree (walkerOf (settingOf h sp)) (laws-of (settingOf h sp)) va x y (walkerOf (settingOf h sp) .start va) (λ z q. saw-agree h sp k z (built-inside h sp x b va z q)) .within (at t i) r)
 
   -- A CALL LEAVES IT, as its writes alone make memory: the space is whole with roles by which t is still no table, and none read it meanwhile.
   record Leaves (m : ℕ → ℕ) (ws : List Write) : Type 0 where

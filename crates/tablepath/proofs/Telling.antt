@@ -12,14 +12,16 @@ use Rattle.walk.specs.declared.Found.{Found}
 use Rattle.walk.specs.declared.Found.the-variants.{Page}
 use Rattle.walk.specs.declared.Place.{Place}
 use Rattle.walk.specs.declared.Place.the-variants.{Going, Ended}
-use Rattle.world.specs.Events.{Among, among-map, among-with, among-all, All}
+use Rattle.world.specs.Events.{Among, All}
+use Rattle.world.proofs.Events.{among-map, among-with, among-all}
 use Rattle.world.specs.Walker.{meaning, On}
-use Rattle.world.specs.Walks.{At, one-space-meaning}
+use Rattle.tables.specs.Walks.{At}
+use Rattle.tables.proofs.Walks.{one-space-meaning}
 use Rattle.world.specs.Reports.{Period, last, next, Caches, SafeIn, OnWay, Untold, Meant, MeantLike}
 use Rattle.tables.specs.Roles.{Role, Apart}
 use Rattle.tables.specs.Near.{Near}
 use Rattle.tables.specs.Way.{Comes}
-use Rattle.tables.specs.Meaning.{never-in-pool}
+use Rattle.tables.proofs.Meaning.{never-in-pool}
 use Rattle.tables.specs.Discipline.{walkerOf}
 use Rattle.pool.specs.Book.{bookOf, ticketOf}
 use Rattle.pool.specs.Booked.{settingOf}

@@ -1,6 +1,5 @@
 -- THE TICKET THAT UNMAP ANSWERS can be reported, and then every table that it set aside is free again.
-use Prim.Native.Nat.{ℕ, _+_, _^_, _<_, _≤_}
-use mathlib.Core.Bool.{Bool}
+use Prim.Native.Nat.{ℕ, _^_, _≤_}
 use mathlib.Core.List.{List}
 use mathlib.Core.Path.{_≡_}
 use native.Mathlib.Omega.{arith}
@@ -10,19 +9,16 @@ use Rattle.word.proofs.Writes.{holds-carried, memory-carried}
 use Rattle.tables.specs.Roles.{Role}
 use Rattle.pool.specs.Book.{bookOf}
 use Rattle.pool.specs.declared.Space.{Space}
-use Rattle.tablepath.specs.Answers.{unmapAnswer, unmapWrites, toldAnswer}
+use Rattle.tablepath.specs.Answers.{unmapAnswer, unmapWrites}
 use Rattle.tablepath.specs.Calls.{callWrites}
 use Rattle.tablepath.specs.Calls as calls
 use Rattle.tablepath.specs.Says.{UnmapGone, afterUnmap}
 use Rattle.tablepath.specs.declared.Unmapped.the-variants as unmapped
 use Rattle.tablepath.specs.declared.Gone.{Gone}
-use Rattle.tablepath.specs.declared.Report.the-variants as told
 use Rattle.tablepath.proofs.Says.{unmap-says}
-use Rattle.tablepath.proofs.Wholes.{WholeBytes, call-leaves}
-
--- the report of the ticket t is done, and releases n pages or more
-abbrev Reports : (ℕ → Bool) → (ℕ → ℕ) → Space → ℕ → ℕ → Type 0
-Reports h m sp t n = (k : ℕ) × (toldAnswer h m sp t ≡ told.Released k) × (n ≤ k)
+use Rattle.tablepath.specs.Looks.{WholeBytes}
+use Rattle.tablepath.proofs.Wholes.{call-leaves}
+use Rattle.tablepath.specs.Tickets.{Reports}
 
 module _ (s : List ℕ) (sp : Space) (role : ℕ → Role) (w : WholeBytes s sp role) (base : ℕ) (g : Gone)
     (done : unmapAnswer (holds s (sp .origin)) (memory s (sp .origin)) sp base ≡ unmapped.Done g) (early : g .ticket ≤ 2 ^ 62) where

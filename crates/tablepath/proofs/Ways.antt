@@ -14,14 +14,17 @@ use Rattle.entry.specs.declared.Entry.the-variants.{Table}
 use Rattle.walk.specs.Walk.{indexOf}
 use Rattle.walk.specs.declared.Found.{Found}
 use Rattle.walk.proofs.Digits.{size-pos}
-use Rattle.world.specs.Events.{Event, after, All, all-map, all-both, all-last}
+use Rattle.world.specs.Events.{Event, after, All}
+use Rattle.world.proofs.Events.{all-map, all-both, all-last}
 use Rattle.tables.specs.Roles.{Setting, Role, left, Built, entryAt}
 use Rattle.tables.specs.Near.{Near}
-use Rattle.tables.specs.Way.{Comes, begin, onto, comes-left, onto-role, one-way}
+use Rattle.tables.specs.Way.{Comes, begin, onto}
+use Rattle.tables.proofs.Way.{comes-left, onto-role, one-way}
 use Rattle.entry.proofs.Fields.{last-no-table}
-use Rattle.tables.specs.Clearing.{eventsOf, events-after, spare-untouched}
+use Rattle.tables.specs.Clearing.{eventsOf}
+use Rattle.tables.proofs.Clearing.{events-after, spare-untouched}
 use Rattle.tables.specs.Operation.{Moment, Changed}
-use Rattle.tables.specs.Unseen.{alike-comes}
+use Rattle.tables.proofs.Unseen.{alike-comes}
 use Rattle.pool.specs.Book.{bookOf, ticketOf, dueOf}
 use Rattle.pool.specs.Booked.{settingOf}
 use Rattle.pool.specs.Changes.{releaseWrites}

@@ -1,14 +1,14 @@
 -- What holds between operations, of the bytes: create establishes it, and every call keeps it.
-use Prim.Native.Nat.{ℕ, _+_, _%_, _≤_}
+use Prim.Native.Nat.{ℕ, _+_, _%_}
 use mathlib.Core.Bool.{Bool, true, false, cond}
 use mathlib.Core.List.{List, []}
-use mathlib.Core.Path.{_≡_, refl, sym, ap, _∙_, subst}
+use mathlib.Core.Path.{_≡_, refl}
 use native.Mathlib.Omega.{arith}
 use lib.Dec.{eqb}
 use lib.ListN.{length}
 use Rattle.word.specs.Memory.{memory, holds}
-use Rattle.word.specs.Writes.{Write, after, carried}
-use Rattle.word.proofs.Writes.{Every, none, every-map, holds-carried, memory-carried}
+use Rattle.word.specs.Writes.{Write, after, carried, Every, none}
+use Rattle.word.proofs.Writes.{every-map, holds-carried, memory-carried}
 use Rattle.entry.specs.declared.Rights.{Rights}
 use Rattle.tables.specs.Roles.{Role}
 use Rattle.pool.specs.Layout.{bookPages}
@@ -24,7 +24,7 @@ use Rattle.pool.specs.declared.Fit.the-variants.{Fits, Refused}
 use Rattle.pool.specs.declared.Reason.the-variants.{OriginUnaligned, LengthUnaligned}
 use Rattle.pool.specs.declared.Space.{Space}
 use Rattle.pool.proofs.Counts.{in-pool}
-use Rattle.pool.proofs.Opening.{Fitting, may-fit, fit-small}
+use Rattle.pool.proofs.Opening.{may-fit, fit-small}
 use Rattle.pool.proofs.Makes.{create-makes}
 use Rattle.plan.specs.Map as map
 use Rattle.plan.specs.Unmap as unmap
@@ -36,7 +36,6 @@ use Rattle.plan.specs.declared.unmaps.Removing.the-variants as removing
 use Rattle.plan.specs.declared.protects.Changing.{Changing}
 use Rattle.plan.specs.declared.protects.Changing.the-variants as changing
 use Rattle.effect.specs.Whole.{Whole}
-use Rattle.effect.specs.OfPool.{OfPool}
 use Rattle.effect.proofs.Wholes.{book-opens, every-held}
 use Rattle.effect.proofs.MapDone.{decided-done}
 use Rattle.effect.proofs.UnmapDone.{unmapped}
@@ -45,10 +44,7 @@ use Rattle.effect.proofs.ToldDone as effect
 use Rattle.tablepath.specs.Answers.{mapWrites, unmapWrites, protectWrites, toldWrites, toldDid, dueDid}
 use Rattle.tablepath.specs.Calls.{Call, callWrites}
 use Rattle.tablepath.specs.Calls as calls
-
--- a window in which the space is whole
-abbrev pub WholeBytes : List ℕ → Space → (ℕ → Role) → Type 0
-WholeBytes s sp role = Whole (holds s (sp .origin)) sp (memory s (sp .origin)) role
+use Rattle.tablepath.specs.Looks.{WholeBytes}
 
 -- Create ------------------------------------------------------------------------------------------------------------------------
 

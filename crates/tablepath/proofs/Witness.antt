@@ -1,16 +1,16 @@
 -- A WITNESS of what holds between operations, with tables in it: any five pages, made a pool, and a page of 4 KiB mapped at 0. Map makes three
 -- tables of the three free pages; the space is whole, and the address means the page.
-use Prim.Native.Nat.{ℕ, zero, suc, _+_, _*_, _%_, _<_, _≤_}
+use Prim.Native.Nat.{ℕ, zero, suc, _+_, _<_, _≤_}
 use mathlib.Core.Bool.{Bool, true, false, cond, _&&_}
-use mathlib.Core.List.{List, replicate}
+use mathlib.Core.List.{List}
 use mathlib.Core.Logic.{_⊎_, inl, inr, _≢_}
-use mathlib.Core.Path.{_≡_, refl, sym, ap, _∙_, subst}
+use mathlib.Core.Path.{_≡_, refl, subst}
 use native.Mathlib.Decide.{ℕ-discrete}
 use native.Mathlib.Omega.{arith}
 use lib.Dec.{eqb, leb, ltb}
 use lib.ListN.{length}
 use Rattle.word.specs.Memory.{memory, holds}
-use Rattle.word.specs.Writes.{carried, after}
+use Rattle.word.specs.Writes.{after}
 use Rattle.entry.specs.Entry.{sizeOf, everything}
 use Rattle.entry.specs.declared.Rights.{Rights}
 use Rattle.entry.specs.declared.Entry.the-variants.{Page}
@@ -18,20 +18,21 @@ use Rattle.entry.proofs.Parts.{root-no-page}
 use Rattle.walk.specs.Walk.{indexOf}
 use Rattle.walk.specs.declared.Found.{Found}
 use Rattle.walk.specs.declared.Found.the-variants as found
-use Rattle.tables.specs.Roles.{Setting, Role, foreign, free, aside, book, root, table, left, entryAt}
-use Rattle.tables.specs.Way.{Comes, comes-left}
-use Rattle.tables.specs.Meaning.{meaning, Ends, too-high, at-nothing, at-page, ends}
+use Rattle.tables.specs.Roles.{Role, foreign, free, aside, book, root, table, left, entryAt}
+use Rattle.tables.specs.Way.{Comes}
+use Rattle.tables.proofs.Way.{comes-left}
+use Rattle.tables.specs.Meaning.{meaning}
+use Rattle.tables.proofs.Meaning.{Ends, too-high, at-nothing, at-page, ends}
 use Rattle.pool.specs.Layout.{bookPages}
 use Rattle.pool.specs.Book.{bookOf, pageAt, roomOf}
 use Rattle.pool.specs.Booked.{settingOf, newRole, tablesOf, howMany}
-use Rattle.pool.specs.Create.{newSpace, createdOf, createdIn, mayCreate, createWrites}
+use Rattle.pool.specs.Create.{createdOf, createdIn, mayCreate}
 use Rattle.pool.specs.declared.Created.the-variants as created
 use Rattle.pool.specs.declared.Space.{Space}
 use Rattle.pool.proofs.Words.{small-book}
 use Rattle.pool.proofs.Pages.{adds-up}
 use Rattle.plan.specs.Map as map
 use Rattle.plan.specs.declared.Reason.{Reason}
-use Rattle.plan.specs.declared.maps.Asked.{Asked}
 use Rattle.plan.specs.declared.maps.Mapping.{Mapping}
 use Rattle.effect.specs.Whole.{Whole}
 use Rattle.effect.specs.MapDone.{MapDone}
@@ -39,7 +40,9 @@ use Rattle.effect.specs.MapRefused.{Cause, no-size, base-unaligned, frame-unali
 use Rattle.effect.proofs.Wholes.{owned}
 use Rattle.effect.proofs.MapDone.{mapped-inside}
 use Rattle.effect.proofs.MapRefused.{map-succeeds}
-use Rattle.tablepath.proofs.Wholes.{WholeBytes, create-whole}
+use Rattle.tablepath.specs.Looks.{WholeBytes}
+use Rattle.tablepath.proofs.Wholes.{create-whole}
+use Rattle.tablepath.specs.Witness.{five, page, bytes}
 
 -- a new pool has no role but these
 new-roles : (sp : Space) (p : ℕ) (P : Role → Type 0) → P foreign → P book → P root → P free → P (newRole sp p)
@@ -99,13 +102,6 @@ last-size (suc (suc (suc l))) u e = absurd (omega arith)
 
 -- Five pages at address 0 ----------------------------------------------------------------------------------------------------------------
 
-abbrev pub five : Space
-five = newSpace 0 0 5
-
--- a page of 4 KiB at address 0, of the frame at 1 MiB
-abbrev pub page : Asked
-page = record { base = 0; frame = 1048576; size = 4096; rights = everything }
-
 -- the book is one page
 pub one-page : bookPages 5 ≡ 1
 one-page = small-book 5 (omega arith)
@@ -115,20 +111,16 @@ module _ (s : List ℕ) (e : length s ≡ 20480) where
   unfolding createdOf createdIn mayCreate roomOf holds
   made = rw (e, one-page, one-page)
 
-  -- the bytes that create leaves, and their memory
-  abbrev pub bytes : List ℕ
-  bytes = carried s 0 (createWrites (length s) (holds s 0) 0 0 5)
-
-  pub start : WholeBytes bytes five (newRole five)
+  pub start : WholeBytes (bytes s) five (newRole five)
   start = create-whole s 0 0 5 1 made .1
 
-  enough : bookOf (memory bytes 0) five .free ≡ 3
+  enough : bookOf (memory (bytes s) 0) five .free ≡ 3
   enough = omega (arith, adds-up (owned start) (start .booked), none-aside start, no-tables)
     where
       no-tables : tablesOf five (newRole five) + 1 + bookPages 5 ≡ 2
       no-tables = unfold newRole howMany in rw one-page
 
-  fine : (r : Reason) → ¬ Cause (holds bytes 0) five (memory bytes 0) page r
+  fine : (r : Reason) → ¬ Cause (holds (bytes s) 0) five (memory (bytes s) 0) page r
   fine r (no-size n) = n 0 (omega arith) (unfold sizeOf in refl)
   fine r (base-unaligned l o n) = n refl
   fine r (frame-unaligned l o b n) = n refl
@@ -139,13 +131,13 @@ module _ (s : List ℕ) (e : length s ≡ 20480) where
   fine r (no-room l n g c x k u) = omega (arith, enough, only-root start (k .comes))
 
   -- map goes on
-  pub goes : (p : Mapping) × (map.decideOf (holds bytes 0) (memory bytes 0) five page ≡ map.Go p) × MapDone (holds bytes 0) five (memory bytes 0) (newRole five) page p
+  pub goes : (p : Mapping) × (map.decideOf (holds (bytes s) 0) (memory (bytes s) 0) five page ≡ map.Go p) × MapDone (holds (bytes s) 0) five (memory (bytes s) 0) (newRole five) page p
   goes = map-succeeds start page .1 fine
 
   -- THE WITNESS: the space is whole; the three free pages are tables; address 0 means the page
-  pub five-pages : (role : ℕ → Role) × Whole (holds bytes 0) five (after (memory bytes 0) (map.writesOf five (goes .0))) role
-      × ((j : ℕ) → j < 3 → (l : ℕ) × (q : ℕ) × (i : ℕ) × (role (pageAt (memory bytes 0) five j) ≡ table l q i))
-      × (meaning (settingOf (holds bytes 0) five) (after (memory bytes 0) (map.writesOf five (goes .0))) 0 ≡ found.Page 0 4096 1048576 everything)
+  pub five-pages : (role : ℕ → Role) × Whole (holds (bytes s) 0) five (after (memory (bytes s) 0) (map.writesOf five (goes .0))) role
+      × ((j : ℕ) → j < 3 → (l : ℕ) × (q : ℕ) × (i : ℕ) × (role (pageAt (memory (bytes s) 0) five j) ≡ table l q i))
+      × (meaning (settingOf (holds (bytes s) 0) five) (after (memory (bytes s) 0) (map.writesOf five (goes .0))) 0 ≡ found.Page 0 4096 1048576 everything)
   five-pages =
       let d = goes .2 in
       let three : goes .0 .fresh .need ≡ 3 = omega (arith, only-root start (d .missing .comes), last-size (goes .0 .target) (d .fitted .level) (d .fitted .size-is)) in

@@ -6,3 +6,6 @@ pub mod Nights
 pub mod Gone
 pub mod Shown
 pub mod Handles
+pub mod Looks
+pub mod Witness
+pub mod NightWitness

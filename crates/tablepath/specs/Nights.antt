@@ -13,7 +13,7 @@ use Rattle.walk.specs.declared.Place.{Place}
 use Rattle.walk.specs.declared.Place.the-variants.{Going, Ended}
 use Rattle.world.specs.Events.{Event, write, mark, store, after}
 use Rattle.world.specs.Walker.{Walker, Gives, Reads}
-use Rattle.world.specs.Walks.{At}
+use Rattle.tables.specs.Walks.{At}
 use Rattle.world.specs.Reports.{History, now, last, Caches, Held}
 use Rattle.world.specs.Reports as world
 use Rattle.tables.specs.Roles.{Role}

@@ -9,7 +9,7 @@ use Rattle.walk.specs.declared.Found.{Found}
 use Rattle.walk.specs.declared.Found.the-variants.{Nothing}
 use Rattle.world.specs.Events.{Event, after, Among, All}
 use Rattle.world.specs.Walker.{Gives, On}
-use Rattle.world.specs.Walks.{At}
+use Rattle.tables.specs.Walks.{At}
 use Rattle.world.specs.Held.{Can, None}
 use Rattle.world.specs.Frozen.{SomeReads}
 use Rattle.world.specs.Reports.{next, Caches, Held, Since, Fresh}

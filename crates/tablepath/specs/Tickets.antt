@@ -1,6 +1,6 @@
 -- TICKETS: what state answers, and which calls hand out a ticket. One may be handed out again, by calls that set nothing aside: it speaks of the
 -- last moment at which it was.
-use Prim.Native.Nat.{ℕ, _+_}
+use Prim.Native.Nat.{ℕ, _+_, _≤_}
 use mathlib.Core.Bool.{Bool}
 use mathlib.Core.Logic.{_↔_}
 use mathlib.Core.Path.{_≡_}
@@ -18,8 +18,9 @@ use Rattle.tablepath.specs.declared.Gone.{Gone}
 use Rattle.tablepath.specs.declared.Unmapped.the-variants as unmapped
 use Rattle.tablepath.specs.declared.Same.{Same}
 use Rattle.tablepath.specs.declared.Protected.the-variants as protected
-use Rattle.tablepath.specs.Answers.{unmapAnswer, protectAnswer}
+use Rattle.tablepath.specs.Answers.{unmapAnswer, protectAnswer, toldAnswer}
 use Rattle.tablepath.specs.Calls.{Call, map, unmap, protect, told}
+use Rattle.tablepath.specs.declared.Report.the-variants as report
 
 -- State --------------------------------------------------------------------------------------------------------------------------
 
@@ -51,3 +52,7 @@ Handed h m sp (map q) t = ⊥
 Handed h m sp (unmap va) t = (g : Gone) × (unmapAnswer h m sp va ≡ unmapped.Done g) × (g .ticket ≡ t)
 Handed h m sp (protect va r) t = (g : Same) × (protectAnswer h m sp va r ≡ protected.Done g) × (g .ticket ≡ t)
 Handed h m sp (told n) t = ⊥
+
+-- the report of the ticket t is done, and releases n pages or more
+abbrev pub Reports : (ℕ → Bool) → (ℕ → ℕ) → Space → ℕ → ℕ → Type 0
+Reports h m sp t n = (k : ℕ) × (toldAnswer h m sp t ≡ report.Released k) × (n ≤ k)

@@ -1,14 +1,9 @@
 -- At first: an empty root, and no table. This is what `create` makes.
-use Prim.Native.Nat.{ℕ, suc, _≤_, _<_}
+use Prim.Native.Nat.{ℕ, _≤_, _<_}
 use mathlib.Core.Logic.{_≢_}
-use mathlib.Core.Path.{_≡_, refl, ap, _∙_}
-use native.Mathlib.Omega.{arith}
-use Rattle.word.specs.Memory.{at}
+use mathlib.Core.Path.{_≡_}
 use Rattle.entry.specs.Entry.{tableOf}
-use Rattle.entry.specs.declared.Entry.the-variants.{Nothing}
-use Rattle.entry.proofs.Clean.{nothing-clean}
-use Rattle.tables.specs.Roles.{Setting, Role, foreign, free, aside, book, root, table, left, Live, entryAt, Home, Sound, Zero}
-use Rattle.tables.specs.Kept.{zero-bare}
+use Rattle.tables.specs.Roles.{Setting, Role, foreign, root, table, Home}
 
 -- the pool's pages, and no others, have a role; the root's page is the root, and no other is; and no page is a table
 pub record Fresh (σ : Setting) (role : ℕ → Role) : Type 0 where
@@ -17,35 +12,3 @@ pub record Fresh (σ : Setting) (role : ℕ → Role) : Type 0 where
   pub starts : role (tableOf (σ .cr3)) ≡ root
   pub alone : (p : ℕ) → role p ≡ root → p ≡ tableOf (σ .cr3)
   pub bare : (p l q i : ℕ) → role p ≢ table l q i
-
-pub fresh-sound : {σ : Setting} {role : ℕ → Role} (m : ℕ → ℕ) → Fresh σ role → Zero m (tableOf (σ .cr3)) → Sound σ m role
-fresh-sound {σ} {role} m f z = record {
-  built = record {
-    home = f .home;
-    whole = f .whole;
-    starts = f .starts;
-    alone = f .alone;
-    down = λ q l i t g h u e. let k : _≡_ {A = ℕ} 0 1 = cc (nothing q l i h u) in absurd (omega arith);
-    up = λ p l q i e. absurd (f .bare p l q i e);
-    low = λ p l q i e. absurd (f .bare p l q i e);
-    zeros = λ q l i h u e. ap (λ x. m (at x i)) (only q l h) ∙ z i u;
-    apart = λ q l i x g h u e. let k : _≡_ {A = ℕ} 0 1 = cc (nothing q l i h u) in absurd (omega arith);
-    clean = λ q l i h u. nothing-clean l _ (nothing q l i h u);
-  };
-  filled = λ p l q i e. absurd (f .bare p (suc l) q i e);
-}
-  where
-    -- the only page that walks come to is the root's
-    only : (q l : ℕ) → Live role q l → q ≡ tableOf (σ .cr3)
-    only q l h = go (role q) refl
-      where
-        go : (r : Role) → role q ≡ r → q ≡ tableOf (σ .cr3)
-        go foreign e = absurd (omega (arith, h, ap left e))
-        go free e = absurd (omega (arith, h, ap left e))
-        go aside e = absurd (omega (arith, h, ap left e))
-        go book e = absurd (omega (arith, h, ap left e))
-        go root e = f .alone q e
-        go (table n t i) e = absurd (f .bare q n t i e)
-
-    nothing : (q l i : ℕ) → Live role q l → i < 512 → entryAt m l q i ≡ Nothing
-    nothing q l i h u = ap (λ x. entryAt m l x i) (only q l h) ∙ zero-bare m (suc l) (tableOf (σ .cr3)) z l i refl u

@@ -1,1 +1,1 @@
-// No code: what tables that we built are, and what each edit of them does, is in specs/.
+// No code. What tables that we built are is in specs/; what each edit of them does is proved in proofs/.

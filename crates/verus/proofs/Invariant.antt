@@ -13,7 +13,7 @@ use Rattle.entry.specs.declared.Rights.{Rights}
 use Rattle.entry.specs.declared.Entry.the-variants.{Page, Table}
 use Rattle.entry.proofs.Fields.{last-no-table}
 use Rattle.tables.specs.Roles.{Setting, Role, foreign, free, aside, book, root, table, left, Live, entryAt, Built, Holds, Sound}
-use Rattle.tables.specs.Meaning.{live-home}
+use Rattle.tables.proofs.Meaning.{live-home}
 use Rattle.pool.specs.Booked.{settingOf}
 use Rattle.pool.specs.declared.Space.{Space}
 use Rattle.effect.specs.Whole.{Whole}

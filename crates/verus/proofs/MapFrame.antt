@@ -14,8 +14,9 @@ use Rattle.walk.specs.declared.Found.{Found}
 use Rattle.walk.specs.declared.Found.the-variants.{Page, Nothing, Outside}
 use Rattle.walk.proofs.Digits.{size-pos}
 use Rattle.tables.specs.Roles.{Role}
-use Rattle.tables.specs.Way.{comes-top}
-use Rattle.tables.specs.Meaning.{meaning, never-outside}
+use Rattle.tables.proofs.Way.{comes-top}
+use Rattle.tables.specs.Meaning.{meaning}
+use Rattle.tables.proofs.Meaning.{never-outside}
 use Rattle.tables.specs.Overlap.{MappedIn}
 use Rattle.pool.specs.Book.{bookOf}
 use Rattle.pool.specs.Booked.{settingOf}

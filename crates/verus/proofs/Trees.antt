@@ -14,10 +14,12 @@ use Rattle.walk.specs.declared.Found.{Found}
 use Rattle.walk.specs.declared.Found.the-variants as found
 use Rattle.walk.proofs.Digits.{index-lt, size-up, div-up}
 use Rattle.tables.specs.Roles.{Setting, Role, entryAt, Built}
-use Rattle.tables.specs.Near.{pick, pick-near, pick-index}
-use Rattle.tables.specs.Way.{Comes, begin, onto, comes-near, comes-small, comes-top}
-use Rattle.tables.specs.Meaning.{meaning, comes-root, mean-page, Ends, too-high, at-nothing, at-page, ends, never-outside}
-use Rattle.tables.specs.Overlap.{aligned-base}
+use Rattle.tables.proofs.Near.{pick, pick-near, pick-index}
+use Rattle.tables.specs.Way.{Comes, begin, onto}
+use Rattle.tables.proofs.Way.{comes-near, comes-small, comes-top}
+use Rattle.tables.specs.Meaning.{meaning}
+use Rattle.tables.proofs.Meaning.{comes-root, mean-page, Ends, too-high, at-nothing, at-page, ends, never-outside}
+use Rattle.tables.proofs.Overlap.{aligned-base}
 use Rattle.pool.specs.Booked.{settingOf}
 use Rattle.pool.specs.declared.Space.{Space}
 use Rattle.pool.proofs.Pages.{root-page}

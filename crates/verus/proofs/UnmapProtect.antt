@@ -15,10 +15,11 @@ use Rattle.walk.specs.declared.Found.the-variants.{Page, Nothing, Outside}
 use Rattle.walk.proofs.Digits.{size-pos}
 use Rattle.walk.proofs.Ranges.{page-covers}
 use Rattle.tables.specs.Roles.{Role}
-use Rattle.tables.specs.Edits.{turns-inside, turns-outside}
-use Rattle.tables.specs.Meaning.{meaning, never-outside}
+use Rattle.tables.proofs.Edits.{turns-inside, turns-outside}
+use Rattle.tables.specs.Meaning.{meaning}
+use Rattle.tables.proofs.Meaning.{never-outside}
 use Rattle.tables.specs.Operation.{Changed}
-use Rattle.tables.specs.Overlap.{aligned-base}
+use Rattle.tables.proofs.Overlap.{aligned-base}
 use Rattle.pool.specs.Booked.{settingOf}
 use Rattle.pool.specs.Book.{bookOf}
 use Rattle.pool.specs.declared.Space.{Space}

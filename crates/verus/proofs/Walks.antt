@@ -20,7 +20,7 @@ use Rattle.walk.specs.declared.Found.the-variants.{Page, Nothing, Outside}
 use Rattle.walk.specs.declared.Place.the-variants.{Going, Ended}
 use Rattle.walk.proofs.Ranges.{page-covers}
 use Rattle.walk.proofs.Steps.{run-ended}
-use Rattle.tables.specs.Meaning.{everything-both}
+use Rattle.tables.proofs.Meaning.{everything-both}
 use Rattle.verus.specs.Regions.{Flags, PTE, fromBits, combine, pteOf}
 use Rattle.verus.specs.Mappings.{Mappings, maxBase}
 use Rattle.verus.specs.Walks.{WalkResult, Valid, Invalid, align, invalid, layer0, layer1, layer2, layer3, ptWalk, based, interp}

@@ -1,27 +1,16 @@
 -- Laws of plans: as memory, the window after the writes is the memory after the writes; and which pages they leave alone.
-use Prim.Native.Nat.{ℕ, zero, suc, _+_, _*_, _/_, _^_, _<_, _≤_}
+use Prim.Native.Nat.{ℕ, zero, suc, _/_, _^_, _<_, _≤_}
 use mathlib.Core.Bool.{Bool, true}
 use mathlib.Core.List.{List, [], _∷_, _++_}
 use mathlib.Core.Logic.{_≢_}
-use mathlib.Core.Path.{_≡_, refl, sym, ap, _∙_, subst}
+use mathlib.Core.Path.{_≡_, refl, sym, ap, _∙_}
 use native.Mathlib.Decide.{ℕ-discrete}
 use native.Mathlib.Omega.{arith}
 use lib.ListN.{length, take}
 use Rattle.word.specs.Memory.{at, set, memory, holds, written}
-use Rattle.word.specs.Writes.{Write, write, carried, after, zeros}
+use Rattle.word.specs.Writes.{Write, write, carried, after, zeros, Every, none, more}
 use Rattle.word.proofs.Memory.{length-written, holds-written, memory-written}
 use Rattle.word.proofs.Set.{set-same, set-other}
-
--- a write of a word to an entry of a page that Q holds of
-pub record Proper (Q : ℕ → Type 0) (x : Write) : Type 0 where
-  pub in-page : Q (x .page)
-  pub in-index : x .index < 512
-  pub in-word : x .word < 2 ^ 64
-
--- all writes of a list are such
-pub data Every (Q : ℕ → Type 0) : List Write → Type 0 where
-  none : Every Q []
-  more : {x : Write} {xs : List Write} → Proper Q x → Every Q xs → Every Q (x ∷ xs)
 
 pub every-one : {Q : ℕ → Type 0} (p i w : ℕ) → Q p → i < 512 → w < 2 ^ 64 → Every Q (write p i w ∷ [])
 every-one p i w q u v = more (record { in-page = q; in-index = u; in-word = v }) none

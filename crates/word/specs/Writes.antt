@@ -1,5 +1,5 @@
 -- A plan is a list of writes of one word each; carrying it out does them in order.
-use Prim.Native.Nat.{ℕ, zero, suc, _-_}
+use Prim.Native.Nat.{ℕ, zero, suc, _-_, _^_, _<_}
 use mathlib.Core.Bool.{cond}
 use mathlib.Core.List.{List, [], _∷_, _++_}
 use mathlib.Core.Path.{_≡_}
@@ -50,3 +50,14 @@ restOf left xs = cond (leb endless left) left (left - length xs)
 pub record Wrote (origin : ℕ) (xs : List Write) (left rest : ℕ) (s t : List ℕ) : Type 0 where
   pub bytes : t ≡ carried s origin (upTo left xs)
   pub count : rest ≡ restOf left xs
+
+-- a write of a word to an entry of a page that Q holds of
+pub record Proper (Q : ℕ → Type 0) (x : Write) : Type 0 where
+  pub in-page : Q (x .page)
+  pub in-index : x .index < 512
+  pub in-word : x .word < 2 ^ 64
+
+-- all writes of a list are such
+pub data Every (Q : ℕ → Type 0) : List Write → Type 0 where
+  none : Every Q []
+  more : {x : Write} {xs : List Write} → Proper Q x → Every Q xs → Every Q (x ∷ xs)

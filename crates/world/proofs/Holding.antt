@@ -1,14 +1,13 @@
 -- Laws of what may be held: more held before is more held after; one list of events after the other; and what was on its way may be held.
-use mathlib.Core.Path.{_≡_, refl, sym, _∙_, ap, subst}
 use mathlib.Core.List.{List, [], _∷_, _++_}
-use mathlib.Core.Logic.{_⊎_, inl, inr}
+use mathlib.Core.Logic.{inl, inr}
 use Prim.Native.Nat.{ℕ}
 use Rattle.world.specs.Events.{Event, happen, after, Among}
 use Rattle.world.specs.Walker.{Walker, On, here, down}
-use Rattle.world.specs.Held.{Holds, still, starts, steps, shares, None, Can}
+use Rattle.world.specs.Held.{Holds, still, starts, steps, shares, Can}
 
 module _ {Word View Address Place Answer : Type 0} (W : Walker Word View Address Place Answer) where
-  open Walker W using (start, left, step, Alike)
+  open Walker W using (start, step)
 
   pub holds-more : (m : ℕ → Word) (G H : Address → Place → Type 0) → ((va : Address) (p : Place) → G va p → H va p)
       → (va : Address) (p : Place) → Holds W m G va p → Holds W m H va p
@@ -22,12 +21,6 @@ module _ {Word View Address Place Answer : Type 0} (W : Walker Word View Address
   holds-twice m H va p starts = starts
   holds-twice m H va p (steps {p = o} q) = steps (holds-twice m H va o q)
   holds-twice m H va p (shares {va = vc} a q) = shares a (holds-twice m H vc p q)
-
-  pub can-more : (es : List (Event Word)) (m : ℕ → Word) (G H : Address → Place → Type 0) → ((va : Address) (p : Place) → G va p → H va p)
-      → (va : Address) (p : Place) → Can W m es G va p → Can W m es H va p
-  unfolding Can
-  can-more [] m G H f = holds-more m G H f
-  can-more (e ∷ es) m G H f = can-more es (happen m e) (Holds W m G) (Holds W m H) (holds-more m G H f)
 
   -- what is held at the end is held by all that may be done there
   pub can-holds : (es : List (Event Word)) (m : ℕ → Word) (H : Address → Place → Type 0) (va : Address) (p : Place)
@@ -47,16 +40,6 @@ module _ {Word View Address Place Answer : Type 0} (W : Walker Word View Address
   unfolding Can
   can-still [] m H va p h = still h
   can-still (e ∷ es) m H va p h = can-still es (happen m e) (Holds W m H) va p (still h)
-
-  -- WHO BEGAN SINCE A LATER MOMENT began since an earlier one.
-  pub began-earlier : (es fs : List (Event Word)) (m : ℕ → Word) (va : Address) (p : Place) → Can W (after m es) fs (None W) va p → Can W m (es ++ fs) (None W) va p
-  unfolding Can after
-  began-earlier es fs m = go es m (None W) (None W) (λ va p n. absurd n)
-    where
-      go : (es : List (Event Word)) (m : ℕ → Word) (G H : Address → Place → Type 0) → ((va : Address) (p : Place) → G va p → H va p)
-          → (va : Address) (p : Place) → Can W (after m es) fs G va p → Can W m (es ++ fs) H va p
-      go [] m G H f = can-more fs m G H f
-      go (e ∷ es) m G H f = go es (happen m e) G (Holds W m H) (λ va p q. still (f va p q))
 
   -- What was on its way at some moment may be held.
   holds-on : (m : ℕ → Word) (H : Address → Place → Type 0) (va : Address) (p q : Place) → Holds W m H va q → On W m va p q → Holds W m H va p

@@ -5,14 +5,17 @@ use mathlib.Core.Logic.{_⊎_, inl, inr}
 use Prim.Native.Nat.{ℕ, zero, suc}
 use Rattle.word.specs.Memory.{set}
 use Rattle.word.proofs.Set.{set-other}
-use Rattle.world.specs.Events.{Event, write, mark, store, happen, after, Among, among-map, All, all-first, all-moments, mark-same}
-use Rattle.world.specs.Walker.{Walker, cell, Reads, ReadsIn, Below, On, here, down}
-use Rattle.world.specs.Ways.{follows-step, follows-agree, on-step, on-same, on-write, below-reads}
-use Rattle.world.specs.Held.{Holds, None, Can, Always, always-held}
+use Rattle.world.specs.Events.{Event, write, mark, store, happen, after, Among, All}
+use Rattle.world.proofs.Events.{among-map, all-first, all-moments, mark-same}
+use Rattle.world.specs.Walker.{Walker, WalkerLaws, cell, Reads, ReadsIn, Below, On, here, down}
+use Rattle.world.proofs.Ways.{follows-step, follows-agree, on-step, on-same, on-write, below-reads}
+use Rattle.world.specs.Held.{Holds, None, Can}
+use Rattle.world.proofs.Held.{Always, always-held}
 use Rattle.world.specs.Discipline.{Grow, Safe}
 
-module _ {Word View Address Place Answer : Type 0} (W : Walker Word View Address Place Answer) where
-  open Walker W using (see, start, left, step, local, rests, alike-refl)
+module _ {Word View Address Place Answer : Type 0} (W : Walker Word View Address Place Answer) (L : WalkerLaws W) where
+  open Walker W using (see, start, left, step)
+  open WalkerLaws L using (local, rests, alike-refl)
 
   -- all that is left to read from p in m is frozen, and shows what it showed in n
   record Froze (F : ℕ → Type 0) (m n : ℕ → Word) (va : Address) (p : Place) : Type 0 where
@@ -41,22 +44,22 @@ module _ {Word View Address Place Answer : Type 0} (W : Walker Word View Address
   was-step P F m g va p w = go (w .state)
     where
       go : On W m va p (start va) ⊎ Froze F m (w .moment) va p → Was P F m va (step m va p)
-      go (inl o) = was-now P F m va (step m va p) g (on-step W m va p (start va) o)
+      go (inl o) = was-now P F m va (step m va p) g (on-step W L m va p (start va) o)
       go (inr z) = record {
         moment = w .moment;
         good = w .good;
-        on = subst (λ q. On W (w .moment) va q (start va)) (sym (same-step m (w .moment) va p (z .shows))) (on-step W (w .moment) va p (start va) (w .on));
-        state = inr (record { within = λ x r. z .within x (follows-step W va m p .within x r); shows = λ x r. z .shows x (follows-step W va m p .within x r) });
+        on = subst (λ q. On W (w .moment) va q (start va)) (sym (same-step m (w .moment) va p (z .shows))) (on-step W L (w .moment) va p (start va) (w .on));
+        state = inr (record { within = λ x r. z .within x (follows-step W L va m p .within x r); shows = λ x r. z .shows x (follows-step W L va m p .within x r) });
       }
 
   was-holds : (P : (ℕ → Word) → Type 0) (F : ℕ → Type 0) (m : ℕ → Word) (H : Address → Place → Type 0) → P m → Always W (Was P F m) H → Always W (Was P F m) (Holds W m H)
-  was-holds P F m H g = always-held W (Was P F m) m H (λ va. was-now P F m va (start va) g here) (was-step P F m g)
+  was-holds P F m H g = always-held W L (Was P F m) m H (λ va. was-now P F m va (start va) g here) (was-step P F m g)
 
   -- a change that leaves what it has to read, all of which is frozen now
   was-frozen : (P : (ℕ → Word) → Type 0) (G : ℕ → Type 0) (m m' n : ℕ → Word) (va : Address) (p : Place) → P n → On W n va p (start va)
       → ((x : ℕ) → Reads W m va p x → see (m' x) ≡ see (m x)) → Froze G m n va p → Was P G m' va p
   was-frozen P G m m' n va p g o h z =
-      let k = follows-agree W va m m' p h in
+      let k = follows-agree W L va m m' p h in
       record {
         moment = n;
         good = g;
@@ -79,7 +82,7 @@ module _ {Word View Address Place Answer : Type 0} (W : Walker Word View Address
           was-frozen P G m (set m a v) m va p g o (apart k) (record { within = k; shows = λ x r. refl })
 
       go : On W m va p (start va) ⊎ Froze F m (w .moment) va p → Was P G (set m a v) va p
-      go (inl o) = cut o (on-write W m a v va p (start va) o)
+      go (inl o) = cut o (on-write W L m a v va p (start va) o)
       go (inr z) =
           let k : (x : ℕ) → Reads W m va p x → G x = λ x r. f x (z .within x r) in
           was-frozen P G m (set m a v) (w .moment) va p (w .good) (w .on) (apart k) (record { within = k; shows = z .shows })
@@ -89,7 +92,7 @@ module _ {Word View Address Place Answer : Type 0} (W : Walker Word View Address
   was-mark P F m a v g' e va p w = go (w .state)
     where
       go : On W m va p (start va) ⊎ Froze F m (w .moment) va p → Was P F (set m a v) va p
-      go (inl o) = was-now P F (set m a v) va p g' (on-same W m (set m a v) va p (start va) (mark-same see m a v e) o)
+      go (inl o) = was-now P F (set m a v) va p g' (on-same W L m (set m a v) va p (start va) (mark-same see m a v e) o)
       go (inr z) = was-frozen P F m (set m a v) (w .moment) va p (w .good) (w .on) (λ x r. mark-same see m a v e x) z
 
   always-was : (es : List (Event Word)) (P : (ℕ → Word) → Type 0) (F : ℕ → Type 0) (m : ℕ → Word) (H : Address → Place → Type 0) → All m es P → Always W (Was P F m) H
@@ -106,7 +109,7 @@ module _ {Word View Address Place Answer : Type 0} (W : Walker Word View Address
   always-was (store a v ∷ es) P F m H g k s va p c =
       always-was es P F (set m a v) (Holds W m H) (g .1)
       (λ va p q vb d. was-set P F F m a v (g .0) (all-first es (set m a v) P (g .1)) (λ x f. f) (s .0)
-      (λ vc x b. absurd (s .1 vc (below-reads W m vc (left (start vc)) (start vc) a x b))) vb p
+      (λ vc x b. absurd (s .1 vc (below-reads W L m vc (left (start vc)) (start vc) a x b))) vb p
       (was-holds P F m H (g .0) k va p q vb d)) (s .2) va p c
 
   -- WHAT IS HELD WAS ON ITS WAY

@@ -3,11 +3,14 @@ use mathlib.Core.Path.{_≡_, refl, sym, _∙_, ap, subst}
 use mathlib.Core.List.{List, [], _∷_, _++_}
 use mathlib.Core.Logic.{_⊎_, inl, inr}
 use Prim.Native.Nat.{ℕ, zero, suc}
-use Rattle.world.specs.Events.{Event, happen, after, after-more, Among, among-map, among-append, among-split, among-last, All, among-all}
-use Rattle.world.specs.Walker.{Walker, finish, meaning, Gives, Reads, ReadsIn}
-use Rattle.world.specs.Ways.{follows-step}
-use Rattle.world.specs.Held.{Holds, still, starts, steps, shares, None, Can, Always, always-held}
-use Rattle.world.specs.Discipline.{Safe, interleaving, interleaving-had}
+use Rattle.world.specs.Events.{Event, happen, after, Among, All}
+use Rattle.world.proofs.Events.{after-more, among-map, among-append, among-split, among-last, among-all}
+use Rattle.world.specs.Walker.{Walker, WalkerLaws, finish, meaning, Gives, Reads, ReadsIn}
+use Rattle.world.proofs.Ways.{follows-step}
+use Rattle.world.specs.Held.{Holds, still, starts, steps, shares, None, Can}
+use Rattle.world.proofs.Held.{Always, always-held}
+use Rattle.world.specs.Discipline.{Safe}
+use Rattle.world.proofs.Discipline.{interleaving, interleaving-had}
 use Rattle.world.specs.Reports.{History, first, happens, begins, done, Period, fromNow, longer, eachLonger, oldest, younger, now, underway, next, last, Thawed, Caches, NoMore, Finishes, Since, Untold, Held, SafeIn, Keeps, OnWay, Tells, Meant, MeantLike, Fresh, Enough}
 use Rattle.world.proofs.Holding.{holds-more, can-holds, can-longer, can-on}
 use Rattle.world.proofs.OnWays.{was-on}
@@ -77,8 +80,9 @@ module _ {Word View Address Place Answer : Type 0} (W : Walker Word View Address
   since-longer m e q k va p h =
       can-longer W (q .since) e (q .began) (None W) va p (subst (λ x. Holds W (happen x e) (Since W q) va p) (sym k) h)
 
-module _ {Word View Address Place Answer : Type 0} (W : Walker Word View Address Place Answer) (C : Caches Place Answer) (laws : Finishes W C) where
-  open Walker W using (start, left, step, alike-refl, alike-trans)
+module _ {Word View Address Place Answer : Type 0} (W : Walker Word View Address Place Answer) (L : WalkerLaws W) (C : Caches Place Answer) (laws : Finishes W C) where
+  open Walker W using (start, left, step)
+  open WalkerLaws L using (alike-refl, alike-trans)
   open Caches C using (half, finished)
   open Finishes laws using (rests, stays, gives)
 
@@ -115,18 +119,18 @@ module _ {Word View Address Place Answer : Type 0} (W : Walker Word View Address
   rests-step va p f m m' = go (left p) refl
     where
       go : (n : ℕ) → left p ≡ n → step m va p ≡ step m' va p
-      go zero e = W .rests m va p e ∙ sym (W .rests m' va p e)
-      go (suc n) e = W .local m m' va p (λ c g. absurd (rests p f m va c (subst (λ k. ReadsIn W m va k p c) (sym e) (inl g))))
+      go zero e = L .rests m va p e ∙ sym (L .rests m' va p e)
+      go (suc n) e = L .local m m' va p (λ c g. absurd (rests p f m va c (subst (λ k. ReadsIn W m va k p c) (sym e) (inl g))))
 
   gives-back : (va : Address) (p : Place) → finished p → (m : ℕ → Word) (o : Answer) → Gives W va (step m va p) o → Gives W va p o
-  gives-back va p f m o g m' = sym (follows-step W va m' p .comes) ∙ ap (finish W m' va) (rests-step va p f m' m) ∙ g m'
+  gives-back va p f m o g m' = sym (follows-step W L va m' p .comes) ∙ ap (finish W m' va) (rests-step va p f m' m) ∙ g m'
 
   -- THE INVARIANT: what is held is a finished translation that is fresh, or one who began in the last period may hold it.
   abbrev Fine : History Word Address → Address → Place → Type 0
   Fine h va p = (finished p × ((o : Answer) → Gives W va p o → Fresh W C h va o)) ⊎ Since W (last h) va p
 
   fine-holds : (h : History Word Address) (H : Address → Place → Type 0) → Always W (Fine h) H → Always W (Fine h) (Holds W (now h) H)
-  fine-holds h H = always-held W (Fine h) (now h) H (λ va. inr (since-holds W (now h) (last h) (last-ends h) va (start va) starts)) next-step
+  fine-holds h H = always-held W L (Fine h) (now h) H (λ va. inr (since-holds W (now h) (last h) (last-ends h) va (start va) starts)) next-step
     where
       next-step : (va : Address) (p : Place) → Fine h va p → Fine h va (step (now h) va p)
       next-step va p (inl (f, g)) = inl (stays p f (now h) va, λ o k. g o (gives-back va p f (now h) o k))
@@ -150,12 +154,12 @@ module _ {Word View Address Place Answer : Type 0} (W : Walker Word View Address
               gives p f vb o q,
               λ x. untold vb x a,
               meant-fresh h vb o
-                  (interleaving W (last h .since) Thawed (last h .began) (last-safe h k) vb p o c q),
+                  (interleaving W L (last h .since) Thawed (last h .began) (last-safe h k) vb p o c q),
             ),
           )
       go (inl f) (inr c) =
           inr (can-on W (next h .since) (next h .began) (None W) vb p
-          (tells .1 vb p f serves (was-on W (last h .since) Thawed (last h .began) (last-safe h k) vb p c)))
+          (tells .1 vb p f serves (was-on W L (last h .since) Thawed (last h .began) (last-safe h k) vb p c)))
 
   fine : (h : History Word Address) → Keeps W h → Tells W C h → Always W (Fine h) (Held W C h)
   unfolding Held Keeps Tells Fresh last now Can
@@ -176,14 +180,14 @@ module _ {Word View Address Place Answer : Type 0} (W : Walker Word View Address
     pub fresh : (va : Address) (p : Place) (o : Answer) → Held W C h va p → Gives W va p o → Fresh W C h va o
     fresh va p o c g = elim (is-fine va p c) [
       | inl f ↦ f .1 o g
-      | inr d ↦ meant-fresh h va o (interleaving W (last h .since) Thawed (last h .began) (last-safe h keeps) va p o d g)
+      | inr d ↦ meant-fresh h va o (interleaving W L (last h .since) Thawed (last h .began) (last-safe h keeps) va p o d g)
     ]
 
     -- A half-done walk that is held was on its way at some moment of the last period.
     pub half-on : (va : Address) (p : Place) → Held W C h va p → ¬ finished p → OnWay W (last h) va p
     half-on va p c n = elim (is-fine va p c) [
       | inl f ↦ absurd (n (f .0))
-      | inr d ↦ was-on W (last h .since) Thawed (last h .began) (last-safe h keeps) va p d
+      | inr d ↦ was-on W L (last h .since) Thawed (last h .began) (last-safe h keeps) va p d
     ]
 
     -- A cell that the walk of the address reads at no moment of the last period is read from nothing that is held.
@@ -191,7 +195,7 @@ module _ {Word View Address Place Answer : Type 0} (W : Walker Word View Address
     reaches-none va x all p c r = elim (is-fine va p c) [
       | inl f ↦ rests p (f .0) (now h) va x r
       | inr d ↦
-          let t = interleaving-had W (last h .since) Thawed (last h .began) (last-safe h keeps) _ all va p d in
+          let t = interleaving-had W L (last h .since) Thawed (last h .began) (last-safe h keeps) _ all va p d in
           t .good (t .follows .within x (subst (λ m. Reads W m va p x) (sym (last-ends h)) r))
     ]
 
@@ -217,8 +221,9 @@ module _ {Word View Address Place Answer : Type 0} (W : Walker Word View Address
           let r = among-all (last h .since) (last h .began) _ _ a (as-if-all p o c g) in
           subst Q (r .2) (r .1)
 
-module _ {Word View Address Place Answer : Type 0} (W : Walker Word View Address Place Answer) (C : Caches Place Answer) where
-  open Walker W using (alike-refl, left)
+module _ {Word View Address Place Answer : Type 0} (W : Walker Word View Address Place Answer) (L : WalkerLaws W) (C : Caches Place Answer) where
+  open Walker W using (left)
+  open WalkerLaws L using (alike-refl)
 
   -- A FULL FLUSH tells every address: then nothing is held but what began since it began.
   pub flushed : (h : History Word Address) (T : Address → Type 0) → ((va : Address) → T va) → (va : Address) (p : Place) → Held W C (done h T) va p → Since W (next h) va p

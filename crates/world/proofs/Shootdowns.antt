@@ -8,12 +8,12 @@ use native.Mathlib.Decide.{ℕ-discrete}
 use Rattle.word.specs.Memory.{set}
 use Rattle.world.specs.Events.{Event, write, happen, after, Among, All}
 use Rattle.world.specs.Walker.{meaning, run, Gives, Reads, ReadsIn, Below, BelowIn}
-use Rattle.world.specs.Ways.{nowhere-cell, below-reads}
+use Rattle.world.proofs.Ways.{nowhere-cell, below-reads}
 use Rattle.world.specs.Held.{None, still, starts, steps, Can}
 use Rattle.world.specs.Discipline.{Cuts, Grow, Safe}
 use Rattle.world.specs.Reports.{History, first, happens, begins, done, oldest, younger, eachLonger, now, underway, last, Thawed, Caches, Finishes, Held, Keeps, Tells, Enough}
-use Rattle.world.specs.Tiny.{Spot, entry, onward, next, tiny}
-use Rattle.world.specs.Sanity.{memory, same-cell, last-reads, last-below, root-free, root-only}
+use Rattle.world.proofs.Tiny.{Spot, entry, onward, next, tiny, tiny-laws}
+use Rattle.world.proofs.Sanity.{memory, same-cell, last-reads, last-below, root-free, root-only}
 use Rattle.world.proofs.Reports.{answers-all, reaches-none}
 
 -- all that a walk has found may be kept, a table or a page
@@ -61,7 +61,7 @@ unread : ¬ (⊥ ⊎ Cuts tiny (set memory 1000 0) 2000 2000)
 unfolding set ℕ-discrete
 unread (inl f) = f
 unread (inr c) =
-    omega (arith, root-only (set memory 1000 0) refl (c .0) 2000 (below-reads tiny (set memory 1000 0) (c .0) 2 (record { levels = 2; table = 1000 }) 2000 2000 (c .1)))
+    omega (arith, root-only (set memory 1000 0) refl (c .0) 2000 (below-reads tiny tiny-laws (set memory 1000 0) (c .0) 2 (record { levels = 2; table = 1000 }) 2000 2000 (c .1)))
 
 reused-keeps : (T : ℕ → Type 0) → Keeps tiny (reused T)
 unfolding Keeps Safe now last underway oldest eachLonger after happen set ℕ-discrete
@@ -81,12 +81,12 @@ reused-tells = (tt, λ va p h u w. absurd (u 0 refl (prefix va p h)))
 reused-gives-nothing : (p : Spot) (o : ℕ) → Held tiny caches (reused (λ t. t ≡ 0)) 0 p → Gives tiny 0 p o → o ≡ 0
 unfolding Enough last now underway oldest eachLonger after happen All run set ℕ-discrete onward entry
 reused-gives-nothing =
-    answers-all tiny caches finishes (λ o. o) (reused (λ t. t ≡ 0)) (reused-keeps (λ t. t ≡ 0)) reused-tells 0 (tt, λ o k m. inr refl) (λ o. o ≡ 0) (refl, refl)
+    answers-all tiny tiny-laws caches finishes (λ o. o) (reused (λ t. t ≡ 0)) (reused-keeps (λ t. t ≡ 0)) reused-tells 0 (tt, λ o k m. inr refl) (λ o. o ≡ 0) (refl, refl)
 
 reused-not-read : (va : ℕ) (p : Spot) → Held tiny caches (reused (λ t. t ≡ 0)) va p → ¬ Reads tiny (now (reused (λ t. t ≡ 0))) va p 2000
 unfolding last now underway oldest eachLonger after happen All set ℕ-discrete
 reused-not-read va =
-    reaches-none tiny caches finishes (reused (λ t. t ≡ 0)) (reused-keeps (λ t. t ≡ 0)) reused-tells va 2000
+    reaches-none tiny tiny-laws caches finishes (reused (λ t. t ≡ 0)) (reused-keeps (λ t. t ≡ 0)) reused-tells va 2000
     (λ r. omega (arith, root-only (set memory 1000 0) refl va 2000 r), λ r. omega (arith, root-only (set (set memory 1000 0) 2000 18) refl va 2000 r))
 
 -- TOLD OF NOTHING: a half-done walk is kept, and ends with page 9, which address 0 never meant.

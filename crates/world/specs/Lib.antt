@@ -8,8 +8,4 @@ pub mod Marks
 pub mod Turns
 pub mod Reports
 pub mod OneChange
-pub mod Walks
-pub mod Ties
-pub mod Tiny
-pub mod Sanity
 pub mod Frozen

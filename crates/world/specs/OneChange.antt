@@ -1,23 +1,12 @@
--- ONE CHANGE: a list of writes that changes the meaning at one write only, for all addresses at once. A walk beside it ends with the old
--- meaning or with the new one, and never with something in between.
-use mathlib.Core.Path.{_≡_, refl, sym, _∙_, ap, subst}
-use mathlib.Core.List.{List, [], _∷_, _++_, append-assoc}
-use mathlib.Core.Logic.{_⊎_, inl, inr}
+-- ONE CHANGE: a list of writes that changes the meaning at one write only, for all addresses at once.
+use mathlib.Core.Path.{_≡_}
+use mathlib.Core.List.{List, _∷_, _++_}
 use Prim.Native.Nat.{ℕ}
 use Rattle.word.specs.Memory.{set}
-use Rattle.word.proofs.Set.{set-other}
-use Rattle.world.specs.Events.{Event, write, happen, after, after-append, All, all-map, all-both, all-last, all-append}
-use Rattle.world.specs.Walker.{Walker, meaning, Gives, Reads}
-use Rattle.world.specs.Ways.{follows-agree}
-use Rattle.world.specs.Held.{None, Can, starts, Had}
-use Rattle.world.specs.Discipline.{interleaving-had}
-use Rattle.world.specs.Rules.{Obeys, Shows}
-use Rattle.world.specs.Marks.{writes, Fair, Inside, Agree, obeys-beside, agree-beside, all-beside}
-use Rattle.world.specs.Turns.{Turn, events, begun, places, places-held}
+use Rattle.world.specs.Events.{Event, write, after, All}
+use Rattle.world.specs.Walker.{Walker, meaning}
 
 module _ {Word View Address Place Answer : Type 0} (W : Walker Word View Address Place Answer) where
-  open Walker W using (see, start)
-
   -- every address means in m' what it means in m
   abbrev pub SameMeaning : (ℕ → Word) → (ℕ → Word) → Type 0
   SameMeaning m m' = (va : Address) → meaning W m' va ≡ meaning W m va
@@ -35,112 +24,3 @@ module _ {Word View Address Place Answer : Type 0} (W : Walker Word View Address
     pub split : es ≡ front ++ (write place word ∷ back)
     pub old : Quiet m front
     pub new : Quiet (set (after m front) place word) back
-
-  -- at a moment all is old, or all is new
-  abbrev pub OldOrNew : (m m' : ℕ → Word) → (ℕ → Word) → Type 0
-  OldOrNew m m' n = SameMeaning m n ⊎ SameMeaning m' n
-
-  -- memories that show walks the same mean the same
-  pub same-meaning : (m m' : ℕ → Word) → Shows W m m' → SameMeaning m m'
-  same-meaning m m' e va = follows-agree W va m m' (start va) (e va) .comes
-
-  pub old-or-new : (es : List (Event Word)) (m : ℕ → Word) → OneChange m es → All m es (OldOrNew m (after m es))
-  unfolding All after happen
-  old-or-new es m c =
-      subst (λ l. All m l (OldOrNew m (after m es))) (sym (c .split))
-      (all-append (c .front) (write (c .place) (c .word) ∷ c .back) m _ (all-map (c .front) m _ _ (λ n q. inl q) (c .old))
-      (inl (all-last (c .front) m (SameMeaning m) (c .old)), all-map (c .back) next _ _ (λ n q. inr (λ va. q va ∙ sym (end va))) (c .new)))
-    where
-      next : ℕ → Word
-      next = set (after m (c .front)) (c .place) (c .word)
-
-      end : SameMeaning next (after m es)
-      end va = ap (λ n. meaning W n va) (ap (after m) (c .split) ∙ after-append (c .front) (write (c .place) (c .word) ∷ c .back) m)
-          ∙ all-last (c .back) next (SameMeaning next) (c .new) va
-
-  -- At every moment, with marks and others' stores in between, all is old or all is new.
-  pub old-or-new-beside : (Ours : ℕ → Type 0) (es : List (Event Word)) (m m' : ℕ → Word) → Agree W Ours m m' → Fair W Ours m' es → All m (writes es) (Inside W Ours)
-      → OneChange m (writes es) → All m' es (OldOrNew m (after m (writes es)))
-  old-or-new-beside Ours es m m' e f i c =
-      all-beside W Ours es m m' (λ n. Inside W Ours n × OldOrNew m end n) (OldOrNew m end) blind e f (all-both (writes es) m _ _ i (old-or-new (writes es) m c))
-    where
-      end : ℕ → Word
-      end = after m (writes es)
-
-      blind : (n n' : ℕ → Word) → Agree W Ours n n' → Inside W Ours n × OldOrNew m end n → OldOrNew m end n'
-      blind n n' a (j, inl q) = inl (λ vb. same-meaning n n' (λ vc x r. a x (j vc x r)) vb ∙ q vb)
-      blind n n' a (j, inr q) = inr (λ vb. same-meaning n n' (λ vc x r. a x (j vc x r)) vb ∙ q vb)
-
-  -- BESIDE ONE CHANGE, with marks and others' stores in between: whatever a walk ends with or a cache gives is what its address meant before,
-  -- or what it means after. (A cache that is empty at first: what it holds from before, see Reports.antt.)
-  pub one-change : (Ours : ℕ → Type 0) (es : List (Event Word)) (F G : ℕ → Type 0) (m : ℕ → Word) → ((x : ℕ) → F x → Ours x) → Fair W Ours m es
-      → All m (writes es) (Inside W Ours) → Obeys W F m (writes es) G → OneChange m (writes es)
-      → (va : Address) (p : Place) (o : Answer) → Can W m es (None W) va p → Gives W va p o → (o ≡ meaning W m va) ⊎ (o ≡ meaning W (after m es) va)
-  one-change Ours es F G m u f i b c va p o h g = go (t .good)
-    where
-      end : ℕ → Word
-      end = after m (writes es)
-
-      t : Had W (OldOrNew m end) (after m es) va p
-      t = interleaving-had W es F m (obeys-beside W Ours es F G m m u (λ x k. refl) f i b .safe) (OldOrNew m end) (old-or-new-beside Ours es m m (λ x k. refl) f i c) va p h
-
-      is : o ≡ meaning W (t .moment) va
-      is = sym (g (after m es)) ∙ t .follows .comes
-
-      go : OldOrNew m end (t .moment) → (o ≡ meaning W m va) ⊎ (o ≡ meaning W (after m es) va)
-      go (inl q) = inl (is ∙ q va)
-      go (inr q) =
-          let last = all-last (writes es) m (Inside W Ours) i in
-          inr (is ∙ q va ∙ sym (same-meaning end (after m es) (λ vb x r. agree-beside W Ours es m m (λ y k. refl) f x (last vb x r)) va))
-
-  -- The same for any number of walks in turn.
-  pub one-change-each-walk : (Ours : ℕ → Type 0) (who : ℕ → Address) (ts : List (Turn Word)) (F G : ℕ → Type 0) (m : ℕ → Word) → ((x : ℕ) → F x → Ours x)
-      → Fair W Ours m (events ts) → All m (writes (events ts)) (Inside W Ours) → Obeys W F m (writes (events ts)) G → OneChange m (writes (events ts)) → (i : ℕ) (o : Answer) → Gives W (who i) (places W who m (begun W who) ts i) o
-      → (o ≡ meaning W m (who i)) ⊎ (o ≡ meaning W (after m (events ts)) (who i))
-  one-change-each-walk Ours who ts F G m u f j b c i o =
-      one-change Ours (events ts) F G m u f j b c (who i) (places W who m (begun W who) ts i) o (places-held W who ts m (None W) (begun W who) i starts)
-
-  -- RULES. Quiet lists: none, one event more, one list after the other.
-  pub quiet-nil : (m : ℕ → Word) → Quiet m []
-  unfolding All
-  quiet-nil m va = refl
-
-  pub quiet-more : (e : Event Word) (es : List (Event Word)) (m : ℕ → Word) → SameMeaning m (happen m e) → Quiet (happen m e) es → Quiet m (e ∷ es)
-  unfolding All
-  quiet-more e es m h q = (λ va. refl, all-map es (happen m e) _ _ (λ n r va. r va ∙ h va) q)
-
-  pub quiet-append : (es fs : List (Event Word)) (m : ℕ → Word) → Quiet m es → Quiet (after m es) fs → Quiet m (es ++ fs)
-  quiet-append es fs m p q = all-append es fs m _ p (all-map fs (after m es) _ _ (λ n r va. r va ∙ all-last es m (SameMeaning m) p va) q)
-
-  -- a write of a cell that no walk reads changes no meaning
-  pub unseen-same-meaning : (m : ℕ → Word) (a : ℕ) (v : Word) → ((va : Address) → ¬ Reads W m va (start va) a) → SameMeaning m (set m a v)
-  unseen-same-meaning m a v u va =
-      follows-agree W va m (set m a v) (start va) (λ x r. ap see (set-other m a v x (λ e. u va (subst (Reads W m va (start va)) (sym e) r)))) .comes
-
-  -- One write; a quiet list before; a quiet list behind.
-  pub change-one : (m : ℕ → Word) (a : ℕ) (v : Word) → OneChange m (write a v ∷ [])
-  change-one m a v = record { front = []; place = a; word = v; back = []; split = refl; old = quiet-nil m; new = quiet-nil _ }
-
-  pub quiet-then-change : (es fs : List (Event Word)) (m : ℕ → Word) → Quiet m es → OneChange (after m es) fs → OneChange m (es ++ fs)
-  quiet-then-change es fs m q c = record {
-    front = es ++ c .front;
-    place = c .place;
-    word = c .word;
-    back = c .back;
-    split = ap (λ l. es ++ l) (c .split) ∙ sym (append-assoc es (c .front) (write (c .place) (c .word) ∷ c .back));
-    old = quiet-append es (c .front) m q (c .old);
-    new = subst (λ n. Quiet (set n (c .place) (c .word)) (c .back)) (sym (after-append es (c .front) m)) (c .new);
-  }
-
-  pub change-then-quiet : (es fs : List (Event Word)) (m : ℕ → Word) → OneChange m es → Quiet (after m es) fs → OneChange m (es ++ fs)
-  unfolding after happen
-  change-then-quiet es fs m c q = record {
-    front = c .front;
-    place = c .place;
-    word = c .word;
-    back = c .back ++ fs;
-    split = ap (λ l. l ++ fs) (c .split) ∙ append-assoc (c .front) (write (c .place) (c .word) ∷ c .back) fs;
-    old = c .old;
-    new = quiet-append (c .back) fs _ (c .new)
-        (subst (λ n. Quiet n fs) (ap (after m) (c .split) ∙ after-append (c .front) (write (c .place) (c .word) ∷ c .back) m) q);
-  }

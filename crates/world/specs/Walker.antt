@@ -23,21 +23,9 @@ pub record Walker (Word View Address Place Answer : Type 0) : Type 1 where
   pub answer : Place → Answer
   -- the two addresses have one prefix, as far as a walk uses it that has so many steps left
   pub Alike : ℕ → Address → Address → Type 0
-  -- A step depends on what it can tell of the one word that it reads.
-  pub local : (m m' : ℕ → Word) (va : Address) (p : Place) → ((c : ℕ) → reads va p ≡ cell c → see (m c) ≡ see (m' c))
-      → step m va p ≡ step m' va p
-  -- Each step is one step less, and where none is left a walk stays.
-  pub falls : (m : ℕ → Word) (va : Address) (p : Place) (n : ℕ) → left p ≡ suc n → left (step m va p) ≡ n
-  pub rests : (m : ℕ → Word) (va : Address) (p : Place) → left p ≡ 0 → step m va p ≡ p
-  -- A shorter prefix is shared by more; addresses with one prefix start at one place and take the same steps.
-  pub alike-refl : (n : ℕ) (va : Address) → Alike n va va
-  pub alike-trans : (n : ℕ) (va vb vc : Address) → Alike n va vb → Alike n vb vc → Alike n va vc
-  pub alike-up : (n : ℕ) (va vb : Address) → Alike n va vb → Alike (suc n) va vb
-  pub alike-start : (va vb : Address) → Alike (left (start va)) va vb → start va ≡ start vb
-  pub alike-step : (m : ℕ → Word) (va vb : Address) (p : Place) (n : ℕ) → left p ≡ suc n → Alike n va vb → step m va p ≡ step m vb p
 
 module _ {Word View Address Place Answer : Type 0} (W : Walker Word View Address Place Answer) where
-  open Walker W using (see, start, left, reads, step, answer)
+  open Walker W using (see, start, left, reads, step, answer, Alike)
 
   -- so many steps
   unfoldable pub run : (ℕ → Word) → Address → ℕ → Place → Place
@@ -81,3 +69,18 @@ module _ {Word View Address Place Answer : Type 0} (W : Walker Word View Address
   -- two memories that no walk can tell apart
   abbrev pub Same : (ℕ → Word) → (ℕ → Word) → Type 0
   Same m m' = (x : ℕ) → see (m' x) ≡ see (m x)
+
+  -- ITS LAWS. The theorems ask them of any walker; they are proved of the walker of page tables.
+  pub record WalkerLaws : Type 0 where
+    -- A step depends on what it can tell of the one word that it reads.
+    pub local : (m m' : ℕ → Word) (va : Address) (p : Place) → ((c : ℕ) → reads va p ≡ cell c → see (m c) ≡ see (m' c))
+        → step m va p ≡ step m' va p
+    -- Each step is one step less, and where none is left a walk stays.
+    pub falls : (m : ℕ → Word) (va : Address) (p : Place) (n : ℕ) → left p ≡ suc n → left (step m va p) ≡ n
+    pub rests : (m : ℕ → Word) (va : Address) (p : Place) → left p ≡ 0 → step m va p ≡ p
+    -- A shorter prefix is shared by more; addresses with one prefix start at one place and take the same steps.
+    pub alike-refl : (n : ℕ) (va : Address) → Alike n va va
+    pub alike-trans : (n : ℕ) (va vb vc : Address) → Alike n va vb → Alike n vb vc → Alike n va vc
+    pub alike-up : (n : ℕ) (va vb : Address) → Alike n va vb → Alike (suc n) va vb
+    pub alike-start : (va vb : Address) → Alike (left (start va)) va vb → start va ≡ start vb
+    pub alike-step : (m : ℕ → Word) (va vb : Address) (p : Place) (n : ℕ) → left p ≡ suc n → Alike n va vb → step m va p ≡ step m vb p

@@ -1,1 +1,1 @@
-// Walks beside writers, with caches: all of it is in specs/.
+// No code. Walks beside writers, with caches: what is said is in specs/, and proved in proofs/.

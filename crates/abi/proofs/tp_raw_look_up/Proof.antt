@@ -6,15 +6,12 @@ use Rattle.abi.proofs.tp_raw_look_up.Lts as lts
 use Rattle.abi.proofs.answers.of_look_up.Reads as of-look-up-reads
 use Rattle.tablepath.proofs.look_up.Reads as look-up-reads
 
--- src/lib.rt:197:25
 look-up-requires : tie.Need-look-up-requires
 look-up-requires c κs = search needs
 
--- src/lib.rt:197:5
 of-look-up-requires : tie.Need-of-look-up-requires
 of-look-up-requires c κs = search needs
 
--- src/lib.rt:193:1
 returns : tie.Need-returns
 returns c = rw (c .of-look-up .ensures, c .before .look-up .ensures)
 

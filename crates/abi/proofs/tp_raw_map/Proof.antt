@@ -6,15 +6,12 @@ use Rattle.abi.proofs.tp_raw_map.Reads as reads
 use Rattle.abi.proofs.tp_raw_map.Lts as lts
 use Rattle.abi.proofs.maps.map_up_to.Reads as map-up-to-reads
 
--- src/lib.rt:292:5
 map-up-to-requires : tie.Need-map-up-to-requires
 map-up-to-requires c κs = search needs
 
--- src/lib.rt:276:1
 same-length : tie.Need-same-length
 same-length c = search needs
 
--- src/lib.rt:276:1
 returns : tie.Need-returns
 returns c = (c .before .before .map-up-to .ensures .0, in-order-all _ _ _ _ _ (c .before .before .map-up-to .ensures .1))
 

@@ -10,36 +10,28 @@ use Rattle.abi.proofs.answers.uncounted.Reads as uncounted-reads
 use Rattle.abi.proofs.sites.site.Reads as site-reads
 use Rattle.tablepath.proofs.state.Reads as state-reads
 
--- src/lib.rt:124:9
 site-requires : tie.Need-site-requires
 site-requires c κs = search needs
 
--- src/lib.rt:126:24
 enum-known-s : tie.Need-enum-known-s
 enum-known-s c = search needs
 
--- src/lib.rt:126:30
 uncounted-requires : tie.Need-uncounted-requires
 uncounted-requires c κs = search needs
 
--- src/lib.rt:127:19
 enum-known-s-2 : tie.Need-enum-known-s-2
 enum-known-s-2 c = search needs
 
--- src/lib.rt:127:47
 state-requires : tie.Need-state-requires
 state-requires c κs = search needs
 
--- src/lib.rt:127:29
 of-state-requires : tie.Need-of-state-requires
 of-state-requires c κs = search needs
 
--- src/lib.rt:120:1
 returns : tie.Need-returns
 unfolding stateAnswer
 returns c = rw (sym (c .before .before .before .before .site .ensures) ∙ c .before .before .s .given .1, c .uncounted .ensures)
 
--- src/lib.rt:120:1
 returns-2 : tie.Need-returns-2
 unfolding stateAnswer
 returns-2 c = rw (sym (c .before .before .before .before .before .site .ensures) ∙ c .before .before .before .s2 .given .1, c .of-state .ensures, c .before .state .ensures)

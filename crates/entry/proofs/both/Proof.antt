@@ -5,7 +5,6 @@ use Rattle.entry.proofs.both.Tie as tie
 use Rattle.entry.proofs.both.Reads as reads
 use Rattle.entry.proofs.both.Lts as lts
 
--- src/lib.rt:59:1
 returns : tie.Need-returns
 unfolding both
 returns c = refl

@@ -11,42 +11,33 @@ use Rattle.entry.proofs.granted.Reads as granted-reads
 use Rattle.entry.proofs.large.Reads as large-reads
 use Rattle.entry.proofs.table.Reads as table-reads
 
--- src/lib.rt:97:9
 returns : tie.Need-returns
 unfolding says
 returns c = simp (bit-off 0 (c .before .args .w) (omega arith))
 
--- src/lib.rt:100:28
 frame-requires : tie.Need-frame-requires
 frame-requires c κs = search needs
 
--- src/lib.rt:100:41
 granted-requires : tie.Need-granted-requires
 granted-requires c κs = search needs
 
--- src/lib.rt:100:9
 returns-2 : tie.Need-returns-2
 unfolding says presentOf
 returns-2 c = simp (bit-on 0 (c .before .before .before .before .args .w) (omega arith), c .before .before .if2 .taken, c .before .frame .ensures, c .granted .ensures)
 
--- src/lib.rt:103:29
 table-requires : tie.Need-table-requires
 table-requires c κs = search needs
 
--- src/lib.rt:103:39
 granted-requires-2 : tie.Need-granted-requires-2
 granted-requires-2 c κs = search needs
 
--- src/lib.rt:103:9
 returns-3 : tie.Need-returns-3
 unfolding says
 returns-3 c = simp (bit-on 0 (c .before .before .before .before .before .args .w) (omega arith), present-above (c .before .before .before .before .before .args .n) (c .before .before .before .before .before .args .w) (c .before .before .before .if2 .left), bit-off 7 (c .before .before .before .before .before .args .w) (c .before .before .if3 .taken), c .before .table .ensures, c .granted2 .ensures)
 
--- src/lib.rt:105:5
 large-requires : tie.Need-large-requires
 large-requires c κs = search needs
 
--- src/lib.rt:93:1
 returns-4 : tie.Need-returns-4
 unfolding says
 returns-4 c = simp (bit-on 0 (c .before .before .before .before .args .w) (omega arith), present-above (c .before .before .before .before .args .n) (c .before .before .before .before .args .w) (c .before .before .if2 .left), bit-on 7 (c .before .before .before .before .args .w) (c .before .if3 .left), c .large .ensures)

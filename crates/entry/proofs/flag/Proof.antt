@@ -5,12 +5,10 @@ use Rattle.entry.proofs.flag.Tie as tie
 use Rattle.entry.proofs.flag.Reads as reads
 use Rattle.entry.proofs.flag.Lts as lts
 
--- src/lib.rt:112:9
 returns : tie.Need-returns
 unfolding flag
 returns c = (rw (c .if1 .taken), omega arith)
 
--- src/lib.rt:108:1
 returns-2 : tie.Need-returns-2
 unfolding flag
 returns-2 c = (rw (c .if1 .left), omega arith)

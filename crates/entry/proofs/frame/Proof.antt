@@ -8,28 +8,22 @@ use Rattle.entry.proofs.frame.Reads as reads
 use Rattle.entry.proofs.frame.Lts as lts
 use Rattle.entry.proofs.size.Reads as size-reads
 
--- src/lib.rt:74:9
 size-requires : tie.Need-size-requires
 size-requires c κs = search needs
 
--- src/lib.rt:75:5
 div-result : tie.Need-div-result
 div-result c = rw (c .size .ensures .0 (omega arith)) (size-pos _ (omega arith))
 
--- src/lib.rt:75:14
 div-result-2 : tie.Need-div-result-2
 div-result-2 c = rw (c .size .ensures .0 (omega arith)) (size-pos _ (omega arith))
 
--- src/lib.rt:75:5
 rem-result : tie.Need-rem-result
 rem-result c = rw (c .size .ensures .0 (omega arith)) (size-parts _ (omega arith))
 
--- src/lib.rt:75:5
 mul-result : tie.Need-mul-result
 unfolding frameOf
 mul-result c = rw (c .size .ensures .0 (omega arith)) (omega (arith, frame-lt (c .before .args .w) (c .before .args .n) (omega arith)))
 
--- src/lib.rt:70:1
 returns : tie.Need-returns
 unfolding frameOf
 returns c = rw (c .size .ensures .0 (omega arith))

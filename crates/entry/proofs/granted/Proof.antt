@@ -5,7 +5,6 @@ use Rattle.entry.proofs.granted.Tie as tie
 use Rattle.entry.proofs.granted.Reads as reads
 use Rattle.entry.proofs.granted.Lts as lts
 
--- src/lib.rt:49:1
 returns : tie.Need-returns
 unfolding rightsOf bit
 returns c = refl

@@ -11,33 +11,26 @@ use Rattle.entry.proofs.frame.Reads as frame-reads
 use Rattle.entry.proofs.granted.Reads as granted-reads
 use Rattle.entry.proofs.size.Reads as size-reads
 
--- src/lib.rt:84:9
 returns : tie.Need-returns
 unfolding largeOf
 returns c = simp (lt-leb _ _ (c .if1 .taken))
 
--- src/lib.rt:86:20
 size-requires : tie.Need-size-requires
 size-requires c κs = search needs
 
--- src/lib.rt:86:8
 rem-if2 : tie.Need-rem-if2
 rem-if2 c = rw (c .size .ensures .0 (omega arith)) (size-units _ (omega arith) (omega arith))
 
--- src/lib.rt:87:28
 frame-requires : tie.Need-frame-requires
 frame-requires c κs = search needs
 
--- src/lib.rt:87:41
 granted-requires : tie.Need-granted-requires
 granted-requires c κs = search needs
 
--- src/lib.rt:87:9
 returns-2 : tie.Need-returns-2
 unfolding largeOf padded
 returns-2 c = simp (le-leb _ _ (c .before .before .before .before .if1 .left), ← (c .before .before .before .size .ensures .0 (omega arith)), eq-eqb _ _ (c .before .before .if2 .taken), c .before .frame .ensures, c .granted .ensures)
 
--- src/lib.rt:79:1
 returns-3 : tie.Need-returns-3
 unfolding largeOf padded
 returns-3 c = simp (le-leb _ _ (c .before .before .if1 .left), ← (c .before .size .ensures .0 (omega arith)), ne-eqb _ _ (c .if2 .left))

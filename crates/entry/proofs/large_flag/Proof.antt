@@ -7,12 +7,10 @@ use Rattle.entry.proofs.large_flag.Tie as tie
 use Rattle.entry.proofs.large_flag.Reads as reads
 use Rattle.entry.proofs.large_flag.Lts as lts
 
--- src/lib.rt:122:9
 returns : tie.Need-returns
 unfolding largeFlag
 returns c = (rw (c .if1 .taken), omega arith)
 
--- src/lib.rt:118:1
 returns-2 : tie.Need-returns-2
 returns-2 c = (sym (large-flag _ (c .if1 .left)), omega arith)
 

@@ -11,78 +11,60 @@ use Rattle.entry.proofs.flag.Reads as flag-reads
 use Rattle.entry.proofs.large_flag.Reads as large-flag-reads
 use Rattle.entry.proofs.size.Reads as size-reads
 
--- src/lib.rt:132:9
 returns : tie.Need-returns
 unfolding madePage fits
 returns c = simp (lt-leb _ _ (c .if1 .taken))
 
--- src/lib.rt:134:16
 size-requires : tie.Need-size-requires
 size-requires c κs = search needs
 
--- src/lib.rt:134:8
 rem-if2 : tie.Need-rem-if2
 rem-if2 c = rw (c .size .ensures .0 (omega arith)) (size-pos _ (omega arith))
 
--- src/lib.rt:135:9
 returns-2 : tie.Need-returns-2
 unfolding madePage fits
 returns-2 c = simp (le-leb _ _ (c .before .before .if1 .left), ← (c .before .size .ensures .0 (omega arith)), ne-eqb _ _ (c .if2 .taken))
 
--- src/lib.rt:138:9
 returns-3 : tie.Need-returns-3
 unfolding madePage fits
 returns-3 c = simp (le-leb _ _ (c .before .before .before .if1 .left), ← (c .before .before .size .ensures .0 (omega arith)), eq-eqb _ _ (c .before .if2 .left), le-ltb _ _ (c .if3 .taken))
 
--- src/lib.rt:141:17
 flag-requires : tie.Need-flag-requires
 flag-requires c κs = search needs
 
--- src/lib.rt:141:13
 mul-t6 : tie.Need-mul-t6
 mul-t6 c = search needs
 
--- src/lib.rt:141:9
 add-t7 : tie.Need-add-t7
 add-t7 c = search needs
 
--- src/lib.rt:142:19
 flag-requires-2 : tie.Need-flag-requires-2
 flag-requires-2 c κs = search needs
 
--- src/lib.rt:142:15
 mul-t9 : tie.Need-mul-t9
 mul-t9 c = search needs
 
--- src/lib.rt:141:9
 add-t10 : tie.Need-add-t10
 add-t10 c = search needs
 
--- src/lib.rt:143:15
 large-flag-requires : tie.Need-large-flag-requires
 large-flag-requires c κs = search needs
 
--- src/lib.rt:141:9
 add-t12 : tie.Need-add-t12
 add-t12 c = search needs
 
--- src/lib.rt:141:9
 add-t13 : tie.Need-add-t13
 add-t13 c = search needs
 
--- src/lib.rt:145:37
 flag-requires-3 : tie.Need-flag-requires-3
 flag-requires-3 c κs = search needs
 
--- src/lib.rt:145:15
 mul-t15 : tie.Need-mul-t15
 mul-t15 c = search needs
 
--- src/lib.rt:141:9
 add-t16 : tie.Need-add-t16
 add-t16 c = search needs
 
--- src/lib.rt:128:1
 returns-4 : tie.Need-returns-4
 unfolding madePage fits pageWord
 returns-4 c = simp (le-leb _ _ (c .before .before .before .before .before .before .before .if1 .left), ← (c .before .before .before .before .before .before .size .ensures .0 (omega arith)), eq-eqb _ _ (c .before .before .before .before .before .if2 .left), lt-ltb _ _ (c .before .before .before .before .if3 .left), c .before .before .before .flag .ensures .0, c .before .before .flag2 .ensures .0, c .flag3 .ensures .0, c .before .large-flag .ensures .0)

@@ -6,22 +6,18 @@ use Rattle.entry.proofs.size.Tie as tie
 use Rattle.entry.proofs.size.Reads as reads
 use Rattle.entry.proofs.size.Lts as lts
 
--- src/lib.rt:31:9
 returns : tie.Need-returns
 unfolding sizeOf
 returns c = (λ _. rw (c .if1 .taken), omega arith, λ u. absurd (omega arith))
 
--- src/lib.rt:34:9
 returns-2 : tie.Need-returns-2
 unfolding sizeOf
 returns-2 c = (λ _. rw (c .if2 .taken), omega arith, λ u. absurd (omega arith))
 
--- src/lib.rt:37:9
 returns-3 : tie.Need-returns-3
 unfolding sizeOf
 returns-3 c = (λ _. rw (c .if3 .taken), omega arith, λ u. absurd (omega arith))
 
--- src/lib.rt:27:1
 returns-4 : tie.Need-returns-4
 unfolding sizeOf
 returns-4 c = (λ u. let h : c .before .before .before .args .n ≡ 3 = omega arith in rw h, omega arith, λ u. refl)

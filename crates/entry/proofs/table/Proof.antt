@@ -5,7 +5,6 @@ use Rattle.entry.proofs.table.Tie as tie
 use Rattle.entry.proofs.table.Reads as reads
 use Rattle.entry.proofs.table.Lts as lts
 
--- src/lib.rt:43:1
 returns : tie.Need-returns
 unfolding tableOf
 returns c = refl

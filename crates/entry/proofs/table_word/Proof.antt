@@ -6,20 +6,16 @@ use Rattle.entry.proofs.table_word.Tie as tie
 use Rattle.entry.proofs.table_word.Reads as reads
 use Rattle.entry.proofs.table_word.Lts as lts
 
--- src/lib.rt:142:9
 returns : tie.Need-returns
 unfolding madeTable tableWord
 returns c = simp (le-ltb _ _ (c .if1 .taken))
 
--- src/lib.rt:144:16
 mul-t3 : tie.Need-mul-t3
 mul-t3 c = search needs
 
--- src/lib.rt:144:16
 add-t4 : tie.Need-add-t4
 add-t4 c = search needs
 
--- src/lib.rt:138:1
 returns-2 : tie.Need-returns-2
 unfolding madeTable tableWord
 returns-2 c = simp (lt-ltb _ _ (c .if1 .left))

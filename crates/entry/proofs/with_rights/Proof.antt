@@ -6,51 +6,39 @@ use Rattle.entry.proofs.with_rights.Reads as reads
 use Rattle.entry.proofs.with_rights.Lts as lts
 use Rattle.entry.proofs.flag.Reads as flag-reads
 
--- src/lib.rt:164:15
 flag-requires : tie.Need-flag-requires
 flag-requires c κs = search needs
 
--- src/lib.rt:164:11
 mul-result : tie.Need-mul-result
 mul-result c = search needs
 
--- src/lib.rt:163:5
 add-result : tie.Need-add-result
 add-result c = search needs
 
--- src/lib.rt:165:15
 flag-requires-2 : tie.Need-flag-requires-2
 flag-requires-2 c κs = search needs
 
--- src/lib.rt:165:11
 mul-result-2 : tie.Need-mul-result-2
 mul-result-2 c = search needs
 
--- src/lib.rt:163:5
 add-result-2 : tie.Need-add-result-2
 add-result-2 c = search needs
 
--- src/lib.rt:166:11
 mul-result-3 : tie.Need-mul-result-3
 mul-result-3 c = search needs
 
--- src/lib.rt:163:5
 add-result-3 : tie.Need-add-result-3
 add-result-3 c = search needs
 
--- src/lib.rt:167:33
 flag-requires-3 : tie.Need-flag-requires-3
 flag-requires-3 c κs = search needs
 
--- src/lib.rt:167:11
 mul-result-4 : tie.Need-mul-result-4
 mul-result-4 c = search needs
 
--- src/lib.rt:163:5
 add-result-4 : tie.Need-add-result-4
 add-result-4 c = search needs
 
--- src/lib.rt:160:1
 returns : tie.Need-returns
 unfolding withRights
 returns c = rw (c .before .before .flag .ensures .0, c .before .flag2 .ensures .0, c .flag3 .ensures .0)

@@ -6,23 +6,18 @@ use Rattle.pool.proofs.book_pages.Tie as tie
 use Rattle.pool.proofs.book_pages.Reads as reads
 use Rattle.pool.proofs.book_pages.Lts as lts
 
--- src/lib.rt:105:29
 mul-result : tie.Need-mul-result
 mul-result c = search needs
 
--- src/lib.rt:105:20
 add-result : tie.Need-add-result
 add-result c = search needs
 
--- src/lib.rt:105:20
 add-result-2 : tie.Need-add-result-2
 add-result-2 c = search needs
 
--- src/lib.rt:105:5
 add-result-3 : tie.Need-add-result-3
 add-result-3 c = search needs
 
--- src/lib.rt:102:1
 returns : tie.Need-returns
 unfolding bookPages
 returns c = omega arith

@@ -13,33 +13,26 @@ use Rattle.pool.proofs.named.Reads as named-reads
 use Rattle.pool.proofs.sound.Reads as sound-reads
 use Rattle.pool.proofs.spot.Reads as spot-reads
 
--- src/lib.rt:249:9
 returns : tie.Need-returns
 unfolding listedOf
 returns c = simp (le-ltb _ _ (c .if1 .taken))
 
--- src/lib.rt:251:8
 sound-requires : tie.Need-sound-requires
 sound-requires c κs = search needs
 
--- src/lib.rt:252:38
 spot-requires : tie.Need-spot-requires
 spot-requires c κs = search needs
 
--- src/lib.rt:252:34
 add-named : tie.Need-add-named
 add-named c = let s = sound-is _ _ (sym (c .before .before .sound .ensures) ∙ c .before .if2 .taken) in omega (arith, s .small, c .spot .ensures, spot-in _ _ (c .before .before .before .before .before .before .args .k) (s .head-in) (omega (arith, s .room, c .before .before .before .if1 .left)))
 
--- src/lib.rt:252:9
 named-requires : tie.Need-named-requires
 named-requires c κs = search needs
 
--- src/lib.rt:252:9
 returns-2 : tie.Need-returns-2
 unfolding listedOf slotAt
 returns-2 c = simp (lt-ltb _ _ (c .before .before .before .before .if1 .left), sym (c .before .before .before .sound .ensures) ∙ c .before .before .if2 .taken, c .named .ensures, c .before .spot .ensures)
 
--- src/lib.rt:245:1
 returns-3 : tie.Need-returns-3
 unfolding listedOf
 returns-3 c = simp (lt-ltb _ _ (c .before .before .if1 .left), sym (c .before .sound .ensures) ∙ c .if2 .left)

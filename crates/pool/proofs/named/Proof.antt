@@ -12,36 +12,28 @@ use Rattle.pool.proofs.named.Lts as lts
 use Rattle.pool.proofs.usable.Reads as usable-reads
 use Rattle.word.proofs.read.Reads as read-reads
 
--- src/lib.rt:222:9
 returns : tie.Need-returns
 unfolding namedOf
 returns c = rw (far (c .before .before .before .args .mem .now) (c .before .before .before .args .space .origin) (c .before .before .before .args .space .first + c .before .before .before .args .k / 512) (omega arith))
 
--- src/lib.rt:224:43
 add-read : tie.Need-add-read
 add-read c = search needs
 
--- src/lib.rt:224:9
 read-requires : tie.Need-read-requires
 read-requires c κs = search needs
 
--- src/lib.rt:226:20
 enum-known-c : tie.Need-enum-known-c
 enum-known-c c = search needs
 
--- src/lib.rt:226:26
 usable-requires : tie.Need-usable-requires
 usable-requires c κs = search needs
 
--- src/lib.rt:227:26
 enum-told : tie.Need-enum-told
 enum-told c = search needs
 
--- src/lib.rt:218:1
 returns-2 : tie.Need-returns-2
 returns-2 c = c .usable .ensures ∙ named-word _ _ _ _ (sym (c .before .before .before .before .read .ensures) ∙ c .before .before .c .given .1)
 
--- src/lib.rt:218:1
 returns-3 : tie.Need-returns-3
 returns-3 c = named-outside _ _ _ (sym (c .before .before .read .ensures) ∙ c .enum-told .given .1)
 

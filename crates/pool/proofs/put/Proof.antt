@@ -9,31 +9,24 @@ use Rattle.pool.proofs.put.Reads as reads
 use Rattle.pool.proofs.put.Lts as lts
 use Rattle.word.proofs.write.Reads as write-reads
 
--- src/lib.rt:284:9
 write-requires : tie.Need-write-requires
 write-requires c κs = search needs
 
--- src/lib.rt:285:9
 same-length : tie.Need-same-length
 same-length c = search needs
 
--- src/lib.rt:285:9
 returns : tie.Need-returns
 returns c = wrote-same _ _ _ _ _ _ _ _ _ _ _ (sym (written-far _ _ _ _ _ (omega arith)) ∙ written-far _ _ _ _ _ (omega (arith, c .before .before .before .before .before .if1 .taken))) (c .before .before .write .ensures)
 
--- src/lib.rt:287:42
 add-write : tie.Need-add-write
 add-write c = search needs
 
--- src/lib.rt:287:5
 write-requires-2 : tie.Need-write-requires-2
 write-requires-2 c κs = search needs
 
--- src/lib.rt:280:1
 same-length-2 : tie.Need-same-length-2
 same-length-2 c = search needs
 
--- src/lib.rt:280:1
 returns-2 : tie.Need-returns-2
 returns-2 c = search needs
 

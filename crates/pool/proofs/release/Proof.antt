@@ -13,45 +13,35 @@ use Rattle.pool.proofs.release.Lts as lts
 use Rattle.pool.proofs.put.Reads as put-reads
 use Rattle.pool.proofs.sound.Reads as sound-reads
 
--- src/lib.rt:327:9
 returns : tie.Need-returns
 unfolding releaseWrites
 returns c = simp (lt-leb _ _ (c .if1 .taken)) (wrote-none _ _ _)
 
--- src/lib.rt:329:8
 sound-requires : tie.Need-sound-requires
 sound-requires c κs = search needs
 
--- src/lib.rt:330:34
 add-put : tie.Need-add-put
 add-put c = let s = sound-is _ _ (sym (c .before .before .before .before .sound .ensures) ∙ c .before .before .before .if2 .taken) in omega (arith, s .small, s .room, c .before .before .before .before .before .if1 .left)
 
--- src/lib.rt:330:9
 put-requires : tie.Need-put-requires
 put-requires c κs = search needs
 
--- src/lib.rt:331:9
 put-requires-2 : tie.Need-put-requires-2
 put-requires-2 c κs = search needs
 
--- src/lib.rt:332:34
 add-put-2 : tie.Need-add-put-2
 add-put-2 c = let s = sound-is _ _ (sym (c .before .before .before .before .before .before .before .before .before .before .before .before .before .before .before .before .sound .ensures) ∙ c .before .before .before .before .before .before .before .before .before .before .before .before .before .before .before .if2 .taken) in omega (arith, s .small, s .room, s .early, c .before .before .before .before .before .before .before .before .before .before .before .before .before .before .before .before .before .if1 .left)
 
--- src/lib.rt:332:9
 put-requires-3 : tie.Need-put-requires-3
 put-requires-3 c κs = search needs
 
--- src/lib.rt:323:1
 same-length : tie.Need-same-length
 same-length c = search needs
 
--- src/lib.rt:323:1
 returns-2 : tie.Need-returns-2
 unfolding releaseWrites freeAt asideAt ticketsAt
 returns-2 c = simp (le-leb _ _ (c .before .before .before .before .before .before .before .before .before .before .before .before .before .before .before .before .before .before .before .before .if1 .left), sym (c .before .before .before .before .before .before .before .before .before .before .before .before .before .before .before .before .before .before .before .sound .ensures) ∙ c .before .before .before .before .before .before .before .before .before .before .before .before .before .before .before .before .before .before .if2 .taken) (wrote-then _ _ _ _ _ _ _ _ _ (c .before .before .before .before .before .before .before .before .before .before .before .before .before .before .put .ensures) (wrote-then _ _ _ _ _ _ _ _ _ (c .before .before .before .before .before .before .before .before .put2 .ensures) (c .before .before .put3 .ensures)))
 
--- src/lib.rt:323:1
 returns-3 : tie.Need-returns-3
 unfolding releaseWrites
 returns-3 c = simp (le-leb _ _ (c .before .before .if1 .left), sym (c .before .sound .ensures) ∙ c .if2 .left) (wrote-none _ _ _)

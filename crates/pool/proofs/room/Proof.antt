@@ -13,35 +13,28 @@ use Rattle.pool.proofs.room.Lts as lts
 use Rattle.pool.proofs.bounds.book_of.Reads as book-of-reads
 use Rattle.word.proofs.spans.Reads as spans-reads
 
--- src/lib.rt:102:9
 returns : tie.Need-returns
 unfolding roomOf
 returns c = simp (lt-leb _ _ (c .if1 .taken))
 
--- src/lib.rt:104:16
 book-of-requires : tie.Need-book-of-requires
 book-of-requires c κs = search needs
 
--- src/lib.rt:104:16
 add-if2 : tie.Need-add-if2
 unfolding bookPages
 add-if2 c = omega (arith, c .book-of .ensures)
 
--- src/lib.rt:105:9
 returns-2 : tie.Need-returns-2
 unfolding roomOf
 returns-2 c = simp (le-leb _ _ (c .before .before .if1 .left), lt-leb (bookPages (c .before .before .before .before .args .pages) + 2) (c .before .before .before .before .args .pages) (omega (arith, c .if2 .taken, c .before .book-of .ensures)))
 
--- src/lib.rt:107:8
 spans-requires : tie.Need-spans-requires
 spans-requires c κs = search needs
 
--- src/lib.rt:108:9
 returns-3 : tie.Need-returns-3
 unfolding roomOf
 returns-3 c = simp (le-leb _ _ (c .before .before .before .before .if1 .left), le-leb (bookPages (c .before .before .before .before .before .before .args .pages) + 2) (c .before .before .before .before .before .before .args .pages) (omega (arith, c .before .before .if2 .left, c .before .before .before .book-of .ensures)), sym (spans-ends _ _ _ _ (omega (arith, c .before .before .if2 .left))) ∙ (sym (c .before .spans .ensures) ∙ c .if3 .taken))
 
--- src/lib.rt:98:1
 returns-4 : tie.Need-returns-4
 unfolding roomOf
 returns-4 c = simp (le-leb _ _ (c .before .before .before .before .if1 .left), le-leb (bookPages (c .before .before .before .before .before .before .args .pages) + 2) (c .before .before .before .before .before .before .args .pages) (omega (arith, c .before .before .if2 .left, c .before .before .before .book-of .ensures)), sym (spans-ends _ _ _ _ (omega (arith, c .before .before .if2 .left))) ∙ (sym (c .before .spans .ensures) ∙ c .if3 .left))

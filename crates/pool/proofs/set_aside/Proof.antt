@@ -14,48 +14,37 @@ use Rattle.pool.proofs.put.Reads as put-reads
 use Rattle.pool.proofs.sound.Reads as sound-reads
 use Rattle.pool.proofs.spot.Reads as spot-reads
 
--- src/lib.rt:308:8
 sound-requires : tie.Need-sound-requires
 sound-requires c κs = search needs
 
--- src/lib.rt:309:47
 add-spot : tie.Need-add-spot
 add-spot c = let s = sound-is _ _ (sym (c .before .before .sound .ensures) ∙ c .before .if1 .taken) in omega (arith, s .small, s .room)
 
--- src/lib.rt:309:13
 spot-requires : tie.Need-spot-requires
 spot-requires c κs = search needs
 
--- src/lib.rt:310:31
 add-put : tie.Need-add-put
 add-put c = let s = sound-is _ _ (sym (c .before .before .before .before .before .sound .ensures) ∙ c .before .before .before .before .if1 .taken) in omega (arith, s .small, c .before .before .spot .ensures, spot-in _ _ (c .before .before .before .before .before .before .before .args .book .free + c .before .before .before .before .before .before .before .args .book .aside) (s .head-in) (omega (arith, s .room)))
 
--- src/lib.rt:310:9
 put-requires : tie.Need-put-requires
 put-requires c κs = search needs
 
--- src/lib.rt:311:34
 add-put-2 : tie.Need-add-put-2
 add-put-2 c = let s = sound-is _ _ (sym (c .before .before .before .before .before .before .before .before .before .before .before .sound .ensures) ∙ c .before .before .before .before .before .before .before .before .before .before .if1 .taken) in omega (arith, s .small, s .room)
 
--- src/lib.rt:311:9
 put-requires-2 : tie.Need-put-requires-2
 put-requires-2 c κs = search needs
 
--- src/lib.rt:315:20
 add-t8 : tie.Need-add-t8
 add-t8 c = let s = sound-is _ _ (sym (c .before .before .before .before .before .before .before .before .before .before .before .before .before .before .before .sound .ensures) ∙ c .before .before .before .before .before .before .before .before .before .before .before .before .before .before .if1 .taken) in omega (arith, s .small, s .room)
 
--- src/lib.rt:312:9
 same-length : tie.Need-same-length
 same-length c = search needs
 
--- src/lib.rt:312:9
 returns : tie.Need-returns
 unfolding asideWrites asideBook asideAt slotAt
 returns c = let e = sym (c .before .before .before .before .before .before .before .before .before .before .before .before .before .before .before .sound .ensures) ∙ c .before .before .before .before .before .before .before .before .before .before .before .before .before .before .if1 .taken in (rw e, simp e (rw (← c .before .before .before .before .before .before .before .before .before .before .before .before .spot .ensures) (wrote-then _ _ _ _ _ _ _ _ _ (c .before .before .before .before .before .before .before .before .before .put .ensures) (c .before .before .before .put2 .ensures))))
 
--- src/lib.rt:304:1
 returns-2 : tie.Need-returns-2
 unfolding asideWrites asideBook
 returns-2 c = let e = sym (c .before .sound .ensures) ∙ c .if1 .left in (rw e, simp e (wrote-none _ _ _))

@@ -8,39 +8,30 @@ use Rattle.pool.proofs.sound.Reads as reads
 use Rattle.pool.proofs.sound.Lts as lts
 use Rattle.pool.proofs.book_pages.Reads as book-pages-reads
 
--- src/lib.rt:126:9
 returns : tie.Need-returns
 returns c = sym (unsound _ _ (λ s. omega (arith, s .small, c .if1 .taken)))
 
--- src/lib.rt:129:9
 returns-2 : tie.Need-returns-2
 returns-2 c = sym (unsound _ _ (λ s. omega (arith, s .head-in, c .if2 .taken)))
 
--- src/lib.rt:131:9
 book-pages-requires : tie.Need-book-pages-requires
 book-pages-requires c κs = search needs
 
--- src/lib.rt:133:9
 returns-3 : tie.Need-returns-3
 returns-3 c = sym (unsound _ _ (λ s. omega (arith, s .room, c .if3 .taken, c .before .book-pages .ensures)))
 
--- src/lib.rt:135:16
 sub-most : tie.Need-sub-most
 sub-most c = search needs
 
--- src/lib.rt:135:16
 sub-most-2 : tie.Need-sub-most-2
 sub-most-2 c = search needs
 
--- src/lib.rt:137:9
 returns-4 : tie.Need-returns-4
 returns-4 c = sym (unsound _ _ (λ s. omega (arith, s .room, c .if4 .taken, c .before .before .before .book-pages .ensures)))
 
--- src/lib.rt:140:9
 returns-5 : tie.Need-returns-5
 returns-5 c = sym (unsound _ _ (λ s. omega (arith, s .room, c .if5 .taken, c .before .before .before .if4 .left, c .before .before .before .before .before .before .book-pages .ensures)))
 
--- src/lib.rt:122:1
 returns-6 : tie.Need-returns-6
 returns-6 c = sound-last _ _ (c .before .before .before .before .before .before .before .before .before .before .if1 .left) (c .before .before .before .before .before .before .before .before .if2 .left) (omega (arith, c .before .before .before .before .before .before .if3 .left, c .before .before .before .before .if4 .left, c .before .if5 .left, c .before .before .before .before .before .before .before .book-pages .ensures))
 

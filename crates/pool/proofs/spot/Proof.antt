@@ -7,31 +7,24 @@ use Rattle.pool.proofs.spot.Tie as tie
 use Rattle.pool.proofs.spot.Reads as reads
 use Rattle.pool.proofs.spot.Lts as lts
 
--- src/lib.rt:209:9
 returns : tie.Need-returns
 returns c = sym (spot-around _ _ _ (omega arith) ∙ omega arith)
 
--- src/lib.rt:211:12
 sub-if2 : tie.Need-sub-if2
 sub-if2 c = search needs
 
--- src/lib.rt:212:16
 add-result : tie.Need-add-result
 add-result c = search needs
 
--- src/lib.rt:212:9
 returns-2 : tie.Need-returns-2
 returns-2 c = sym (spot-ahead _ _ _ (c .if2 .taken))
 
--- src/lib.rt:214:10
 sub-result : tie.Need-sub-result
 sub-result c = search needs
 
--- src/lib.rt:214:5
 sub-result-2 : tie.Need-sub-result-2
 sub-result-2 c = search needs
 
--- src/lib.rt:205:1
 returns-3 : tie.Need-returns-3
 returns-3 c = sym (spot-around _ _ _ (c .if2 .left))
 

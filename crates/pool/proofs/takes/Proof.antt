@@ -13,41 +13,32 @@ use Rattle.pool.proofs.takes.Lts as lts
 use Rattle.pool.proofs.book_pages.Reads as book-pages-reads
 use Rattle.pool.proofs.sound.Reads as sound-reads
 
--- src/lib.rt:438:8
 sound-requires : tie.Need-sound-requires
 sound-requires c κs = search needs
 
--- src/lib.rt:439:34
 book-pages-requires : tie.Need-book-pages-requires
 book-pages-requires c κs = search needs
 
--- src/lib.rt:439:20
 sub-most : tie.Need-sub-most
 sub-most c = let s = sound-is _ _ (sym (c .before .before .before .sound .ensures) ∙ c .before .before .if1 .taken) in omega (arith, s .room, c .before .book-pages .ensures)
 
--- src/lib.rt:439:20
 sub-most-2 : tie.Need-sub-most-2
 sub-most-2 c = let s = sound-is _ _ (sym (c .before .before .before .sound .ensures) ∙ c .before .before .if1 .taken) in omega (arith, s .room, c .before .book-pages .ensures)
 
--- src/lib.rt:440:12
 sub-if2 : tie.Need-sub-if2
 sub-if2 c = let s = sound-is _ _ (sym (c .before .before .before .before .sound .ensures) ∙ c .before .before .before .if1 .taken) in omega (arith, s .room, c .before .before .book-pages .ensures)
 
--- src/lib.rt:440:12
 sub-if2-2 : tie.Need-sub-if2-2
 sub-if2-2 c = let s = sound-is _ _ (sym (c .before .before .before .before .before .sound .ensures) ∙ c .before .before .before .before .if1 .taken) in omega (arith, s .room, c .before .before .before .book-pages .ensures)
 
--- src/lib.rt:441:13
 returns : tie.Need-returns
 unfolding takesOf
 returns c = let h = sym (c .before .before .before .before .before .before .sound .ensures) ∙ c .before .before .before .before .before .if1 .taken in let s = sound-is _ _ h in let u : c .before .before .before .before .before .before .before .args .space .pages < c .before .before .before .before .before .before .before .args .book .free + c .before .before .before .before .before .before .before .args .book .aside + c .before .before .before .before .before .before .before .args .n + bookPages (c .before .before .before .before .before .before .before .args .space .pages) + 1 = omega (arith, s .room, c .before .before .before .before .book-pages .ensures, c .if2 .taken) in simp (h, lt-leb _ _ u)
 
--- src/lib.rt:443:9
 returns-2 : tie.Need-returns-2
 unfolding takesOf
 returns-2 c = let h = sym (c .before .before .before .before .before .before .sound .ensures) ∙ c .before .before .before .before .before .if1 .taken in let s = sound-is _ _ h in let u : c .before .before .before .before .before .before .before .args .book .free + c .before .before .before .before .before .before .before .args .book .aside + c .before .before .before .before .before .before .before .args .n + bookPages (c .before .before .before .before .before .before .before .args .space .pages) + 1 ≤ c .before .before .before .before .before .before .before .args .space .pages = omega (arith, s .room, c .before .before .before .before .book-pages .ensures, c .if2 .left) in simp (h, le-leb _ _ u)
 
--- src/lib.rt:435:1
 returns-3 : tie.Need-returns-3
 unfolding takesOf
 returns-3 c = simp (sym (c .before .sound .ensures) ∙ c .if1 .left)

@@ -6,11 +6,9 @@ use Rattle.pool.proofs.ticket.Reads as reads
 use Rattle.pool.proofs.ticket.Lts as lts
 use Rattle.std.proofs.num.wrapping_add_u64.Reads as wrapping-add-u64-reads
 
--- src/lib.rt:260:5
 wrapping-add-u64-requires : tie.Need-wrapping-add-u64-requires
 wrapping-add-u64-requires c κs = search needs
 
--- src/lib.rt:257:1
 returns : tie.Need-returns
 unfolding ticketIn
 returns c = c .wrapping-add-u64 .ensures

@@ -8,15 +8,12 @@ use Rattle.pool.proofs.ticket_after.Lts as lts
 use Rattle.pool.proofs.ticket.Reads as ticket-reads
 use Rattle.std.proofs.num.wrapping_add_u64.Reads as wrapping-add-u64-reads
 
--- src/lib.rt:267:32
 ticket-requires : tie.Need-ticket-requires
 ticket-requires c κs = search needs
 
--- src/lib.rt:267:5
 wrapping-add-u64-requires : tie.Need-wrapping-add-u64-requires
 wrapping-add-u64-requires c κs = search needs
 
--- src/lib.rt:264:1
 returns : tie.Need-returns
 unfolding ticketAfter
 returns c = rw (sym (c .before .ticket .ensures)) (c .wrapping-add-u64 .ensures)

@@ -12,37 +12,29 @@ use Rattle.pool.proofs.put.Reads as put-reads
 use Rattle.pool.proofs.sound.Reads as sound-reads
 use Rattle.pool.proofs.spot.Reads as spot-reads
 
--- src/lib.rt:306:9
 returns : tie.Need-returns
 unfolding tookWrites
 returns c = simp (lt-leb _ _ (c .if1 .taken)) (wrote-none _ _ _)
 
--- src/lib.rt:308:8
 sound-requires : tie.Need-sound-requires
 sound-requires c κs = search needs
 
--- src/lib.rt:309:35
 spot-requires : tie.Need-spot-requires
 spot-requires c κs = search needs
 
--- src/lib.rt:309:9
 put-requires : tie.Need-put-requires
 put-requires c κs = search needs
 
--- src/lib.rt:310:9
 put-requires-2 : tie.Need-put-requires-2
 put-requires-2 c κs = search needs
 
--- src/lib.rt:302:1
 same-length : tie.Need-same-length
 same-length c = search needs
 
--- src/lib.rt:302:1
 returns-2 : tie.Need-returns-2
 unfolding tookWrites headAt freeAt
 returns-2 c = simp (le-leb _ _ (c .before .before .before .before .before .before .before .before .before .before .before .before .before .before .if1 .left), sym (c .before .before .before .before .before .before .before .before .before .before .before .before .before .sound .ensures) ∙ c .before .before .before .before .before .before .before .before .before .before .before .before .if2 .taken) (rw (← c .before .before .before .before .before .before .before .before .before .spot .ensures) (wrote-then _ _ _ _ _ _ _ _ _ (c .before .before .before .before .before .before .before .before .put .ensures) (c .before .before .put2 .ensures)))
 
--- src/lib.rt:302:1
 returns-3 : tie.Need-returns-3
 unfolding tookWrites
 returns-3 c = simp (le-leb _ _ (c .before .before .if1 .left), sym (c .before .sound .ensures) ∙ c .if2 .left) (wrote-none _ _ _)

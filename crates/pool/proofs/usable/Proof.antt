@@ -8,21 +8,17 @@ use Rattle.pool.proofs.usable.Reads as reads
 use Rattle.pool.proofs.usable.Lts as lts
 use Rattle.pool.proofs.bounds.in_pool.Reads as in-pool-reads
 
--- src/lib.rt:236:9
 returns : tie.Need-returns
 unfolding usableOf
 returns c = simp (eq-eqb _ _ (c .if1 .taken))
 
--- src/lib.rt:238:8
 in-pool-requires : tie.Need-in-pool-requires
 in-pool-requires c κs = search needs
 
--- src/lib.rt:239:9
 returns-2 : tie.Need-returns-2
 unfolding usableOf
 returns-2 c = simp (ne-eqb _ _ (c .before .before .if1 .left), sym (c .before .in-pool .ensures) ∙ c .if2 .taken)
 
--- src/lib.rt:232:1
 returns-3 : tie.Need-returns-3
 unfolding usableOf
 returns-3 c = simp (ne-eqb _ _ (c .before .before .if1 .left), sym (c .before .in-pool .ensures) ∙ c .if2 .left)

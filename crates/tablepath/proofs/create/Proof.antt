@@ -6,15 +6,12 @@ use Rattle.tablepath.proofs.create.Reads as reads
 use Rattle.tablepath.proofs.create.Lts as lts
 use Rattle.tablepath.proofs.create_up_to.Reads as create-up-to-reads
 
--- src/lib.rt:77:5
 create-up-to-requires : tie.Need-create-up-to-requires
 create-up-to-requires c κs = search needs
 
--- src/lib.rt:72:1
 same-length : tie.Need-same-length
 same-length c = search needs
 
--- src/lib.rt:72:1
 returns : tie.Need-returns
 returns c = (c .before .before .create-up-to .ensures .0, wrote-all _ _ _ _ _ (c .before .before .create-up-to .ensures .1))
 

@@ -6,15 +6,12 @@ use Rattle.tablepath.proofs.map.Reads as reads
 use Rattle.tablepath.proofs.map.Lts as lts
 use Rattle.tablepath.proofs.map_up_to.Reads as map-up-to-reads
 
--- src/lib.rt:102:5
 map-up-to-requires : tie.Need-map-up-to-requires
 map-up-to-requires c κs = search needs
 
--- src/lib.rt:97:1
 same-length : tie.Need-same-length
 same-length c = search needs
 
--- src/lib.rt:97:1
 returns : tie.Need-returns
 returns c = (c .before .before .map-up-to .ensures .0, wrote-all _ _ _ _ _ (c .before .before .map-up-to .ensures .1))
 

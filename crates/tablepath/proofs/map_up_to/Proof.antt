@@ -9,32 +9,25 @@ use Rattle.tablepath.proofs.map_up_to.Reads as reads
 use Rattle.tablepath.proofs.map_up_to.Lts as lts
 use Rattle.plan.proofs.map.Reads as map-reads
 
--- src/lib.rt:85:9
 map-requires : tie.Need-map-requires
 map-requires c κs = search needs
 
--- src/lib.rt:87:25
 enum-known-d : tie.Need-enum-known-d
 enum-known-d c = search needs
 
--- src/lib.rt:88:22
 enum-known-d-2 : tie.Need-enum-known-d-2
 enum-known-d-2 c = search needs
 
--- src/lib.rt:81:1
 same-length : tie.Need-same-length
 same-length c = search needs
 
--- src/lib.rt:81:1
 returns : tie.Need-returns
 unfolding mapAnswer mapWrites mapSaid
 returns c = (rw (making-refused _ _ (sym (c .before .before .before .before .before .map .ensures .0) ∙ c .before .d .given .1)), c .before .before .before .before .before .map .ensures .1)
 
--- src/lib.rt:81:1
 same-length-2 : tie.Need-same-length-2
 same-length-2 c = search needs
 
--- src/lib.rt:81:1
 returns-2 : tie.Need-returns-2
 unfolding mapAnswer mapWrites mapSaid
 returns-2 c = let k = making-done _ _ (sym (c .before .before .before .before .before .map .ensures .0) ∙ c .before .d2 .given .1) in (rw (k .1) (ap mapped.Done (sym (k .2))), c .before .before .before .before .before .map .ensures .1)

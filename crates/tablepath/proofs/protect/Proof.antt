@@ -6,15 +6,12 @@ use Rattle.tablepath.proofs.protect.Reads as reads
 use Rattle.tablepath.proofs.protect.Lts as lts
 use Rattle.tablepath.proofs.protect_up_to.Reads as protect-up-to-reads
 
--- src/lib.rt:155:5
 protect-up-to-requires : tie.Need-protect-up-to-requires
 protect-up-to-requires c κs = search needs
 
--- src/lib.rt:150:1
 same-length : tie.Need-same-length
 same-length c = search needs
 
--- src/lib.rt:150:1
 returns : tie.Need-returns
 returns c = (c .before .before .protect-up-to .ensures .0, wrote-all _ _ _ _ _ (c .before .before .protect-up-to .ensures .1))
 

@@ -7,32 +7,25 @@ use Rattle.tablepath.proofs.protect_up_to.Reads as reads
 use Rattle.tablepath.proofs.protect_up_to.Lts as lts
 use Rattle.plan.proofs.protect.Reads as protect-reads
 
--- src/lib.rt:139:9
 protect-requires : tie.Need-protect-requires
 protect-requires c κs = search needs
 
--- src/lib.rt:141:27
 enum-known-d : tie.Need-enum-known-d
 enum-known-d c = search needs
 
--- src/lib.rt:142:22
 enum-known-d-2 : tie.Need-enum-known-d-2
 enum-known-d-2 c = search needs
 
--- src/lib.rt:135:1
 same-length : tie.Need-same-length
 same-length c = search needs
 
--- src/lib.rt:135:1
 returns : tie.Need-returns
 unfolding protectAnswer protectWrites protectSaid sameOf
 returns c = (rw (sym (c .before .before .before .before .before .protect .ensures .0) ∙ c .before .d .given .1), c .before .before .before .before .before .protect .ensures .1)
 
--- src/lib.rt:135:1
 same-length-2 : tie.Need-same-length-2
 same-length-2 c = search needs
 
--- src/lib.rt:135:1
 returns-2 : tie.Need-returns-2
 unfolding protectAnswer protectWrites protectSaid sameOf
 returns-2 c = (rw (sym (c .before .before .before .before .before .protect .ensures .0) ∙ c .before .d2 .given .1), c .before .before .before .before .before .protect .ensures .1)

@@ -6,15 +6,12 @@ use Rattle.tablepath.proofs.told.Reads as reads
 use Rattle.tablepath.proofs.told.Lts as lts
 use Rattle.tablepath.proofs.told_up_to.Reads as told-up-to-reads
 
--- src/lib.rt:186:5
 told-up-to-requires : tie.Need-told-up-to-requires
 told-up-to-requires c κs = search needs
 
--- src/lib.rt:181:1
 same-length : tie.Need-same-length
 same-length c = search needs
 
--- src/lib.rt:181:1
 returns : tie.Need-returns
 returns c = (c .before .before .told-up-to .ensures .0, wrote-all _ _ _ _ _ (c .before .before .told-up-to .ensures .1))
 

@@ -10,70 +10,54 @@ use Rattle.pool.proofs.due_by.Reads as due-by-reads
 use Rattle.pool.proofs.open.Reads as open-reads
 use Rattle.pool.proofs.release.Reads as release-reads
 
--- src/lib.rt:163:9
 open-requires : tie.Need-open-requires
 open-requires c κs = search needs
 
--- src/lib.rt:165:25
 enum-known-o : tie.Need-enum-known-o
 enum-known-o c = search needs
 
--- src/lib.rt:166:22
 enum-known-o-2 : tie.Need-enum-known-o-2
 enum-known-o-2 c = search needs
 
--- src/lib.rt:167:17
 due-by-requires : tie.Need-due-by-requires
 due-by-requires c κs = search needs
 
--- src/lib.rt:169:33
 enum-told : tie.Need-enum-told
 enum-told c = search needs
 
--- src/lib.rt:170:31
 enum-told-2 : tie.Need-enum-told-2
 enum-told-2 c = search needs
 
--- src/lib.rt:171:28
 enum-known-d : tie.Need-enum-known-d
 enum-known-d c = search needs
 
--- src/lib.rt:172:21
 release-requires : tie.Need-release-requires
 release-requires c κs = search needs
 
--- src/lib.rt:159:1
 same-length : tie.Need-same-length
 same-length c = search needs
 
--- src/lib.rt:159:1
 returns : tie.Need-returns
 unfolding toldAnswer toldWrites toldSaid toldDid
 returns c = let e = sym (c .before .before .before .«open» .ensures) ∙ c .before .o .given .1 in (rw e, rw e (wrote-none _ _ _))
 
--- src/lib.rt:159:1
 same-length-2 : tie.Need-same-length-2
 same-length-2 c = search needs
 
--- src/lib.rt:159:1
 returns-2 : tie.Need-returns-2
 unfolding toldAnswer toldWrites toldSaid toldDid dueSaid dueDid
 returns-2 c = let e = sym (c .before .before .before .before .before .before .«open» .ensures) ∙ c .before .before .before .before .o2 .given .1 in let f = sym (c .before .before .due-by .ensures) ∙ c .enum-told .given .1 in (rw (e, f), rw (e, f) (wrote-none _ _ _))
 
--- src/lib.rt:159:1
 same-length-3 : tie.Need-same-length-3
 same-length-3 c = search needs
 
--- src/lib.rt:159:1
 returns-3 : tie.Need-returns-3
 unfolding toldAnswer toldWrites toldSaid toldDid dueSaid dueDid
 returns-3 c = let e = sym (c .before .before .before .before .before .before .«open» .ensures) ∙ c .before .before .before .before .o2 .given .1 in let f = sym (c .before .before .due-by .ensures) ∙ c .enum-told2 .given .1 in (rw (e, f), rw (e, f) (wrote-none _ _ _))
 
--- src/lib.rt:159:1
 same-length-4 : tie.Need-same-length-4
 same-length-4 c = search needs
 
--- src/lib.rt:159:1
 returns-4 : tie.Need-returns-4
 unfolding toldAnswer toldWrites toldSaid toldDid dueSaid dueDid
 returns-4 c = let e = sym (c .before .before .before .before .before .before .before .before .before .before .before .before .«open» .ensures) ∙ c .before .before .before .before .before .before .before .before .before .before .o2 .given .1 in let f = sym (c .before .before .before .before .before .before .before .before .due-by .ensures) ∙ c .before .before .before .before .before .before .d .given .1 in (rw (e, f), rw (e, f) (c .before .before .release .ensures))

@@ -6,15 +6,12 @@ use Rattle.tablepath.proofs.unmap.Reads as reads
 use Rattle.tablepath.proofs.unmap.Lts as lts
 use Rattle.tablepath.proofs.unmap_up_to.Reads as unmap-up-to-reads
 
--- src/lib.rt:131:5
 unmap-up-to-requires : tie.Need-unmap-up-to-requires
 unmap-up-to-requires c κs = search needs
 
--- src/lib.rt:126:1
 same-length : tie.Need-same-length
 same-length c = search needs
 
--- src/lib.rt:126:1
 returns : tie.Need-returns
 returns c = (c .before .before .unmap-up-to .ensures .0, wrote-all _ _ _ _ _ (c .before .before .unmap-up-to .ensures .1))
 

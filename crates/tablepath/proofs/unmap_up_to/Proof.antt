@@ -8,32 +8,25 @@ use Rattle.tablepath.proofs.unmap_up_to.Reads as reads
 use Rattle.tablepath.proofs.unmap_up_to.Lts as lts
 use Rattle.plan.proofs.unmap.Reads as unmap-reads
 
--- src/lib.rt:110:9
 unmap-requires : tie.Need-unmap-requires
 unmap-requires c κs = search needs
 
--- src/lib.rt:112:28
 enum-known-d : tie.Need-enum-known-d
 enum-known-d c = search needs
 
--- src/lib.rt:113:25
 enum-known-d-2 : tie.Need-enum-known-d-2
 enum-known-d-2 c = search needs
 
--- src/lib.rt:106:1
 same-length : tie.Need-same-length
 same-length c = search needs
 
--- src/lib.rt:106:1
 returns : tie.Need-returns
 unfolding unmapAnswer unmapWrites unmapSaid
 returns c = (rw (unmapping-refused _ _ _ _ (sym (c .before .before .before .before .before .unmap .ensures .0) ∙ c .before .d .given .1)), c .before .before .before .before .before .unmap .ensures .1)
 
--- src/lib.rt:106:1
 same-length-2 : tie.Need-same-length-2
 same-length-2 c = search needs
 
--- src/lib.rt:106:1
 returns-2 : tie.Need-returns-2
 unfolding unmapAnswer unmapWrites unmapSaid goneOf
 returns-2 c = let k = unmapping-done _ _ _ _ _ (sym (c .before .before .before .before .before .before .unmap .ensures .0) ∙ c .before .before .d2 .given .1) in (rw (k .0, k .1), c .before .before .before .before .before .before .unmap .ensures .1)

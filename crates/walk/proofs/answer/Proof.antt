@@ -5,20 +5,16 @@ use Rattle.walk.proofs.answer.Tie as tie
 use Rattle.walk.proofs.answer.Reads as reads
 use Rattle.walk.proofs.answer.Lts as lts
 
--- src/lib.rt:111:31
 enum-told : tie.Need-enum-told
 enum-told c = search needs
 
--- src/lib.rt:112:22
 enum-known-p : tie.Need-enum-known-p
 enum-known-p c = search needs
 
--- src/lib.rt:107:1
 returns : tie.Need-returns
 unfolding foundOf
 returns c = rw (c .enum-told .given .1)
 
--- src/lib.rt:107:1
 returns-2 : tie.Need-returns-2
 unfolding foundOf
 returns-2 c = rw (c .before .p .given .1)

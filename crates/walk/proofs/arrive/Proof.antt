@@ -11,35 +11,27 @@ use Rattle.walk.proofs.enter.Reads as enter-reads
 use Rattle.walk.proofs.index.Reads as index-reads
 use Rattle.word.proofs.read.Reads as read-reads
 
--- src/lib.rt:69:40
 index-requires : tie.Need-index-requires
 index-requires c κs = search needs
 
--- src/lib.rt:69:9
 read-requires : tie.Need-read-requires
 read-requires c κs = search needs
 
--- src/lib.rt:71:20
 enum-known-c : tie.Need-enum-known-c
 enum-known-c c = search needs
 
--- src/lib.rt:71:42
 decode-requires : tie.Need-decode-requires
 decode-requires c κs = search needs
 
--- src/lib.rt:71:26
 enter-requires : tie.Need-enter-requires
 enter-requires c κs = search needs
 
--- src/lib.rt:72:39
 enum-told : tie.Need-enum-told
 enum-told c = search needs
 
--- src/lib.rt:65:1
 returns : tie.Need-returns
 returns c = rw (c .enter .ensures, c .before .decode .ensures) (sym (step-read _ _ _ _ _ _ _ (c .before .before .before .before .before .before .index .ensures .0 (omega arith)) _ (sym (c .before .before .before .before .before .read .ensures) ∙ c .before .before .before .c .given .1)))
 
--- src/lib.rt:65:1
 returns-2 : tie.Need-returns-2
 returns-2 c = sym (step-outside _ _ _ _ _ _ _ (c .before .before .before .index .ensures .0 (omega arith)) (sym (c .before .before .read .ensures) ∙ c .enum-told .given .1))
 

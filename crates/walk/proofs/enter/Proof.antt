@@ -9,45 +9,35 @@ use Rattle.entry.proofs.both.Reads as both-reads
 use Rattle.entry.proofs.size.Reads as size-reads
 use Rattle.walk.proofs.base.Reads as base-reads
 
--- src/lib.rt:53:40
 enum-told : tie.Need-enum-told
 enum-told c = search needs
 
--- src/lib.rt:54:21
 enum-known-e : tie.Need-enum-known-e
 enum-known-e c = search needs
 
--- src/lib.rt:55:19
 base-requires : tie.Need-base-requires
 base-requires c κs = search needs
 
--- src/lib.rt:56:19
 size-requires : tie.Need-size-requires
 size-requires c κs = search needs
 
--- src/lib.rt:58:21
 both-requires : tie.Need-both-requires
 both-requires c κs = search needs
 
--- src/lib.rt:60:22
 enum-known-e-2 : tie.Need-enum-known-e-2
 enum-known-e-2 c = search needs
 
--- src/lib.rt:60:47
 both-requires-2 : tie.Need-both-requires-2
 both-requires-2 c κs = search needs
 
--- src/lib.rt:48:1
 returns : tie.Need-returns
 unfolding entered
 returns c = rw (c .enum-told .given .1)
 
--- src/lib.rt:48:1
 returns-2 : tie.Need-returns-2
 unfolding entered
 returns-2 c = rw (c .before .before .before .before .e .given .1, c .before .before .base .ensures, c .before .size .ensures .0 (omega arith), c .both .ensures)
 
--- src/lib.rt:48:1
 returns-3 : tie.Need-returns-3
 unfolding entered
 returns-3 c = rw (c .before .before .e2 .given .1, c .both2 .ensures)

@@ -6,15 +6,12 @@ use Rattle.walk.proofs.index.Reads as reads
 use Rattle.walk.proofs.index.Lts as lts
 use Rattle.entry.proofs.size.Reads as size-reads
 
--- src/lib.rt:35:10
 size-requires : tie.Need-size-requires
 size-requires c κs = search needs
 
--- src/lib.rt:35:5
 div-result : tie.Need-div-result
 div-result c = c .size .ensures .1
 
--- src/lib.rt:32:1
 returns : tie.Need-returns
 unfolding indexOf
 returns c = (λ u. rw (c .size .ensures .0 u), λ u. rw (c .size .ensures .2 u))

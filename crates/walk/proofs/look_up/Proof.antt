@@ -19,35 +19,27 @@ Inv-loop mem origin root va p₀ n₀ p n = (n ≤ 4) × (run (holds mem origin)
 abbrev μ-loop : tie.MeasureT-loop
 μ-loop mem origin root va p₀ n₀ p n = n
 
--- src/lib.rt:120:9
 begin-requires : tie.Need-begin-requires Inv-loop μ-loop
 begin-requires c κs = search needs
 
--- src/lib.rt:122:5
 loop-holds : tie.Need-loop-holds Inv-loop μ-loop
 loop-holds c = (omega arith, rw (c .begin .ensures))
 
--- src/lib.rt:123:9
 sub-n : tie.Need-sub-n Inv-loop μ-loop
 sub-n c = omega arith
 
--- src/lib.rt:124:9
 step-requires : tie.Need-step-requires Inv-loop μ-loop
 step-requires c κs = search needs
 
--- src/lib.rt:122:5
 loop-less : tie.Need-loop-less Inv-loop μ-loop
 loop-less c = omega arith
 
--- src/lib.rt:122:5
 loop-again : tie.Need-loop-again Inv-loop μ-loop
 loop-again c = (omega arith, c .before .before .loop .inv .1 ∙ (run-down _ _ _ _ _ (omega arith) ∙ rw (c .step .ensures .0 (omega arith))))
 
--- src/lib.rt:126:5
 answer-requires : tie.Need-answer-requires Inv-loop μ-loop
 answer-requires c κs = search needs
 
--- src/lib.rt:117:1
 returns : tie.Need-returns Inv-loop μ-loop
 unfolding walk
 returns c = let z : c .before .before .loop .n ≡ 0 = omega arith in rw (c .answer .ensures) (ap foundOf (sym (c .before .before .loop .inv .1 ∙ rw z (run-none _ _ _ _))))

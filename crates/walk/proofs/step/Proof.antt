@@ -8,28 +8,22 @@ use Rattle.walk.proofs.step.Reads as reads
 use Rattle.walk.proofs.step.Lts as lts
 use Rattle.walk.proofs.arrive.Reads as arrive-reads
 
--- src/lib.rt:81:9
 returns : tie.Need-returns
 returns c = (λ u. absurd (omega arith), λ u. refl)
 
--- src/lib.rt:84:22
 enum-known-p : tie.Need-enum-known-p
 enum-known-p c = search needs
 
--- src/lib.rt:84:31
 arrive-requires : tie.Need-arrive-requires
 arrive-requires c κs = search needs
 
--- src/lib.rt:85:22
 enum-known-p-2 : tie.Need-enum-known-p-2
 enum-known-p-2 c = search needs
 
--- src/lib.rt:77:1
 returns-2 : tie.Need-returns-2
 unfolding stepOf
 returns-2 c = (λ u. rw (c .arrive .ensures, c .before .before .p .given .1), λ u. absurd (omega arith))
 
--- src/lib.rt:77:1
 returns-3 : tie.Need-returns-3
 unfolding stepOf
 returns-3 c = (λ u. rw (c .before .p2 .given .1), λ u. absurd (omega arith))

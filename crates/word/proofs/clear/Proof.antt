@@ -15,31 +15,24 @@ Inv-loop mem₀ left₀ origin p i₀ mem left i = (i ≤ 512) × Wrote origin (
 abbrev μ-loop : tie.MeasureT-loop
 μ-loop mem₀ left₀ origin p i₀ mem left i = 512 - i
 
--- src/lib.rt:174:5
 loop-holds : tie.Need-loop-holds Inv-loop μ-loop
 loop-holds c = (omega arith, wrote-no-zero _ _ _ _)
 
--- src/lib.rt:175:9
 write-requires : tie.Need-write-requires Inv-loop μ-loop
 write-requires c κs = tt
 
--- src/lib.rt:176:9
 add-i : tie.Need-add-i Inv-loop μ-loop
 add-i c = omega arith
 
--- src/lib.rt:174:5
 loop-less : tie.Need-loop-less Inv-loop μ-loop
 loop-less c = omega arith
 
--- src/lib.rt:174:5
 loop-again : tie.Need-loop-again Inv-loop μ-loop
 loop-again c = (omega arith, wrote-zero _ _ _ _ _ _ _ _ _ (c .before .before .before .before .before .before .loop .inv .1) (c .before .before .write .ensures))
 
--- src/lib.rt:170:1
 same-length : tie.Need-same-length Inv-loop μ-loop
 same-length c = length-wrote _ _ _ _ _ _ (c .before .loop .inv .1)
 
--- src/lib.rt:170:1
 returns : tie.Need-returns Inv-loop μ-loop
 returns c = let e : c .before .loop .i ≡ 512 = omega arith in rw e at (c .before .loop .inv .1)
 

@@ -9,23 +9,18 @@ use Rattle.word.proofs.covers.Lts as lts
 use Rattle.std.proofs.num.wrapping_sub_u64.Reads as wrapping-sub-u64-reads
 use Rattle.word.proofs.near.Reads as near-reads
 
--- src/lib.rt:96:9
 wrapping-sub-u64-requires : tie.Need-wrapping-sub-u64-requires
 wrapping-sub-u64-requires c κs = search needs
 
--- src/lib.rt:98:9
 returns : tie.Need-returns
 returns c = sym (short _ _ _ (omega (arith, c .before .wrapping-sub-u64 .ensures, c .if1 .taken, c .before .before .before .good .0 .1)))
 
--- src/lib.rt:101:9
 returns-2 : tie.Need-returns-2
 returns-2 c = sym (high-origin _ _ _ (c .if2 .taken))
 
--- src/lib.rt:103:5
 near-requires : tie.Need-near-requires
 near-requires c κs = search needs
 
--- src/lib.rt:93:1
 returns-3 : tie.Need-returns-3
 returns-3 c = c .near .ensures _ (c .before .if2 .left) (omega (arith, c .before .before .before .wrapping-sub-u64 .ensures, c .before .before .if1 .left, c .before .before .before .before .before .good .0 .1)) (omega (arith, c .before .before .before .before .before .good .0 .1))
 

@@ -8,19 +8,15 @@ use Rattle.word.proofs.inside.Reads as reads
 use Rattle.word.proofs.inside.Lts as lts
 use Rattle.word.proofs.near.Reads as near-reads
 
--- src/lib.rt:82:9
 returns : tie.Need-returns
 returns c = sym (high-origin _ _ _ (c .if1 .taken))
 
--- src/lib.rt:86:9
 returns-2 : tie.Need-returns-2
 returns-2 c = sym (short _ _ _ (c .if2 .taken))
 
--- src/lib.rt:88:5
 near-requires : tie.Need-near-requires
 near-requires c κs = search needs
 
--- src/lib.rt:78:1
 returns-3 : tie.Need-returns-3
 returns-3 c = c .near .ensures _ (c .before .before .if1 .left) (omega arith) (omega (arith, c .before .before .before .before .good .0 .1))
 

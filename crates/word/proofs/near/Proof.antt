@@ -8,19 +8,15 @@ use Rattle.word.proofs.near.Reads as reads
 use Rattle.word.proofs.near.Lts as lts
 use Rattle.std.proofs.num.wrapping_sub_u64.Reads as wrapping-sub-u64-reads
 
--- src/lib.rt:72:9
 returns : tie.Need-returns
 returns c = λ s a b d. sym (far s _ _ (c .if1 .taken))
 
--- src/lib.rt:74:32
 mul-wrapping-sub-u64 : tie.Need-mul-wrapping-sub-u64
 mul-wrapping-sub-u64 c = search needs
 
--- src/lib.rt:74:5
 wrapping-sub-u64-requires : tie.Need-wrapping-sub-u64-requires
 wrapping-sub-u64-requires c κs = search needs
 
--- src/lib.rt:68:1
 returns-2 : tie.Need-returns-2
 returns-2 c = λ s a b d. wraps s _ _ _ _ a (c .before .if1 .left) d (omega arith) (c .wrapping-sub-u64 .ensures) b
 

@@ -11,49 +11,38 @@ use Rattle.word.proofs.put.Lts as lts
 use Rattle.word.proofs.inside.Reads as inside-reads
 use Rattle.word.proofs.store.Reads as store-reads
 
--- src/lib.rt:95:9
 returns : tie.Need-returns
 unfolding written
 returns c = simp (le-ltb _ _ (c .if1 .taken))
 
--- src/lib.rt:97:8
 inside-requires : tie.Need-inside-requires
 inside-requires c κs = search needs
 
--- src/lib.rt:98:21
 mul-store : tie.Need-mul-store
 mul-store c = omega (arith, offset _ _ _ _ (sym (c .before .before .inside .ensures) ∙ c .before .if2 .taken) (c .before .before .before .before .if1 .left) .product)
 
--- src/lib.rt:98:21
 sub-store : tie.Need-sub-store
 sub-store c = offset _ _ _ _ (sym (c .before .before .inside .ensures) ∙ c .before .if2 .taken) (c .before .before .before .before .if1 .left) .above
 
--- src/lib.rt:98:41
 mul-store-2 : tie.Need-mul-store-2
 mul-store-2 c = search needs
 
--- src/lib.rt:98:21
 add-store : tie.Need-add-store
 add-store c = omega (arith, offset _ _ _ _ (sym (c .before .before .inside .ensures) ∙ c .before .if2 .taken) (c .before .before .before .before .if1 .left) .fits)
 
--- src/lib.rt:98:9
 store-requires : tie.Need-store-requires
 store-requires c κs = offset _ _ _ _ (sym (c .before .before .inside .ensures) ∙ c .before .if2 .taken) (c .before .before .before .before .if1 .left) .fits
 
--- src/lib.rt:91:1
 same-length : tie.Need-same-length
 same-length c = search needs
 
--- src/lib.rt:91:1
 returns-2 : tie.Need-returns-2
 unfolding written
 returns-2 c = let h = sym (c .before .before .before .before .before .inside .ensures) ∙ c .before .before .before .before .if2 .taken in simp (lt-ltb _ _ (c .before .before .before .before .before .before .before .if1 .left), h, c .before .before .store .ensures, offset _ _ _ _ h (c .before .before .before .before .before .before .before .if1 .left) .same)
 
--- src/lib.rt:91:1
 same-length-2 : tie.Need-same-length-2
 same-length-2 c = search needs
 
--- src/lib.rt:91:1
 returns-3 : tie.Need-returns-3
 unfolding written
 returns-3 c = simp (lt-ltb _ _ (c .before .before .before .if1 .left), sym (c .before .inside .ensures) ∙ c .if2 .left)

@@ -11,41 +11,32 @@ use Rattle.word.proofs.read.Lts as lts
 use Rattle.word.proofs.covers.Reads as covers-reads
 use Rattle.word.proofs.load.Reads as load-reads
 
--- src/lib.rt:82:9
 returns : tie.Need-returns
 unfolding readOf
 returns c = simp (le-ltb _ _ (c .if1 .taken))
 
--- src/lib.rt:84:8
 covers-requires : tie.Need-covers-requires
 covers-requires c κs = search needs
 
--- src/lib.rt:85:38
 mul-load : tie.Need-mul-load
 mul-load c = omega (arith, offset _ _ _ _ (sym (c .before .covers .ensures) ∙ c .if2 .taken) (c .before .before .if1 .left) .product)
 
--- src/lib.rt:85:38
 sub-load : tie.Need-sub-load
 sub-load c = offset _ _ _ _ (sym (c .before .covers .ensures) ∙ c .if2 .taken) (c .before .before .if1 .left) .above
 
--- src/lib.rt:85:58
 mul-load-2 : tie.Need-mul-load-2
 mul-load-2 c = search needs
 
--- src/lib.rt:85:38
 add-load : tie.Need-add-load
 add-load c = omega (arith, offset _ _ _ _ (sym (c .before .covers .ensures) ∙ c .if2 .taken) (c .before .before .if1 .left) .fits)
 
--- src/lib.rt:85:27
 load-requires : tie.Need-load-requires
 load-requires c κs = offset _ _ _ _ (sym (c .before .covers .ensures) ∙ c .if2 .taken) (c .before .before .if1 .left) .fits
 
--- src/lib.rt:85:9
 returns-2 : tie.Need-returns-2
 unfolding readOf
 returns-2 c = let h = sym (c .before .before .covers .ensures) ∙ c .before .if2 .taken in simp (lt-ltb _ _ (c .before .before .before .if1 .left), h, c .load .ensures, offset _ _ _ _ h (c .before .before .before .if1 .left) .same, memory-in _ _ _ (held-lies _ _ _ _ (held _ _ _ h) (c .before .before .before .if1 .left)))
 
--- src/lib.rt:78:1
 returns-3 : tie.Need-returns-3
 unfolding readOf
 returns-3 c = simp (lt-ltb _ _ (c .before .before .if1 .left), sym (c .before .covers .ensures) ∙ c .if2 .left)

@@ -5,19 +5,15 @@ use Rattle.word.proofs.spend.Tie as tie
 use Rattle.word.proofs.spend.Reads as reads
 use Rattle.word.proofs.spend.Lts as lts
 
--- src/lib.rt:151:9
 returns : tie.Need-returns
 returns c = spent-all _ (c .if1 .taken)
 
--- src/lib.rt:154:9
 returns-2 : tie.Need-returns-2
 returns-2 c = spent-none _ (c .if2 .taken)
 
--- src/lib.rt:156:13
 sub-left : tie.Need-sub-left
 sub-left c = search needs
 
--- src/lib.rt:145:1
 returns-3 : tie.Need-returns-3
 returns-3 c = spent-one _ (c .before .if1 .left) (c .if2 .left)
 

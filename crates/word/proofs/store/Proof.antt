@@ -10,103 +10,78 @@ use Rattle.word.proofs.store.Reads as reads
 use Rattle.word.proofs.store.Lts as lts
 use Rattle.word.proofs.byte.Reads as byte-reads
 
--- src/lib.rt:46:15
 byte-requires : tie.Need-byte-requires
 byte-requires c κs = search needs
 
--- src/lib.rt:46:5
 slice-write-mem : tie.Need-slice-write-mem
 slice-write-mem c = search needs
 
--- src/lib.rt:47:19
 byte-requires-2 : tie.Need-byte-requires-2
 byte-requires-2 c κs = search needs
 
--- src/lib.rt:47:9
 add-mem : tie.Need-add-mem
 add-mem c = search needs
 
--- src/lib.rt:47:5
 slice-write-mem-2 : tie.Need-slice-write-mem-2
 slice-write-mem-2 c = simp length-set (omega arith)
 
--- src/lib.rt:48:19
 byte-requires-3 : tie.Need-byte-requires-3
 byte-requires-3 c κs = search needs
 
--- src/lib.rt:48:9
 add-mem-2 : tie.Need-add-mem-2
 add-mem-2 c = search needs
 
--- src/lib.rt:48:5
 slice-write-mem-3 : tie.Need-slice-write-mem-3
 slice-write-mem-3 c = simp length-set (omega arith)
 
--- src/lib.rt:49:19
 byte-requires-4 : tie.Need-byte-requires-4
 byte-requires-4 c κs = search needs
 
--- src/lib.rt:49:9
 add-mem-3 : tie.Need-add-mem-3
 add-mem-3 c = search needs
 
--- src/lib.rt:49:5
 slice-write-mem-4 : tie.Need-slice-write-mem-4
 slice-write-mem-4 c = simp length-set (omega arith)
 
--- src/lib.rt:50:19
 byte-requires-5 : tie.Need-byte-requires-5
 byte-requires-5 c κs = search needs
 
--- src/lib.rt:50:9
 add-mem-4 : tie.Need-add-mem-4
 add-mem-4 c = search needs
 
--- src/lib.rt:50:5
 slice-write-mem-5 : tie.Need-slice-write-mem-5
 slice-write-mem-5 c = simp length-set (omega arith)
 
--- src/lib.rt:51:19
 byte-requires-6 : tie.Need-byte-requires-6
 byte-requires-6 c κs = search needs
 
--- src/lib.rt:51:9
 add-mem-5 : tie.Need-add-mem-5
 add-mem-5 c = search needs
 
--- src/lib.rt:51:5
 slice-write-mem-6 : tie.Need-slice-write-mem-6
 slice-write-mem-6 c = simp length-set (omega arith)
 
--- src/lib.rt:52:19
 byte-requires-7 : tie.Need-byte-requires-7
 byte-requires-7 c κs = search needs
 
--- src/lib.rt:52:9
 add-mem-6 : tie.Need-add-mem-6
 add-mem-6 c = search needs
 
--- src/lib.rt:52:5
 slice-write-mem-7 : tie.Need-slice-write-mem-7
 slice-write-mem-7 c = simp length-set (omega arith)
 
--- src/lib.rt:53:19
 byte-requires-8 : tie.Need-byte-requires-8
 byte-requires-8 c κs = search needs
 
--- src/lib.rt:53:9
 add-mem-7 : tie.Need-add-mem-7
 add-mem-7 c = search needs
 
--- src/lib.rt:53:5
 slice-write-mem-8 : tie.Need-slice-write-mem-8
 slice-write-mem-8 c = simp length-set (omega arith)
 
--- src/lib.rt:42:1
 same-length : tie.Need-same-length
 same-length c = search needs
 
--- src/lib.rt:42:1
 returns : tie.Need-returns
 unfolding putWord putBytes
 returns c = rw (add-zero, div-one, c .before .before .before .before .before .before .before .byte .ensures, c .before .before .before .before .before .before .byte2 .ensures, c .before .before .before .before .before .byte3 .ensures, c .before .before .before .before .byte4 .ensures, c .before .before .before .byte5 .ensures, c .before .before .byte6 .ensures, c .before .byte7 .ensures, c .byte8 .ensures)

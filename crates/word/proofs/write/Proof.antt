@@ -8,23 +8,18 @@ use Rattle.word.proofs.write.Lts as lts
 use Rattle.word.proofs.spend.Reads as spend-reads
 use Rattle.word.proofs.put.Reads as put-reads
 
--- src/lib.rt:164:8
 spend-requires : tie.Need-spend-requires
 spend-requires c κs = search needs
 
--- src/lib.rt:165:9
 put-requires : tie.Need-put-requires
 put-requires c κs = search needs
 
--- src/lib.rt:161:1
 same-length : tie.Need-same-length
 same-length c = search needs
 
--- src/lib.rt:161:1
 returns : tie.Need-returns
 returns c = wrote-one _ _ _ _ _ _ _ _ (sym (c .before .before .before .before .before .spend .ensures .0) ∙ c .before .before .before .before .if1 .taken) (c .before .before .before .before .before .spend .ensures .1) (c .before .before .put .ensures)
 
--- src/lib.rt:161:1
 returns-2 : tie.Need-returns-2
 returns-2 c = wrote-stopped _ _ _ _ _ _ _ (sym (c .before .spend .ensures .0) ∙ c .if1 .left) (c .before .spend .ensures .1)
 

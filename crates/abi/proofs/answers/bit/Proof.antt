@@ -5,12 +5,10 @@ use Rattle.abi.proofs.answers.bit.Tie as tie
 use Rattle.abi.proofs.answers.bit.Reads as reads
 use Rattle.abi.proofs.answers.bit.Lts as lts
 
--- src/answers.rt:28:9
 returns : tie.Need-returns
 unfolding flag
 returns c = (rw (c .if1 .taken), omega arith)
 
--- src/answers.rt:24:1
 returns-2 : tie.Need-returns-2
 unfolding flag
 returns-2 c = (rw (c .if1 .left), omega arith)

@@ -7,33 +7,26 @@ use Rattle.abi.proofs.answers.of_create.Reads as reads
 use Rattle.abi.proofs.answers.of_create.Lts as lts
 use Rattle.abi.proofs.answers.pool_reason.Reads as pool-reason-reads
 
--- src/answers.rt:128:32
 enum-known-c : tie.Need-enum-known-c
 enum-known-c c = search needs
 
--- src/answers.rt:129:21
 pool-reason-requires : tie.Need-pool-reason-requires
 pool-reason-requires c κs = search needs
 
--- src/answers.rt:132:29
 enum-known-c-2 : tie.Need-enum-known-c-2
 enum-known-c-2 c = search needs
 
--- src/answers.rt:134:17
 returns : tie.Need-returns
 unfolding created
 returns c = λ low. absurd (omega (arith, low _ (c .before .before .c2 .given .1), c .if1 .taken))
 
--- src/answers.rt:138:23
 mul-t7 : tie.Need-mul-t7
 mul-t7 c = search needs
 
--- src/answers.rt:124:1
 returns-2 : tie.Need-returns-2
 unfolding created
 returns-2 c = λ low. rw (c .before .before .c .given .1, c .pool-reason .ensures)
 
--- src/answers.rt:124:1
 returns-3 : tie.Need-returns-3
 unfolding created
 returns-3 c = λ low. rw (c .before .before .c2 .given .1)

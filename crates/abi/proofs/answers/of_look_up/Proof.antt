@@ -6,33 +6,26 @@ use Rattle.abi.proofs.answers.of_look_up.Reads as reads
 use Rattle.abi.proofs.answers.of_look_up.Lts as lts
 use Rattle.abi.proofs.answers.rights_word.Reads as rights-word-reads
 
--- src/answers.rt:44:13
 enum-known-f : tie.Need-enum-known-f
 enum-known-f c = search needs
 
--- src/answers.rt:53:21
 rights-word-requires : tie.Need-rights-word-requires
 rights-word-requires c κs = search needs
 
--- src/answers.rt:55:27
 enum-told : tie.Need-enum-told
 enum-told c = search needs
 
--- src/answers.rt:62:27
 enum-told-2 : tie.Need-enum-told-2
 enum-told-2 c = search needs
 
--- src/answers.rt:39:1
 returns : tie.Need-returns
 unfolding lookedUp
 returns c = rw (c .before .before .f .given .1, c .rights-word .ensures)
 
--- src/answers.rt:39:1
 returns-2 : tie.Need-returns-2
 unfolding lookedUp
 returns-2 c = rw (c .enum-told .given .1)
 
--- src/answers.rt:39:1
 returns-3 : tie.Need-returns-3
 unfolding lookedUp
 returns-3 c = rw (c .enum-told2 .given .1)

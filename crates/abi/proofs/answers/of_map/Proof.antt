@@ -6,24 +6,19 @@ use Rattle.abi.proofs.answers.of_map.Reads as reads
 use Rattle.abi.proofs.answers.of_map.Lts as lts
 use Rattle.abi.proofs.answers.reason.Reads as reason-reads
 
--- src/answers.rt:148:36
 enum-known-a : tie.Need-enum-known-a
 enum-known-a c = search needs
 
--- src/answers.rt:149:21
 reason-requires : tie.Need-reason-requires
 reason-requires c κs = search needs
 
--- src/answers.rt:152:33
 enum-known-a-2 : tie.Need-enum-known-a-2
 enum-known-a-2 c = search needs
 
--- src/answers.rt:144:1
 returns : tie.Need-returns
 unfolding mapped
 returns c = rw (c .before .before .a .given .1, c .reason .ensures)
 
--- src/answers.rt:144:1
 returns-2 : tie.Need-returns-2
 unfolding mapped
 returns-2 c = rw (c .before .a2 .given .1)

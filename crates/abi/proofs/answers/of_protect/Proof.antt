@@ -6,24 +6,19 @@ use Rattle.abi.proofs.answers.of_protect.Reads as reads
 use Rattle.abi.proofs.answers.of_protect.Lts as lts
 use Rattle.abi.proofs.answers.reason.Reads as reason-reads
 
--- src/answers.rt:184:39
 enum-known-a : tie.Need-enum-known-a
 enum-known-a c = search needs
 
--- src/answers.rt:185:21
 reason-requires : tie.Need-reason-requires
 reason-requires c κs = search needs
 
--- src/answers.rt:189:36
 enum-known-a-2 : tie.Need-enum-known-a-2
 enum-known-a-2 c = search needs
 
--- src/answers.rt:180:1
 returns : tie.Need-returns
 unfolding protected
 returns c = rw (c .before .before .a .given .1, c .reason .ensures)
 
--- src/answers.rt:180:1
 returns-2 : tie.Need-returns-2
 unfolding protected
 returns-2 c = rw (c .before .a2 .given .1)

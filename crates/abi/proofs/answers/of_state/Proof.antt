@@ -7,28 +7,22 @@ use Rattle.abi.proofs.answers.of_state.Lts as lts
 use Rattle.abi.proofs.answers.pool_reason.Reads as pool-reason-reads
 use Rattle.abi.proofs.answers.uncounted.Reads as uncounted-reads
 
--- src/answers.rt:252:31
 enum-known-a : tie.Need-enum-known-a
 enum-known-a c = search needs
 
--- src/answers.rt:252:47
 pool-reason-requires : tie.Need-pool-reason-requires
 pool-reason-requires c κs = search needs
 
--- src/answers.rt:252:37
 uncounted-requires : tie.Need-uncounted-requires
 uncounted-requires c κs = search needs
 
--- src/answers.rt:253:30
 enum-known-a-2 : tie.Need-enum-known-a-2
 enum-known-a-2 c = search needs
 
--- src/answers.rt:248:1
 returns : tie.Need-returns
 unfolding counted
 returns c = rw (c .before .before .before .a .given .1, c .uncounted .ensures, c .before .pool-reason .ensures)
 
--- src/answers.rt:248:1
 returns-2 : tie.Need-returns-2
 unfolding counted
 returns-2 c = rw (c .before .a2 .given .1)

@@ -6,42 +6,33 @@ use Rattle.abi.proofs.answers.of_told.Reads as reads
 use Rattle.abi.proofs.answers.of_told.Lts as lts
 use Rattle.abi.proofs.answers.pool_reason.Reads as pool-reason-reads
 
--- src/answers.rt:201:36
 enum-known-a : tie.Need-enum-known-a
 enum-known-a c = search needs
 
--- src/answers.rt:202:21
 pool-reason-requires : tie.Need-pool-reason-requires
 pool-reason-requires c κs = search needs
 
--- src/answers.rt:205:39
 enum-told : tie.Need-enum-told
 enum-told c = search needs
 
--- src/answers.rt:209:37
 enum-told-2 : tie.Need-enum-told-2
 enum-told-2 c = search needs
 
--- src/answers.rt:213:37
 enum-known-a-2 : tie.Need-enum-known-a-2
 enum-known-a-2 c = search needs
 
--- src/answers.rt:197:1
 returns : tie.Need-returns
 unfolding told
 returns c = rw (c .before .before .a .given .1, c .pool-reason .ensures)
 
--- src/answers.rt:197:1
 returns-2 : tie.Need-returns-2
 unfolding told
 returns-2 c = rw (c .enum-told .given .1)
 
--- src/answers.rt:197:1
 returns-3 : tie.Need-returns-3
 unfolding told
 returns-3 c = rw (c .enum-told2 .given .1)
 
--- src/answers.rt:197:1
 returns-4 : tie.Need-returns-4
 unfolding told
 returns-4 c = rw (c .before .a2 .given .1)

@@ -6,24 +6,19 @@ use Rattle.abi.proofs.answers.of_unmap.Reads as reads
 use Rattle.abi.proofs.answers.of_unmap.Lts as lts
 use Rattle.abi.proofs.answers.reason.Reads as reason-reads
 
--- src/answers.rt:163:38
 enum-known-a : tie.Need-enum-known-a
 enum-known-a c = search needs
 
--- src/answers.rt:164:21
 reason-requires : tie.Need-reason-requires
 reason-requires c κs = search needs
 
--- src/answers.rt:170:35
 enum-known-a-2 : tie.Need-enum-known-a-2
 enum-known-a-2 c = search needs
 
--- src/answers.rt:159:1
 returns : tie.Need-returns
 unfolding unmapped
 returns c = rw (c .before .before .a .given .1, c .reason .ensures)
 
--- src/answers.rt:159:1
 returns-2 : tie.Need-returns-2
 unfolding unmapped
 returns-2 c = rw (c .before .a2 .given .1)

@@ -5,7 +5,6 @@ use Rattle.abi.proofs.answers.rights.Tie as tie
 use Rattle.abi.proofs.answers.rights.Reads as reads
 use Rattle.abi.proofs.answers.rights.Lts as lts
 
--- src/answers.rt:77:1
 returns : tie.Need-returns
 unfolding rightsIn
 returns c = refl

@@ -5,7 +5,6 @@ use Rattle.abi.proofs.answers.uncounted.Tie as tie
 use Rattle.abi.proofs.answers.uncounted.Reads as reads
 use Rattle.abi.proofs.answers.uncounted.Lts as lts
 
--- src/answers.rt:235:1
 returns : tie.Need-returns
 unfolding uncounted
 returns c = refl

@@ -6,11 +6,9 @@ use Rattle.abi.proofs.entries.accessed.Reads as reads
 use Rattle.abi.proofs.entries.accessed.Lts as lts
 use Rattle.abi.proofs.answers.bit.Reads as bit-reads
 
--- src/entries.rt:38:5
 bit-requires : tie.Need-bit-requires
 bit-requires c κs = search needs
 
--- src/entries.rt:35:1
 returns : tie.Need-returns
 unfolding bit
 returns c = c .bit .ensures

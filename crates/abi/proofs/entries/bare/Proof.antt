@@ -5,7 +5,6 @@ use Rattle.abi.proofs.entries.bare.Tie as tie
 use Rattle.abi.proofs.entries.bare.Reads as reads
 use Rattle.abi.proofs.entries.bare.Lts as lts
 
--- src/entries.rt:24:1
 returns : tie.Need-returns
 unfolding bareOf
 returns c = refl

@@ -13,69 +13,53 @@ use Rattle.abi.proofs.entries.dirty.Reads as dirty-reads
 use Rattle.abi.proofs.entries.silent.Reads as silent-reads
 use Rattle.entry.proofs.decode.Reads as decode-reads
 
--- src/entries.rt:61:9
 decode-requires : tie.Need-decode-requires
 decode-requires c κs = search needs
 
--- src/entries.rt:63:27
 enum-told : tie.Need-enum-told
 enum-told c = search needs
 
--- src/entries.rt:63:27
 silent-requires : tie.Need-silent-requires
 silent-requires c κs = search needs
 
--- src/entries.rt:64:21
 enum-known-e : tie.Need-enum-known-e
 enum-known-e c = search needs
 
--- src/entries.rt:67:21
 rights-word-requires : tie.Need-rights-word-requires
 rights-word-requires c κs = search needs
 
--- src/entries.rt:68:20
 accessed-requires : tie.Need-accessed-requires
 accessed-requires c κs = search needs
 
--- src/entries.rt:68:38
 dirty-requires : tie.Need-dirty-requires
 dirty-requires c κs = search needs
 
--- src/entries.rt:68:34
 mul-t12 : tie.Need-mul-t12
 mul-t12 c = search needs
 
--- src/entries.rt:68:20
 add-t13 : tie.Need-add-t13
 add-t13 c = search needs
 
--- src/entries.rt:70:22
 enum-known-e-2 : tie.Need-enum-known-e-2
 enum-known-e-2 c = search needs
 
--- src/entries.rt:72:22
 mul-t14 : tie.Need-mul-t14
 mul-t14 c = omega (arith, table-small _ _ _ _ (sym (c .before .before .before .decode .ensures) ∙ c .before .e2 .given .1))
 
--- src/entries.rt:73:21
 rights-word-requires-2 : tie.Need-rights-word-requires-2
 rights-word-requires-2 c κs = search needs
 
--- src/entries.rt:74:20
 accessed-requires-2 : tie.Need-accessed-requires-2
 accessed-requires-2 c κs = search needs
 
--- src/entries.rt:58:1
 returns : tie.Need-returns
 unfolding saidOf
 returns c = rw (sym (c .before .before .before .decode .ensures) ∙ c .before .enum-told .given .1, c .silent .ensures)
 
--- src/entries.rt:58:1
 returns-2 : tie.Need-returns-2
 unfolding saidOf
 returns-2 c = rw (sym (c .before .before .before .before .before .before .decode .ensures) ∙ c .before .before .before .before .e .given .1, c .before .before .rights-word .ensures, c .before .accessed .ensures .0, c .dirty .ensures .0)
 
--- src/entries.rt:58:1
 returns-3 : tie.Need-returns-3
 unfolding saidOf
 returns-3 c = rw (sym (c .before .before .before .before .before .decode .ensures) ∙ c .before .before .before .e2 .given .1, c .before .rights-word2 .ensures, c .accessed2 .ensures .0)

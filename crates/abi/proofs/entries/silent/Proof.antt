@@ -8,20 +8,16 @@ use Rattle.abi.proofs.entries.silent.Reads as reads
 use Rattle.abi.proofs.entries.silent.Lts as lts
 use Rattle.abi.proofs.entries.bare.Reads as bare-reads
 
--- src/entries.rt:52:9
 bare-requires : tie.Need-bare-requires
 bare-requires c κs = search needs
 
--- src/entries.rt:52:9
 returns : tie.Need-returns
 unfolding silentOf
 returns c = simp (bit-off 0 (c .before .before .args .w) (omega arith), c .bare .ensures)
 
--- src/entries.rt:54:5
 bare-requires-2 : tie.Need-bare-requires-2
 bare-requires-2 c κs = search needs
 
--- src/entries.rt:48:1
 returns-2 : tie.Need-returns-2
 unfolding silentOf
 returns-2 c = simp (bit-on 0 (c .before .before .args .w) (omega arith), c .bare2 .ensures)

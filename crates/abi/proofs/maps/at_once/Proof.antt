@@ -7,31 +7,24 @@ use Rattle.abi.proofs.maps.at_once.Lts as lts
 use Rattle.abi.proofs.sites.site.Reads as site-reads
 use Rattle.plan.proofs.at_once.Reads as at-once-reads
 
--- src/lib.rt:145:9
 site-requires : tie.Need-site-requires
 site-requires c κs = search needs
 
--- src/lib.rt:147:30
 enum-told : tie.Need-enum-told
 enum-told c = search needs
 
--- src/lib.rt:148:19
 enum-known-s : tie.Need-enum-known-s
 enum-known-s c = search needs
 
--- src/lib.rt:148:29
 at-once-requires : tie.Need-at-once-requires
 at-once-requires c κs = search needs
 
--- src/lib.rt:133:1
 returns : tie.Need-returns
 returns c = rw (sym (c .before .before .site .ensures) ∙ c .enum-told .given .1) (refl, refl, refl)
 
--- src/lib.rt:133:1
 same-length : tie.Need-same-length
 same-length c = search needs
 
--- src/lib.rt:133:1
 returns-2 : tie.Need-returns-2
 returns-2 c = rw (sym (c .before .before .before .before .before .before .before .before .site .ensures) ∙ c .before .before .before .before .before .before .s .given .1) (c .before .before .at-once .ensures)
 

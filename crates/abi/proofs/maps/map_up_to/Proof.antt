@@ -9,59 +9,46 @@ use Rattle.abi.proofs.maps.map_up_to.Lts as lts
 use Rattle.abi.proofs.maps.sized.Reads as sized-reads
 use Rattle.abi.proofs.maps.whole.Reads as whole-reads
 
--- src/maps.rt:126:9
 returns : tie.Need-returns
 unfolding mapAnswer rightsSite
 returns c = let e = le-ltb _ _ (c .if1 .taken) in (rw e, rw e (refl, refl))
 
--- src/maps.rt:132:9
 sized-requires : tie.Need-sized-requires
 sized-requires c κs = search needs
 
--- src/maps.rt:132:9
 same-length : tie.Need-same-length
 same-length c = search needs
 
--- src/maps.rt:132:9
 returns-2 : tie.Need-returns-2
 unfolding rightsSite
 returns-2 c = let e = lt-ltb _ _ (c .before .before .before .before .before .before .if1 .left) in (rw (e, c .before .before .before .before .before .if2 .taken) (c .before .before .sized .ensures .0), rw (e, c .before .before .before .before .before .if2 .taken) (c .before .before .sized .ensures .1))
 
--- src/maps.rt:147:9
 sized-requires-2 : tie.Need-sized-requires-2
 sized-requires-2 c κs = search needs
 
--- src/maps.rt:147:9
 same-length-2 : tie.Need-same-length-2
 same-length-2 c = search needs
 
--- src/maps.rt:147:9
 returns-3 : tie.Need-returns-3
 unfolding rightsSite
 returns-3 c = let e = lt-ltb _ _ (c .before .before .before .before .before .before .before .if1 .left) in (rw (e, c .before .before .before .before .before .if3 .taken) (c .before .before .sized2 .ensures .0), rw (e, c .before .before .before .before .before .if3 .taken) (c .before .before .sized2 .ensures .1))
 
--- src/maps.rt:162:9
 sized-requires-3 : tie.Need-sized-requires-3
 sized-requires-3 c κs = search needs
 
--- src/maps.rt:162:9
 same-length-3 : tie.Need-same-length-3
 same-length-3 c = search needs
 
--- src/maps.rt:162:9
 returns-4 : tie.Need-returns-4
 unfolding rightsSite
 returns-4 c = let e = lt-ltb _ _ (c .before .before .before .before .before .before .before .before .if1 .left) in (rw (e, c .before .before .before .before .before .if4 .taken) (c .before .before .sized3 .ensures .0), rw (e, c .before .before .before .before .before .if4 .taken) (c .before .before .sized3 .ensures .1))
 
--- src/maps.rt:176:5
 whole-requires : tie.Need-whole-requires
 whole-requires c κs = search needs
 
--- src/maps.rt:110:1
 same-length-4 : tie.Need-same-length-4
 same-length-4 c = search needs
 
--- src/maps.rt:110:1
 returns-5 : tie.Need-returns-5
 unfolding rightsSite
 returns-5 c = let e = lt-ltb _ _ (c .before .before .before .before .before .before .before .before .if1 .left) in (rw e (c .before .before .whole .ensures .0), rw e (c .before .before .whole .ensures .1))

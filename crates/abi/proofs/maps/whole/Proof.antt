@@ -12,44 +12,34 @@ use Rattle.abi.proofs.sites.misplaced.Reads as misplaced-reads
 use Rattle.abi.proofs.sites.site.Reads as site-reads
 use Rattle.tablepath.proofs.map_up_to.Reads as map-up-to-reads
 
--- src/lib.rt:120:17
 rights-requires : tie.Need-rights-requires
 rights-requires c κs = search needs
 
--- src/lib.rt:122:9
 site-requires : tie.Need-site-requires
 site-requires c κs = search needs
 
--- src/lib.rt:124:24
 enum-known-s : tie.Need-enum-known-s
 enum-known-s c = search needs
 
--- src/lib.rt:125:21
 misplaced-requires : tie.Need-misplaced-requires
 misplaced-requires c κs = search needs
 
--- src/lib.rt:128:19
 enum-known-s-2 : tie.Need-enum-known-s-2
 enum-known-s-2 c = search needs
 
--- src/lib.rt:128:45
 map-up-to-requires : tie.Need-map-up-to-requires
 map-up-to-requires c κs = search needs
 
--- src/lib.rt:128:29
 of-map-requires : tie.Need-of-map-requires
 of-map-requires c κs = search needs
 
--- src/lib.rt:101:1
 returns : tie.Need-returns
 unfolding mapAnswer
 returns c = let e = refused-asked (record { base = c .before .before .before .before .before .before .before .args .base; frame = c .before .before .before .before .before .before .before .args .frame; size = c .before .before .before .before .before .before .before .args .size; rights = c .before .before .before .before .before .rights .result }) _ _ _ _ _ (sym (c .before .before .before .before .site .ensures) ∙ c .before .before .s .given .1) in (rw (sym (c .before .before .before .before .before .rights .ensures), e, c .misplaced .ensures), rw (sym (c .before .before .before .before .before .rights .ensures), e) (refl, refl))
 
--- src/lib.rt:101:1
 same-length : tie.Need-same-length
 same-length c = search needs
 
--- src/lib.rt:101:1
 returns-2 : tie.Need-returns-2
 returns-2 c = let e = sym (c .before .before .before .before .before .before .before .before .before .site .ensures) ∙ c .before .before .before .before .before .before .before .s2 .given .1 in (rw (sym (c .before .before .before .before .before .before .before .before .before .before .rights .ensures), answer-asked _ _ _ _ _ _ _ e) (rw (c .of-map .ensures, c .before .before .before .map-up-to .ensures .0)), rw (sym (c .before .before .before .before .before .before .before .before .before .before .rights .ensures)) (order-asked _ _ _ _ _ _ _ e _ _ _ (c .before .before .before .map-up-to .ensures .1)))
 

@@ -8,28 +8,22 @@ use Rattle.abi.proofs.sites.misplaced.Lts as lts
 use Rattle.abi.proofs.answers.reason.Reads as reason-reads
 use Rattle.plan.proofs.shaped.Reads as shaped-reads
 
--- src/lib.rt:51:9
 shaped-requires : tie.Need-shaped-requires
 shaped-requires c κs = search needs
 
--- src/lib.rt:53:20
 enum-known-s : tie.Need-enum-known-s
 enum-known-s c = search needs
 
--- src/lib.rt:53:26
 reason-requires : tie.Need-reason-requires
 reason-requires c κs = search needs
 
--- src/lib.rt:54:22
 enum-known-s-2 : tie.Need-enum-known-s-2
 enum-known-s-2 c = search needs
 
--- src/lib.rt:48:1
 returns : tie.Need-returns
 unfolding misplacedOf misplacedBy
 returns c = rw (sym (c .before .before .before .before .shaped .ensures) ∙ c .before .before .s .given .1, c .reason .ensures)
 
--- src/lib.rt:48:1
 returns-2 : tie.Need-returns-2
 unfolding misplacedOf misplacedBy
 returns-2 c = rw (sym (c .before .before .before .shaped .ensures) ∙ c .before .s2 .given .1)

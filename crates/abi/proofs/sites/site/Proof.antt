@@ -5,17 +5,14 @@ use Rattle.abi.proofs.sites.site.Tie as tie
 use Rattle.abi.proofs.sites.site.Reads as reads
 use Rattle.abi.proofs.sites.site.Lts as lts
 
--- src/lib.rt:33:9
 returns : tie.Need-returns
 unfolding siteOf
 returns c = simp (ne-eqb _ _ (c .if1 .taken))
 
--- src/lib.rt:36:9
 returns-2 : tie.Need-returns-2
 unfolding siteOf
 returns-2 c = simp (eq-eqb _ _ (c .before .if1 .left), ne-eqb _ _ (c .if2 .taken))
 
--- src/lib.rt:29:1
 returns-3 : tie.Need-returns-3
 unfolding siteOf
 returns-3 c = simp (eq-eqb _ _ (c .before .if1 .left), eq-eqb _ _ (c .if2 .left))

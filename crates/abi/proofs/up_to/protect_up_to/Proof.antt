@@ -11,45 +11,35 @@ use Rattle.abi.proofs.answers.rights.Reads as rights-reads
 use Rattle.abi.proofs.sites.site.Reads as site-reads
 use Rattle.tablepath.proofs.protect_up_to.Reads as protect-up-to-reads
 
--- src/up_to.rt:79:9
 returns : tie.Need-returns
 unfolding protectAnswer rightsSite
 returns c = let e = le-ltb _ _ (c .if1 .taken) in (rw e, rw e (refl, refl))
 
--- src/up_to.rt:85:9
 site-requires : tie.Need-site-requires
 site-requires c κs = search needs
 
--- src/up_to.rt:87:24
 enum-known-s : tie.Need-enum-known-s
 enum-known-s c = search needs
 
--- src/up_to.rt:92:19
 enum-known-s-2 : tie.Need-enum-known-s-2
 enum-known-s-2 c = search needs
 
--- src/up_to.rt:97:13
 rights-requires : tie.Need-rights-requires
 rights-requires c κs = search needs
 
--- src/up_to.rt:92:56
 protect-up-to-requires : tie.Need-protect-up-to-requires
 protect-up-to-requires c κs = search needs
 
--- src/up_to.rt:92:29
 of-protect-requires : tie.Need-of-protect-requires
 of-protect-requires c κs = search needs
 
--- src/up_to.rt:65:1
 returns-2 : tie.Need-returns-2
 unfolding protectAnswer rightsSite
 returns-2 c = let l = lt-ltb _ _ (c .before .before .before .before .if1 .left) in let e = sym (c .before .before .before .site .ensures) ∙ c .before .s .given .1 in (rw (l, e), rw (l, e) (refl, refl))
 
--- src/up_to.rt:65:1
 same-length : tie.Need-same-length
 same-length c = search needs
 
--- src/up_to.rt:65:1
 returns-3 : tie.Need-returns-3
 unfolding protectAnswer rightsSite
 returns-3 c = let l = lt-ltb _ _ (c .before .before .before .before .before .before .before .before .before .before .before .if1 .left) in let e = sym (c .before .before .before .before .before .before .before .before .before .before .site .ensures) ∙ c .before .before .before .before .before .before .before .before .s2 .given .1 in (rw (l, e, sym (c .before .before .before .before .rights .ensures)) (rw (c .of-protect .ensures, c .before .before .before .protect-up-to .ensures .0)), rw (l, e, sym (c .before .before .before .before .rights .ensures)) (c .before .before .before .protect-up-to .ensures .1))

@@ -9,36 +9,28 @@ use Rattle.abi.proofs.answers.of_told.Reads as of-told-reads
 use Rattle.abi.proofs.sites.site.Reads as site-reads
 use Rattle.tablepath.proofs.told_up_to.Reads as told-up-to-reads
 
--- src/lib.rt:411:9
 site-requires : tie.Need-site-requires
 site-requires c κs = search needs
 
--- src/lib.rt:413:24
 enum-known-s : tie.Need-enum-known-s
 enum-known-s c = search needs
 
--- src/lib.rt:417:19
 enum-known-s-2 : tie.Need-enum-known-s-2
 enum-known-s-2 c = search needs
 
--- src/lib.rt:417:46
 told-up-to-requires : tie.Need-told-up-to-requires
 told-up-to-requires c κs = search needs
 
--- src/lib.rt:417:29
 of-told-requires : tie.Need-of-told-requires
 of-told-requires c κs = search needs
 
--- src/lib.rt:399:1
 returns : tie.Need-returns
 unfolding toldAnswer
 returns c = let e = sym (c .before .before .before .site .ensures) ∙ c .before .s .given .1 in (rw e, rw e (refl, refl))
 
--- src/lib.rt:399:1
 same-length : tie.Need-same-length
 same-length c = search needs
 
--- src/lib.rt:399:1
 returns-2 : tie.Need-returns-2
 unfolding toldAnswer
 returns-2 c = let e = sym (c .before .before .before .before .before .before .before .before .before .site .ensures) ∙ c .before .before .before .before .before .before .before .s2 .given .1 in (rw (e) (rw (c .of-told .ensures, c .before .before .before .told-up-to .ensures .0)), rw (e) (c .before .before .before .told-up-to .ensures .1))

@@ -9,36 +9,28 @@ use Rattle.abi.proofs.answers.of_unmap.Reads as of-unmap-reads
 use Rattle.abi.proofs.sites.site.Reads as site-reads
 use Rattle.tablepath.proofs.unmap_up_to.Reads as unmap-up-to-reads
 
--- src/lib.rt:319:9
 site-requires : tie.Need-site-requires
 site-requires c κs = search needs
 
--- src/lib.rt:321:24
 enum-known-s : tie.Need-enum-known-s
 enum-known-s c = search needs
 
--- src/lib.rt:328:19
 enum-known-s-2 : tie.Need-enum-known-s-2
 enum-known-s-2 c = search needs
 
--- src/lib.rt:328:47
 unmap-up-to-requires : tie.Need-unmap-up-to-requires
 unmap-up-to-requires c κs = search needs
 
--- src/lib.rt:328:29
 of-unmap-requires : tie.Need-of-unmap-requires
 of-unmap-requires c κs = search needs
 
--- src/lib.rt:307:1
 returns : tie.Need-returns
 unfolding unmapAnswer
 returns c = let e = sym (c .before .before .before .site .ensures) ∙ c .before .s .given .1 in (rw e, rw e (refl, refl))
 
--- src/lib.rt:307:1
 same-length : tie.Need-same-length
 same-length c = search needs
 
--- src/lib.rt:307:1
 returns-2 : tie.Need-returns-2
 unfolding unmapAnswer
 returns-2 c = let e = sym (c .before .before .before .before .before .before .before .before .before .site .ensures) ∙ c .before .before .before .before .before .before .before .s2 .given .1 in (rw (e) (rw (c .of-unmap .ensures, c .before .before .before .unmap-up-to .ensures .0)), rw (e) (c .before .before .before .unmap-up-to .ensures .1))

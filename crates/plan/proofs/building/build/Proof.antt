@@ -8,31 +8,24 @@ use Rattle.plan.proofs.building.grow.Reads as grow-reads
 use Rattle.walk.proofs.index.Reads as index-reads
 use Rattle.word.proofs.write.Reads as write-reads
 
--- src/building.rt:70:9
 grow-requires : tie.Need-grow-requires
 grow-requires c κs = (c .before .before .before .before .pre .level, c .before .before .before .before .pre .fresh .a)
 
--- src/building.rt:71:9
 grow-requires-2 : tie.Need-grow-requires-2
 grow-requires-2 c κs = (rw (c .before .before .before .before .grow .ensures .0) (next-low _ _ _ (c .before .before .before .before .before .before .before .before .before .pre .level)), c .before .before .before .before .before .before .before .before .before .pre .fresh .b)
 
--- src/building.rt:72:9
 grow-requires-3 : tie.Need-grow-requires-3
 grow-requires-3 c κs = (rw (c .before .before .before .before .grow2 .ensures .0, c .before .before .before .before .before .before .before .before .before .grow .ensures .0) (next-low _ _ _ (next-low _ _ _ (c .before .before .before .before .before .before .before .before .before .before .before .before .before .before .pre .level))), c .before .before .before .before .before .before .before .before .before .before .before .before .before .before .pre .fresh .c)
 
--- src/building.rt:78:9
 index-requires : tie.Need-index-requires
 index-requires c κs = search needs
 
--- src/building.rt:73:5
 write-requires : tie.Need-write-requires
 write-requires c κs = search needs
 
--- src/building.rt:61:1
 same-length : tie.Need-same-length
 same-length c = search needs
 
--- src/building.rt:61:1
 returns : tie.Need-returns
 returns c = build-wrote _ _ _ _ _ _ _ _ _ _ _ _ _ _ _ _ (c .before .before .before .before .before .before .before .before .before .before .before .before .before .before .before .before .before .before .before .before .before .before .before .pre .level) (c .before .before .before .before .before .before .before .before .before .before .before .before .before .before .before .before .before .before .grow .ensures .0) (c .before .before .before .before .before .before .before .before .before .before .before .before .before .grow2 .ensures .0) (c .before .before .before .before .before .before .before .before .grow3 .ensures .0) (c .before .before .before .before .before .before .before .before .before .before .before .before .before .before .before .before .before .before .grow .ensures .1) (c .before .before .before .before .before .before .before .before .before .before .before .before .before .grow2 .ensures .1) (c .before .before .before .before .before .before .before .before .grow3 .ensures .1) (c .before .before .before .index .ensures .0) (c .before .before .write .ensures)
 

@@ -9,28 +9,22 @@ use Rattle.plan.proofs.building.carry_map.Lts as lts
 use Rattle.plan.proofs.building.build.Reads as build-reads
 use Rattle.pool.proofs.took.Reads as took-reads
 
--- src/building.rt:95:5
 build-requires : tie.Need-build-requires
 build-requires c κs = search needs
 
--- src/building.rt:99:9
 took-requires : tie.Need-took-requires
 took-requires c κs = search needs
 
--- src/building.rt:91:1
 same-length : tie.Need-same-length
 same-length c = search needs
 
--- src/building.rt:91:1
 returns : tie.Need-returns
 unfolding writesOf
 returns c = simp (lt-ltb _ _ (c .before .before .before .before .before .if1 .taken)) (wrote-then _ _ _ _ _ _ _ _ _ (c .before .before .before .before .before .before .before .before .before .before .before .build .ensures) (c .before .before .took .ensures))
 
--- src/building.rt:91:1
 same-length-2 : tie.Need-same-length-2
 same-length-2 c = search needs
 
--- src/building.rt:91:1
 returns-2 : tie.Need-returns-2
 unfolding writesOf
 returns-2 c = simp (le-ltb _ _ (c .if1 .left)) (wrote-then _ _ _ _ _ _ _ _ _ (c .before .before .before .before .before .before .build .ensures) (wrote-none _ _ _))

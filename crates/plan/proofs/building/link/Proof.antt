@@ -7,15 +7,12 @@ use Rattle.plan.proofs.building.link.Tie as tie
 use Rattle.plan.proofs.building.link.Reads as reads
 use Rattle.plan.proofs.building.link.Lts as lts
 
--- src/building.rt:31:5
 mul-result : tie.Need-mul-result
 mul-result c = search needs
 
--- src/building.rt:31:5
 add-result : tie.Need-add-result
 add-result c = search needs
 
--- src/building.rt:27:1
 returns : tie.Need-returns
 unfolding linkOf tableWord
 returns c = simp (lt-ltb _ _ (c .pre))

@@ -12,52 +12,40 @@ use Rattle.plan.proofs.building.carry_here.Reads as carry-here-reads
 use Rattle.plan.proofs.building.carry_map.Reads as carry-map-reads
 use Rattle.plan.proofs.maps.decide_map.Reads as decide-map-reads
 
--- src/building.rt:115:9
 decide-map-requires : tie.Need-decide-map-requires
 decide-map-requires c κs = search needs
 
--- src/building.rt:117:26
 enum-known-d : tie.Need-enum-known-d
 enum-known-d c = search needs
 
--- src/building.rt:118:23
 enum-known-d-2 : tie.Need-enum-known-d-2
 enum-known-d-2 c = search needs
 
--- src/building.rt:119:13
 carry-here-requires : tie.Need-carry-here-requires
 carry-here-requires c κs = search needs
 
--- src/building.rt:122:24
 enum-known-d-3 : tie.Need-enum-known-d-3
 enum-known-d-3 c = search needs
 
--- src/building.rt:123:13
 carry-map-requires : tie.Need-carry-map-requires
 carry-map-requires c κs = map-low _ _ _ (held-low _ _) _ _ (placing-built _ _ (sym (c .before .before .before .before .before .decide-map .ensures) ∙ c .before .before .before .d3 .given .1))
 
--- src/building.rt:111:1
 same-length : tie.Need-same-length
 same-length c = search needs
 
--- src/building.rt:111:1
 returns : tie.Need-returns
 unfolding didOf makingOf
 returns c = let e = placing-refused _ _ (sym (c .before .before .before .decide-map .ensures) ∙ c .before .d .given .1) in (rw e, rw e (wrote-none _ _ _))
 
--- src/building.rt:111:1
 same-length-2 : tie.Need-same-length-2
 same-length-2 c = search needs
 
--- src/building.rt:111:1
 returns-2 : tie.Need-returns-2
 returns-2 c = let k = placing-here _ _ (sym (c .before .before .before .before .before .before .before .before .decide-map .ensures) ∙ c .before .before .before .before .before .before .d2 .given .1) in (here-made _ _ k, wrote-as _ _ _ _ _ _ _ (here-did _ _ _ k) (c .before .before .carry-here .ensures))
 
--- src/building.rt:111:1
 same-length-3 : tie.Need-same-length-3
 same-length-3 c = search needs
 
--- src/building.rt:111:1
 returns-3 : tie.Need-returns-3
 unfolding didOf makingOf
 returns-3 c = let e = placing-built _ _ (sym (c .before .before .before .before .before .before .before .before .before .decide-map .ensures) ∙ c .before .before .before .before .before .before .before .d3 .given .1) in (rw e, rw e (c .before .before .before .carry-map .ensures))

@@ -14,43 +14,33 @@ use Rattle.plan.proofs.descent.told.Reads as told-reads
 use Rattle.pool.proofs.entry.Reads as entry-reads
 use Rattle.walk.proofs.index.Reads as index-reads
 
--- src/descent.rt:102:9
 index-requires : tie.Need-index-requires
 index-requires c κs = search needs
 
--- src/descent.rt:103:9
 entry-requires : tie.Need-entry-requires
 entry-requires c κs = search needs
 
--- src/descent.rt:105:20
 enum-known-c : tie.Need-enum-known-c
 enum-known-c c = search needs
 
--- src/descent.rt:105:45
 push-requires : tie.Need-push-requires
 push-requires c κs = search needs
 
--- src/descent.rt:105:60
 decode-requires : tie.Need-decode-requires
 decode-requires c κs = search needs
 
--- src/descent.rt:105:26
 told-requires : tie.Need-told-requires
 told-requires c κs = search needs
 
--- src/descent.rt:106:31
 enum-told : tie.Need-enum-told
 enum-told c = search needs
 
--- src/descent.rt:106:26
 stop-requires : tie.Need-stop-requires
 stop-requires c κs = search needs
 
--- src/descent.rt:98:1
 returns : tie.Need-returns
 returns c = rw (c .told .ensures _ (c .before .before .before .before .before .before .before .index .ensures .0 (c .before .before .before .before .before .before .before .before .before .pre .0)) (c .before .decode .ensures), c .before .decode .ensures, c .before .before .push .ensures) (ap (trackOf _) (sym (arrive-word _ _ (c .before .before .before .before .before .before .before .before .before .pre .1) _ _ _ _ _ _ (rw (c .before .before .before .before .before .before .before .index .ensures .0 (c .before .before .before .before .before .before .before .before .before .pre .0)) at (sym (c .before .before .before .before .before .before .«entry» .ensures) ∙ c .before .before .before .before .c .given .1)))))
 
--- src/descent.rt:98:1
 returns-2 : tie.Need-returns-2
 returns-2 c = c .stop .ensures ∙ (told-stop _ _ _ _ _ _ _ (c .before .before .before .before .index .ensures .0 (c .before .before .before .before .before .before .pre .0)) (nothing-framed _) ∙ ap (trackOf _) (sym (arrive-outside _ _ (c .before .before .before .before .before .before .pre .1) _ _ _ _ _ (rw (c .before .before .before .before .index .ensures .0 (c .before .before .before .before .before .before .pre .0)) at (sym (c .before .before .before .«entry» .ensures) ∙ c .before .enum-told .given .1)))))
 

@@ -10,31 +10,24 @@ use Rattle.plan.proofs.descent.end.Reads as end-reads
 use Rattle.plan.proofs.descent.start.Reads as start-reads
 use Rattle.plan.proofs.descent.step.Reads as step-reads
 
--- src/descent.rt:167:46
 start-requires : tie.Need-start-requires
 start-requires c κs = search needs
 
--- src/descent.rt:167:9
 step-requires : tie.Need-step-requires
 step-requires c κs = search needs
 
--- src/descent.rt:168:9
 step-requires-2 : tie.Need-step-requires-2
 step-requires-2 c κs = search needs
 
--- src/descent.rt:169:9
 step-requires-3 : tie.Need-step-requires-3
 step-requires-3 c κs = search needs
 
--- src/descent.rt:170:9
 step-requires-4 : tie.Need-step-requires-4
 step-requires-4 c κs = search needs
 
--- src/descent.rt:171:5
 end-requires : tie.Need-end-requires
 end-requires c κs = search needs
 
--- src/descent.rt:163:1
 returns : tie.Need-returns
 unfolding wayOf downOf
 returns c = c .end .ensures _ (down-low _ _ _ _ _ 4 _ (omega arith) (omega arith)) (c .before .step4 .ensures _ (c .before .before .step3 .ensures _ (c .before .before .before .step2 .ensures _ (c .before .before .before .before .step .ensures _ (c .before .before .before .before .before .start .ensures _)))))

@@ -10,32 +10,25 @@ use Rattle.entry.proofs.decode.Reads as decode-reads
 use Rattle.plan.proofs.descent.framed.Reads as framed-reads
 use Rattle.walk.proofs.index.Reads as index-reads
 
--- src/descent.rt:153:22
 enum-known-s : tie.Need-enum-known-s
 enum-known-s c = search needs
 
--- src/descent.rt:155:20
 index-requires : tie.Need-index-requires
 index-requires c κs = search needs
 
--- src/descent.rt:156:27
 decode-requires : tie.Need-decode-requires
 decode-requires c κs = search needs
 
--- src/descent.rt:156:20
 framed-requires : tie.Need-framed-requires
 framed-requires c κs = search needs
 
--- src/descent.rt:158:24
 enum-known-s-2 : tie.Need-enum-known-s-2
 enum-known-s-2 c = search needs
 
--- src/descent.rt:149:1
 returns : tie.Need-returns
 unfolding endOf stopAt
 returns c = λ o u e. let k = track-at _ o _ _ (sym (c .before .before .before .before .s .given .1) ∙ e) in rw (k, c .framed .ensures, c .before .decode .ensures, c .before .before .index .ensures .0 (rw k at u))
 
--- src/descent.rt:149:1
 returns-2 : tie.Need-returns-2
 returns-2 c = λ o u e. let k = track-stopped _ o _ (sym (c .before .s2 .given .1) ∙ e) in end-kept _ o _ k
 

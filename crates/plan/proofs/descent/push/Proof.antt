@@ -5,7 +5,6 @@ use Rattle.plan.proofs.descent.push.Tie as tie
 use Rattle.plan.proofs.descent.push.Reads as reads
 use Rattle.plan.proofs.descent.push.Lts as lts
 
--- src/descent.rt:36:1
 returns : tie.Need-returns
 unfolding pushOf
 returns c = refl

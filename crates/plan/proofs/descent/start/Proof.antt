@@ -5,7 +5,6 @@ use Rattle.plan.proofs.descent.start.Tie as tie
 use Rattle.plan.proofs.descent.start.Reads as reads
 use Rattle.plan.proofs.descent.start.Lts as lts
 
--- src/descent.rt:121:1
 returns : tie.Need-returns
 unfolding trackOf
 returns c = λ va. refl

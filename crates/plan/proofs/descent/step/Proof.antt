@@ -8,24 +8,19 @@ use Rattle.plan.proofs.descent.step.Reads as reads
 use Rattle.plan.proofs.descent.step.Lts as lts
 use Rattle.plan.proofs.descent.arrive.Reads as arrive-reads
 
--- src/descent.rt:115:19
 enum-known-s : tie.Need-enum-known-s
 enum-known-s c = search needs
 
--- src/descent.rt:115:28
 arrive-requires : tie.Need-arrive-requires
 arrive-requires c κs = search needs
 
--- src/descent.rt:116:24
 enum-known-s-2 : tie.Need-enum-known-s-2
 enum-known-s-2 c = search needs
 
--- src/descent.rt:110:1
 returns : tie.Need-returns
 unfolding stepOf
 returns c = λ o e. let k = track-at _ o _ _ (sym (c .before .before .s .given .1) ∙ e) in rw k (c .arrive .ensures)
 
--- src/descent.rt:110:1
 returns-2 : tie.Need-returns-2
 returns-2 c = λ o e. let k = track-stopped _ o _ (sym (c .before .s2 .given .1) ∙ e) in step-kept _ _ _ _ _ _ o _ k
 

@@ -9,46 +9,36 @@ use Rattle.plan.proofs.descent.told.Reads as reads
 use Rattle.plan.proofs.descent.told.Lts as lts
 use Rattle.plan.proofs.descent.stop.Reads as stop-reads
 
--- src/descent.rt:85:32
 enum-told : tie.Need-enum-told
 enum-told c = search needs
 
--- src/descent.rt:85:27
 stop-requires : tie.Need-stop-requires
 stop-requires c κs = search needs
 
--- src/descent.rt:86:21
 enum-known-e : tie.Need-enum-known-e
 enum-known-e c = search needs
 
--- src/descent.rt:86:30
 stop-requires-2 : tie.Need-stop-requires-2
 stop-requires-2 c κs = search needs
 
--- src/descent.rt:87:22
 enum-known-e-2 : tie.Need-enum-known-e-2
 enum-known-e-2 c = search needs
 
--- src/descent.rt:89:17
 stop-requires-3 : tie.Need-stop-requires-3
 stop-requires-3 c κs = search needs
 
--- src/descent.rt:81:1
 returns : tie.Need-returns
 unfolding toldOf
 returns c = λ va ei ee. rw (c .stop .ensures, c .before .enum-told .given .1) (told-stop va _ _ _ _ _ _ ei (ap framedOf (sym ee ∙ c .before .enum-told .given .1)))
 
--- src/descent.rt:81:1
 returns-2 : tie.Need-returns-2
 unfolding toldOf
 returns-2 c = λ va ei ee. rw (c .stop2 .ensures, c .before .before .e .given .1) (told-stop va _ _ _ _ _ _ ei (ap framedOf (sym ee ∙ c .before .before .e .given .1)))
 
--- src/descent.rt:81:1
 returns-3 : tie.Need-returns-3
 unfolding toldOf
 returns-3 c = λ va ei ee. rw (c .stop3 .ensures, c .before .before .before .e2 .given .1, eq-eqb _ _ (c .before .if1 .taken)) (told-stop va _ _ _ _ _ _ ei (ap framedOf (sym ee ∙ c .before .before .before .e2 .given .1)))
 
--- src/descent.rt:81:1
 returns-4 : tie.Need-returns-4
 unfolding toldOf trackOf
 returns-4 c = λ va ei ee. rw (c .before .before .e2 .given .1, ne-eqb _ _ (c .if1 .left))

@@ -11,53 +11,41 @@ use Rattle.entry.proofs.decode.Reads as decode-reads
 use Rattle.pool.proofs.entry.Reads as entry-reads
 use Rattle.walk.proofs.index.Reads as index-reads
 
--- src/direct.rt:46:40
 index-requires : tie.Need-index-requires
 index-requires c κs = search needs
 
--- src/direct.rt:46:9
 entry-requires : tie.Need-entry-requires
 entry-requires c κs = search needs
 
--- src/direct.rt:48:26
 enum-told : tie.Need-enum-told
 enum-told c = search needs
 
--- src/direct.rt:49:20
 enum-known-c : tie.Need-enum-known-c
 enum-known-c c = search needs
 
--- src/direct.rt:50:17
 decode-requires : tie.Need-decode-requires
 decode-requires c κs = search needs
 
--- src/direct.rt:52:35
 enum-told-2 : tie.Need-enum-told-2
 enum-told-2 c = search needs
 
--- src/direct.rt:53:38
 enum-told-3 : tie.Need-enum-told-3
 enum-told-3 c = search needs
 
--- src/direct.rt:54:30
 enum-known-e : tie.Need-enum-known-e
 enum-known-e c = search needs
 
--- src/direct.rt:42:1
 returns : tie.Need-returns
 returns c = sym (lead-outside _ _ (c .before .before .before .before .before .pre .1) _ _ _ (rw (c .before .before .before .index .ensures .0 (c .before .before .before .before .before .pre .0)) at (sym (c .before .before .«entry» .ensures) ∙ c .enum-told .given .1)))
 
--- src/direct.rt:42:1
 returns-2 : tie.Need-returns-2
 unfolding leadBy
 returns-2 c = sym (lead-word _ _ (c .before .before .before .before .before .before .before .before .before .pre .1) _ _ _ _ (rw (c .before .before .before .before .before .before .before .index .ensures .0 (c .before .before .before .before .before .before .before .before .before .pre .0)) at (sym (c .before .before .before .before .before .before .«entry» .ensures) ∙ c .before .before .before .before .c .given .1)) ∙ ap leadBy (sym (c .before .before .decode .ensures) ∙ c .enum-told2 .given .1))
 
--- src/direct.rt:42:1
 returns-3 : tie.Need-returns-3
 unfolding leadBy
 returns-3 c = sym (lead-word _ _ (c .before .before .before .before .before .before .before .before .before .pre .1) _ _ _ _ (rw (c .before .before .before .before .before .before .before .index .ensures .0 (c .before .before .before .before .before .before .before .before .before .pre .0)) at (sym (c .before .before .before .before .before .before .«entry» .ensures) ∙ c .before .before .before .before .c .given .1)) ∙ ap leadBy (sym (c .before .before .decode .ensures) ∙ c .enum-told3 .given .1))
 
--- src/direct.rt:42:1
 returns-4 : tie.Need-returns-4
 unfolding leadBy
 returns-4 c = sym (lead-word _ _ (c .before .before .before .before .before .before .before .before .before .before .pre .1) _ _ _ _ (rw (c .before .before .before .before .before .before .before .before .index .ensures .0 (c .before .before .before .before .before .before .before .before .before .before .pre .0)) at (sym (c .before .before .before .before .before .before .before .«entry» .ensures) ∙ c .before .before .before .before .before .c .given .1)) ∙ ap leadBy (sym (c .before .before .before .decode .ensures) ∙ c .before .e .given .1))

@@ -11,60 +11,46 @@ use Rattle.plan.proofs.direct.placed.Lts as lts
 use Rattle.plan.proofs.direct.last.Reads as last-reads
 use Rattle.plan.proofs.direct.settle.Reads as settle-reads
 
--- src/direct.rt:117:9
 last-requires : tie.Need-last-requires
 last-requires c κs = search needs
 
--- src/direct.rt:119:21
 enum-known-l : tie.Need-enum-known-l
 enum-known-l c = search needs
 
--- src/direct.rt:119:27
 settle-requires : tie.Need-settle-requires
 settle-requires c κs = search needs
 
--- src/direct.rt:120:23
 enum-told : tie.Need-enum-told
 enum-told c = search needs
 
--- src/direct.rt:121:26
 enum-told-2 : tie.Need-enum-told-2
 enum-told-2 c = search needs
 
--- src/direct.rt:122:24
 enum-told-3 : tie.Need-enum-told-3
 enum-told-3 c = search needs
 
--- src/direct.rt:113:1
 same-length : tie.Need-same-length
 same-length c = search needs
 
--- src/direct.rt:113:1
 returns : tie.Need-returns
 returns c = rw (c .before .before .settle .ensures .0) (settled _ _ _ _ _ _ _ _ _ (rw (c .before .before .before .before .before .before .l .given .1) at (c .before .before .before .before .before .before .before .before .last .ensures (c .before .before .before .before .before .before .before .before .before .before .before .pre .0))) _ refl (c .before .before .settle .ensures .1))
 
--- src/direct.rt:113:1
 same-length-2 : tie.Need-same-length-2
 same-length-2 c = search needs
 
--- src/direct.rt:113:1
 returns-2 : tie.Need-returns-2
 unfolding wayOf
 returns-2 c = record { by = true; why = rw (c .enum-told .given .1) at (c .before .before .last .ensures (c .before .before .before .before .before .pre .0)); order = wrote-none _ _ _ }
 
--- src/direct.rt:113:1
 same-length-3 : tie.Need-same-length-3
 same-length-3 c = search needs
 
--- src/direct.rt:113:1
 returns-3 : tie.Need-returns-3
 returns-3 c = wrote-none _ _ _
 
--- src/direct.rt:113:1
 same-length-4 : tie.Need-same-length-4
 same-length-4 c = search needs
 
--- src/direct.rt:113:1
 returns-4 : tie.Need-returns-4
 returns-4 c = wrote-none _ _ _
 

@@ -12,66 +12,51 @@ use Rattle.plan.proofs.direct.follow.Reads as follow-reads
 use Rattle.pool.proofs.set_entry.Reads as set-entry-reads
 use Rattle.walk.proofs.index.Reads as index-reads
 
--- src/direct.rt:100:9
 follow-requires : tie.Need-follow-requires
 follow-requires c κs = search needs
 
--- src/direct.rt:103:29
 enum-told : tie.Need-enum-told
 enum-told c = search needs
 
--- src/direct.rt:103:50
 index-requires : tie.Need-index-requires
 index-requires c κs = search needs
 
--- src/direct.rt:103:13
 set-entry-requires : tie.Need-set-entry-requires
 set-entry-requires c κs = search needs
 
--- src/direct.rt:106:23
 enum-told-2 : tie.Need-enum-told-2
 enum-told-2 c = search needs
 
--- src/direct.rt:107:27
 enum-told-3 : tie.Need-enum-told-3
 enum-told-3 c = search needs
 
--- src/direct.rt:108:24
 enum-told-4 : tie.Need-enum-told-4
 enum-told-4 c = search needs
 
--- src/direct.rt:95:1
 same-length : tie.Need-same-length
 same-length c = search needs
 
--- src/direct.rt:95:1
 returns : tie.Need-returns
 unfolding onceOf onceWrites
 returns c = let e = sym (c .before .before .before .before .before .before .before .before .follow .ensures) ∙ c .before .before .before .before .before .before .enum-told .given .1 in let i = c .before .before .before .index .ensures .0 (omega (arith, c .before .before .before .before .before .before .before .before .before .before .before .pre .0)) in (rw e, rw e (wrote-as _ _ _ _ _ _ _ (lead-entry _ _ (c .before .before .before .before .before .before .before .before .before .before .before .pre .1) _ _ _ (c .before .before .before .before .before .before .before .before .before .before .before .args .x) e) (rw i at (c .before .before .set-entry .ensures))))
 
--- src/direct.rt:95:1
 same-length-2 : tie.Need-same-length-2
 same-length-2 c = search needs
 
--- src/direct.rt:95:1
 returns-2 : tie.Need-returns-2
 unfolding onceOf onceWrites
 returns-2 c = let e = sym (c .before .before .follow .ensures) ∙ c .enum-told2 .given .1 in (rw e, rw e (wrote-none _ _ _))
 
--- src/direct.rt:95:1
 same-length-3 : tie.Need-same-length-3
 same-length-3 c = search needs
 
--- src/direct.rt:95:1
 returns-3 : tie.Need-returns-3
 unfolding onceOf onceWrites
 returns-3 c = let e = sym (c .before .before .follow .ensures) ∙ c .enum-told3 .given .1 in (rw e, rw e (wrote-none _ _ _))
 
--- src/direct.rt:95:1
 same-length-4 : tie.Need-same-length-4
 same-length-4 c = search needs
 
--- src/direct.rt:95:1
 returns-4 : tie.Need-returns-4
 unfolding onceOf onceWrites
 returns-4 c = let e = sym (c .before .before .follow .ensures) ∙ c .enum-told4 .given .1 in (rw e, rw e (wrote-none _ _ _))

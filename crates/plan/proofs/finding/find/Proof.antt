@@ -12,37 +12,29 @@ use Rattle.plan.proofs.descent.descend.Reads as descend-reads
 use Rattle.plan.proofs.finding.stopped.Reads as stopped-reads
 use Rattle.pool.proofs.names.Reads as names-reads
 
--- src/finding.rt:72:9
 names-requires : tie.Need-names-requires
 names-requires c κs = search needs
 
--- src/finding.rt:74:22
 enum-known-fit : tie.Need-enum-known-fit
 enum-known-fit c = search needs
 
--- src/finding.rt:76:16
 enum-told : tie.Need-enum-told
 enum-told c = search needs
 
--- src/finding.rt:77:17
 returns : tie.Need-returns
 unfolding foundOf soughtOf
 returns c = simp (sym (c .before .before .before .names .ensures) ∙ c .before .enum-told .given .1, le-ltb _ _ (c .if1 .taken))
 
--- src/finding.rt:79:25
 descend-requires : tie.Need-descend-requires
 descend-requires c κs = names-stands _ _ _ (sym (c .before .before .before .names .ensures) ∙ c .before .enum-told .given .1)
 
--- src/finding.rt:79:13
 stopped-requires : tie.Need-stopped-requires
 stopped-requires c κs = search needs
 
--- src/finding.rt:69:1
 returns-2 : tie.Need-returns-2
 unfolding foundOf soughtOf
 returns-2 c = simp (sym (c .before .before .before .names .ensures) ∙ c .before .fit .given .1)
 
--- src/finding.rt:69:1
 returns-3 : tie.Need-returns-3
 unfolding foundOf soughtOf
 returns-3 c = simp (sym (c .before .before .before .before .before .names .ensures) ∙ c .before .before .before .enum-told .given .1, lt-ltb _ _ (c .before .before .if1 .left), c .stopped .ensures _ (way-paged _ _ _ _ _) (c .before .descend .ensures))

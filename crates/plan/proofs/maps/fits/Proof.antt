@@ -9,24 +9,19 @@ use Rattle.plan.proofs.maps.fits.Reads as reads
 use Rattle.plan.proofs.maps.fits.Lts as lts
 use Rattle.plan.proofs.maps.tested.Reads as tested-reads
 
--- src/maps.rt:98:8
 rem-if1 : tie.Need-rem-if1
 rem-if1 c = omega (arith, size-small _ _ (c .pre .0) (c .pre .1) .0)
 
--- src/maps.rt:100:16
 rem-if3 : tie.Need-rem-if3
 rem-if3 c = omega (arith, size-small _ _ (c .before .before .pre .0) (c .before .before .pre .1) .0)
 
--- src/maps.rt:102:21
 returns : tie.Need-returns
 unfolding fitsOf
 returns c = simp (eq-eqb _ _ (c .before .before .before .if1 .taken), eq-eqb _ _ (c .before .if3 .taken), le-leb _ _ (base-ends _ _ _ (c .before .before .before .before .pre .0) (c .before .before .before .before .pre .1) (c .before .before .before .if1 .taken) (c .before .before .if2 .taken)), le-leb _ _ (frame-ends _ _ _ (c .before .before .before .before .pre .0) (c .before .before .before .before .pre .1) (c .before .if3 .taken) (c .if4 .taken)))
 
--- src/maps.rt:107:5
 tested-requires : tie.Need-tested-requires
 tested-requires c κs = size-small _ _ (c .before .pre .0) (c .before .pre .1)
 
--- src/maps.rt:94:1
 returns-2 : tie.Need-returns-2
 returns-2 c = search needs
 

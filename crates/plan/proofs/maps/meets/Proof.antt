@@ -8,45 +8,35 @@ use Rattle.plan.proofs.maps.meets.Tie as tie
 use Rattle.plan.proofs.maps.meets.Reads as reads
 use Rattle.plan.proofs.maps.meets.Lts as lts
 
--- src/maps.rt:101:9
 returns : tie.Need-returns
 unfolding meetsOf
 returns c = λ u v. let a : c .before .before .args .frame + c .before .before .args .size ≤ c .before .before .args .space .first * 4096 = omega arith in simp (le-ltb _ _ a)
 
--- src/maps.rt:104:9
 returns-2 : tie.Need-returns-2
 returns-2 c = λ u v. absurd (omega arith)
 
--- src/maps.rt:107:9
 returns-3 : tie.Need-returns-3
 returns-3 c = λ u v. absurd (omega arith)
 
--- src/maps.rt:110:9
 returns-4 : tie.Need-returns-4
 returns-4 c = λ u v. absurd (omega arith)
 
--- src/maps.rt:112:8
 add-if5 : tie.Need-add-if5
 add-if5 c = search needs
 
--- src/maps.rt:112:24
 mul-if5 : tie.Need-mul-if5
 mul-if5 c = search needs
 
--- src/maps.rt:113:9
 returns-5 : tie.Need-returns-5
 unfolding meetsOf
 returns-5 c = λ u v. simp (le-ltb _ _ (c .if5 .taken))
 
--- src/maps.rt:115:14
 add-result : tie.Need-add-result
 add-result c = search needs
 
--- src/maps.rt:115:13
 mul-result : tie.Need-mul-result
 mul-result c = search needs
 
--- src/maps.rt:97:1
 returns-6 : tie.Need-returns-6
 unfolding meetsOf
 returns-6 c = λ u v. simp (lt-ltb _ _ (c .before .if5 .left))

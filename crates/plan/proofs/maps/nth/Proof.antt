@@ -7,16 +7,13 @@ use Rattle.plan.proofs.maps.nth.Reads as reads
 use Rattle.plan.proofs.maps.nth.Lts as lts
 use Rattle.pool.proofs.free_page.Reads as free-page-reads
 
--- src/maps.rt:123:9
 returns : tie.Need-returns
 unfolding nthOf
 returns c = simp (le-leb _ _ (c .if1 .taken))
 
--- src/maps.rt:125:5
 free-page-requires : tie.Need-free-page-requires
 free-page-requires c κs = search needs
 
--- src/maps.rt:119:1
 returns-2 : tie.Need-returns-2
 unfolding nthOf
 returns-2 c = simp (lt-leb _ _ (c .before .if1 .left), c .free-page .ensures)

@@ -11,37 +11,30 @@ use Rattle.plan.proofs.maps.shaped.Reads as reads
 use Rattle.plan.proofs.maps.shaped.Lts as lts
 use Rattle.plan.proofs.maps.fits.Reads as fits-reads
 
--- src/maps.rt:85:9
 fits-requires : tie.Need-fits-requires
 unfolding sizeOf
 fits-requires c κs = (omega arith, refl)
 
--- src/maps.rt:85:9
 returns : tie.Need-returns
 unfolding shapeOf
 returns c = simp (eq-eqb _ _ (c .before .if1 .taken), c .fits2 .ensures)
 
--- src/maps.rt:88:9
 fits-requires-2 : tie.Need-fits-requires-2
 unfolding sizeOf
 fits-requires-2 c κs = (omega arith, refl)
 
--- src/maps.rt:88:9
 returns-2 : tie.Need-returns-2
 unfolding shapeOf
 returns-2 c = simp (ne-eqb _ _ (c .before .before .if1 .left), eq-eqb _ _ (c .before .if2 .taken), c .fits3 .ensures)
 
--- src/maps.rt:91:9
 fits-requires-3 : tie.Need-fits-requires-3
 unfolding sizeOf
 fits-requires-3 c κs = (omega arith, refl)
 
--- src/maps.rt:91:9
 returns-3 : tie.Need-returns-3
 unfolding shapeOf
 returns-3 c = simp (ne-eqb _ _ (c .before .before .before .if1 .left), ne-eqb _ _ (c .before .before .if2 .left), eq-eqb _ _ (c .before .if3 .taken), c .fits4 .ensures)
 
--- src/maps.rt:81:1
 returns-4 : tie.Need-returns-4
 unfolding shapeOf
 returns-4 c = simp (ne-eqb _ _ (c .before .before .if1 .left), ne-eqb _ _ (c .before .if2 .left), ne-eqb _ _ (c .if3 .left))

@@ -11,41 +11,32 @@ use Rattle.plan.proofs.maps.meets.Reads as meets-reads
 use Rattle.plan.proofs.maps.stopped.Reads as stopped-reads
 use Rattle.pool.proofs.names.Reads as names-reads
 
--- src/maps.rt:255:9
 names-requires : tie.Need-names-requires
 names-requires c κs = search needs
 
--- src/maps.rt:257:22
 enum-known-fit : tie.Need-enum-known-fit
 enum-known-fit c = search needs
 
--- src/maps.rt:259:16
 enum-told : tie.Need-enum-told
 enum-told c = search needs
 
--- src/maps.rt:259:16
 meets-requires : tie.Need-meets-requires
 meets-requires c κs = search needs
 
--- src/maps.rt:260:17
 returns : tie.Need-returns
 unfolding standingOf fittingOf placingOf
 returns c = λ u. let e = sym (c .before .before .before .before .names .ensures) ∙ c .before .before .enum-told .given .1 in simp (e, sym (c .before .meets .ensures u (names-shows _ _ _ e .fits .small)) ∙ c .if1 .taken)
 
--- src/maps.rt:262:47
 descend-requires : tie.Need-descend-requires
 descend-requires c κs = names-stands _ _ _ (sym (c .before .before .before .before .names .ensures) ∙ c .before .before .enum-told .given .1)
 
--- src/maps.rt:262:13
 stopped-requires : tie.Need-stopped-requires
 stopped-requires c κs = search needs
 
--- src/maps.rt:251:1
 returns-2 : tie.Need-returns-2
 unfolding standingOf fittingOf placingOf
 returns-2 c = λ u. simp (sym (c .before .before .before .names .ensures) ∙ c .before .fit .given .1)
 
--- src/maps.rt:251:1
 returns-3 : tie.Need-returns-3
 unfolding standingOf fittingOf
 returns-3 c = λ u. let e = sym (c .before .before .before .before .before .before .names .ensures) ∙ c .before .before .before .before .enum-told .given .1 in simp (e, sym (c .before .before .before .meets .ensures u (names-shows _ _ _ e .fits .small)) ∙ c .before .before .if1 .left) (c .stopped .ensures _ (c .before .descend .ensures))

@@ -10,7 +10,6 @@ use Rattle.plan.proofs.maps.none.Reads as none-reads
 use Rattle.plan.proofs.maps.take_fresh.Reads as take-fresh-reads
 use Rattle.pool.proofs.open.Reads as open-reads
 
--- src/maps.rt:157:9
 none-requires : tie.Need-none-requires
 none-requires c κs = search needs
 
@@ -18,33 +17,26 @@ returns : tie.Need-returns
 unfolding supplyOf
 returns c = simp (eq-eqb _ _ (c .before .if1 .taken), c .none .ensures)
 
--- src/maps.rt:170:9
 open-requires : tie.Need-open-requires
 open-requires c κs = search needs
 
--- src/maps.rt:172:25
 enum-known-o : tie.Need-enum-known-o
 enum-known-o c = search needs
 
--- src/maps.rt:173:22
 enum-known-o-2 : tie.Need-enum-known-o-2
 enum-known-o-2 c = search needs
 
--- src/maps.rt:175:17
 returns-2 : tie.Need-returns-2
 unfolding supplyOf stockOf
 returns-2 c = simp (ne-eqb _ _ (c .before .before .before .before .before .before .if1 .left), sym (c .before .before .before .before .before .«open» .ensures) ∙ c .before .before .before .o2 .given .1, lt-ltb _ _ (c .if2 .taken))
 
--- src/maps.rt:177:13
 take-fresh-requires : tie.Need-take-fresh-requires
 take-fresh-requires c κs = search needs
 
--- src/maps.rt:153:1
 returns-3 : tie.Need-returns-3
 unfolding supplyOf stockOf
 returns-3 c = simp (ne-eqb _ _ (c .before .before .before .before .if1 .left), sym (c .before .before .before .«open» .ensures) ∙ c .before .o .given .1)
 
--- src/maps.rt:153:1
 returns-4 : tie.Need-returns-4
 unfolding supplyOf stockOf
 returns-4 c = simp (ne-eqb _ _ (c .before .before .before .before .before .before .before .if1 .left), sym (c .before .before .before .before .before .before .«open» .ensures) ∙ c .before .before .before .before .o2 .given .1, le-ltb _ _ (c .before .if2 .left), c .take-fresh .ensures)

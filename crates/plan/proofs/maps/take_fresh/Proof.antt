@@ -7,58 +7,45 @@ use Rattle.plan.proofs.maps.take_fresh.Reads as reads
 use Rattle.plan.proofs.maps.take_fresh.Lts as lts
 use Rattle.plan.proofs.maps.nth.Reads as nth-reads
 
--- src/maps.rt:131:9
 nth-requires : tie.Need-nth-requires
 nth-requires c κs = search needs
 
--- src/maps.rt:132:9
 nth-requires-2 : tie.Need-nth-requires-2
 nth-requires-2 c κs = search needs
 
--- src/maps.rt:133:9
 nth-requires-3 : tie.Need-nth-requires-3
 nth-requires-3 c κs = search needs
 
--- src/maps.rt:134:22
 enum-known-x : tie.Need-enum-known-x
 enum-known-x c = search needs
 
--- src/maps.rt:135:32
 enum-told : tie.Need-enum-told
 enum-told c = search needs
 
--- src/maps.rt:135:9
 returns : tie.Need-returns
 unfolding freshOf freshThree
 returns c = rw (sym (c .before .before .before .before .nth .ensures) ∙ c .enum-told .given .1)
 
--- src/maps.rt:137:22
 enum-known-y : tie.Need-enum-known-y
 enum-known-y c = search needs
 
--- src/maps.rt:138:32
 enum-told-2 : tie.Need-enum-told-2
 enum-told-2 c = search needs
 
--- src/maps.rt:138:9
 returns-2 : tie.Need-returns-2
 unfolding freshOf freshThree
 returns-2 c = rw (sym (c .before .before .before .before .before .before .before .nth .ensures) ∙ c .before .before .before .x .given .1, sym (c .before .before .before .before .before .before .nth2 .ensures) ∙ c .enum-told2 .given .1)
 
--- src/maps.rt:140:22
 enum-known-z : tie.Need-enum-known-z
 enum-known-z c = search needs
 
--- src/maps.rt:141:32
 enum-told-3 : tie.Need-enum-told-3
 enum-told-3 c = search needs
 
--- src/maps.rt:141:9
 returns-3 : tie.Need-returns-3
 unfolding freshOf freshThree
 returns-3 c = rw (sym (c .before .before .before .before .before .before .before .before .before .before .nth .ensures) ∙ c .before .before .before .before .before .before .x .given .1, sym (c .before .before .before .before .before .before .before .before .before .nth2 .ensures) ∙ c .before .before .before .y .given .1, sym (c .before .before .before .before .before .before .before .before .nth3 .ensures) ∙ c .enum-told3 .given .1)
 
--- src/maps.rt:128:1
 returns-4 : tie.Need-returns-4
 unfolding freshOf freshThree
 returns-4 c = rw (sym (c .before .before .before .before .before .before .before .before .before .before .before .nth .ensures) ∙ c .before .before .before .before .before .before .before .x .given .1, sym (c .before .before .before .before .before .before .before .before .before .before .nth2 .ensures) ∙ c .before .before .before .before .y .given .1, sym (c .before .before .before .before .before .before .before .before .before .nth3 .ensures) ∙ c .before .z .given .1)

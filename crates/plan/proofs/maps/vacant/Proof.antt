@@ -9,27 +9,21 @@ use Rattle.plan.proofs.maps.place.Reads as place-reads
 use Rattle.plan.proofs.maps.supplied.Reads as supplied-reads
 use Rattle.plan.proofs.spare.spared.Reads as spared-reads
 
--- src/maps.rt:245:9
 returns : tie.Need-returns
 returns c = λ w e. vacant-here _ _ _ _ _ _ _ w e (c .before .before .before .before .pre) (c .if1 .taken)
 
--- src/maps.rt:257:40
 sub-supplied : tie.Need-sub-supplied
 sub-supplied c = search needs
 
--- src/maps.rt:257:19
 supplied-requires : tie.Need-supplied-requires
 supplied-requires c κs = search needs
 
--- src/maps.rt:257:9
 spared-requires : tie.Need-spared-requires
 spared-requires c κs = search needs
 
--- src/maps.rt:251:5
 place-requires : tie.Need-place-requires
 place-requires c κs = search needs
 
--- src/maps.rt:239:1
 returns-2 : tie.Need-returns-2
 returns-2 c = λ w e. vacant-built _ _ 0 _ _ _ _ w e _ (rw (c .before .spared .ensures, c .before .before .supplied .ensures) at (c .place .ensures (omega (arith, c .before .before .before .before .if1 .left)) (c .before .before .before .before .before .before .before .before .pre)))
 

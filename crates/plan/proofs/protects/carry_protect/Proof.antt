@@ -6,15 +6,12 @@ use Rattle.plan.proofs.protects.carry_protect.Reads as reads
 use Rattle.plan.proofs.protects.carry_protect.Lts as lts
 use Rattle.word.proofs.write.Reads as write-reads
 
--- src/protects.rt:55:5
 write-requires : tie.Need-write-requires
 write-requires c κs = search needs
 
--- src/protects.rt:52:1
 same-length : tie.Need-same-length
 same-length c = search needs
 
--- src/protects.rt:52:1
 returns : tie.Need-returns
 unfolding writesOf
 returns c = c .before .before .write .ensures

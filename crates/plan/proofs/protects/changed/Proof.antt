@@ -6,11 +6,9 @@ use Rattle.plan.proofs.protects.changed.Reads as reads
 use Rattle.plan.proofs.protects.changed.Lts as lts
 use Rattle.entry.proofs.with_rights.Reads as with-rights-reads
 
--- src/protects.rt:36:15
 with-rights-requires : tie.Need-with-rights-requires
 with-rights-requires c κs = search needs
 
--- src/protects.rt:29:1
 returns : tie.Need-returns
 unfolding changeOf
 returns c = λ u. rw (u, c .with-rights .ensures)

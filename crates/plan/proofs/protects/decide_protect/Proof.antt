@@ -12,36 +12,28 @@ use Rattle.plan.proofs.protects.changed.Reads as changed-reads
 use Rattle.pool.proofs.book_now.Reads as book-now-reads
 use Rattle.pool.proofs.ticket.Reads as ticket-reads
 
--- src/protects.rt:47:9
 find-requires : tie.Need-find-requires
 find-requires c κs = search needs
 
--- src/protects.rt:49:25
 enum-known-s : tie.Need-enum-known-s
 enum-known-s c = search needs
 
--- src/protects.rt:50:23
 enum-known-s-2 : tie.Need-enum-known-s-2
 enum-known-s-2 c = search needs
 
--- src/protects.rt:51:39
 book-now-requires : tie.Need-book-now-requires
 book-now-requires c κs = search needs
 
--- src/protects.rt:51:17
 ticket-requires : tie.Need-ticket-requires
 ticket-requires c κs = search needs
 
--- src/protects.rt:52:26
 changed-requires : tie.Need-changed-requires
 changed-requires c κs = search needs
 
--- src/protects.rt:44:1
 returns : tie.Need-returns
 unfolding decideOf changingOf
 returns c = rw (sym (c .before .before .before .find .ensures) ∙ c .before .s .given .1)
 
--- src/protects.rt:44:1
 returns-2 : tie.Need-returns-2
 unfolding decideOf changingOf
 returns-2 c = let e = sym (c .before .before .before .before .before .before .find .ensures) ∙ c .before .before .before .before .s2 .given .1 in let k = found-at _ _ _ _ _ e in rw (e, c .changed .ensures (k .index), c .before .ticket .ensures, c .before .before .book-now .ensures ∙ now-is _ _ (names-room _ _ _ (k .names)))

@@ -9,36 +9,28 @@ use Rattle.plan.proofs.protects.protect.Lts as lts
 use Rattle.plan.proofs.protects.carry_protect.Reads as carry-protect-reads
 use Rattle.plan.proofs.protects.decide_protect.Reads as decide-protect-reads
 
--- src/protects.rt:63:9
 decide-protect-requires : tie.Need-decide-protect-requires
 decide-protect-requires c κs = search needs
 
--- src/protects.rt:65:27
 enum-known-d : tie.Need-enum-known-d
 enum-known-d c = search needs
 
--- src/protects.rt:66:22
 enum-known-d-2 : tie.Need-enum-known-d-2
 enum-known-d-2 c = search needs
 
--- src/protects.rt:67:13
 carry-protect-requires : tie.Need-carry-protect-requires
 carry-protect-requires c κs = search needs
 
--- src/protects.rt:59:1
 same-length : tie.Need-same-length
 same-length c = search needs
 
--- src/protects.rt:59:1
 returns : tie.Need-returns
 unfolding didOf
 returns c = let e = sym (c .before .before .before .decide-protect .ensures) ∙ c .before .d .given .1 in (sym e, rw e (wrote-none _ _ _))
 
--- src/protects.rt:59:1
 same-length-2 : tie.Need-same-length-2
 same-length-2 c = search needs
 
--- src/protects.rt:59:1
 returns-2 : tie.Need-returns-2
 unfolding didOf
 returns-2 c = let e = sym (c .before .before .before .before .before .before .before .before .decide-protect .ensures) ∙ c .before .before .before .before .before .before .d2 .given .1 in (sym e, rw e (c .before .before .carry-protect .ensures))

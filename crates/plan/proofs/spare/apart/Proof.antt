@@ -8,64 +8,51 @@ use Rattle.plan.proofs.spare.apart.Reads as reads
 use Rattle.plan.proofs.spare.apart.Lts as lts
 use Rattle.plan.proofs.spare.way_has.Reads as way-has-reads
 
--- src/spare.rt:39:9
 returns : tie.Need-returns
 unfolding apartOf
 returns c = simp (le-leb _ _ (c .if1 .taken))
 
--- src/spare.rt:41:8
 way-has-requires : tie.Need-way-has-requires
 way-has-requires c κs = search needs
 
--- src/spare.rt:42:9
 returns-2 : tie.Need-returns-2
 unfolding apartOf
 returns-2 c = simp (lt-leb _ _ (c .before .before .if1 .left), sym (c .before .way-has .ensures) ∙ c .if2 .taken)
 
--- src/spare.rt:45:9
 returns-3 : tie.Need-returns-3
 unfolding apartOf
 returns-3 c = simp (lt-leb _ _ (c .before .before .before .before .if1 .left), sym (c .before .before .before .way-has .ensures) ∙ c .before .before .if2 .left, le-leb _ _ (c .if3 .taken))
 
--- src/spare.rt:48:9
 returns-4 : tie.Need-returns-4
 unfolding apartOf
 returns-4 c = simp (lt-leb _ _ (c .before .before .before .before .before .before .if1 .left), sym (c .before .before .before .before .before .way-has .ensures) ∙ c .before .before .before .before .if2 .left, lt-leb _ _ (c .before .before .if3 .left), eq-eqb _ _ (c .if4 .taken))
 
--- src/spare.rt:50:8
 way-has-requires-2 : tie.Need-way-has-requires-2
 way-has-requires-2 c κs = search needs
 
--- src/spare.rt:51:9
 returns-5 : tie.Need-returns-5
 unfolding apartOf
 returns-5 c = simp (lt-leb _ _ (c .before .before .before .before .before .before .before .before .if1 .left), sym (c .before .before .before .before .before .before .before .way-has .ensures) ∙ c .before .before .before .before .before .before .if2 .left, lt-leb _ _ (c .before .before .before .before .if3 .left), ne-eqb _ _ (c .before .before .if4 .left), sym (c .before .way-has2 .ensures) ∙ c .if5 .taken)
 
--- src/spare.rt:54:9
 returns-6 : tie.Need-returns-6
 unfolding apartOf
 returns-6 c = simp (lt-leb _ _ (c .before .before .before .before .before .before .before .before .before .before .if1 .left), sym (c .before .before .before .before .before .before .before .before .before .way-has .ensures) ∙ c .before .before .before .before .before .before .before .before .if2 .left, lt-leb _ _ (c .before .before .before .before .before .before .if3 .left), ne-eqb _ _ (c .before .before .before .before .if4 .left), sym (c .before .before .before .way-has2 .ensures) ∙ c .before .before .if5 .left, le-leb _ _ (c .if6 .taken))
 
--- src/spare.rt:57:9
 returns-7 : tie.Need-returns-7
 unfolding apartOf
 returns-7 c = simp (lt-leb _ _ (c .before .before .before .before .before .before .before .before .before .before .before .before .if1 .left), sym (c .before .before .before .before .before .before .before .before .before .before .before .way-has .ensures) ∙ c .before .before .before .before .before .before .before .before .before .before .if2 .left, lt-leb _ _ (c .before .before .before .before .before .before .before .before .if3 .left), ne-eqb _ _ (c .before .before .before .before .before .before .if4 .left), sym (c .before .before .before .before .before .way-has2 .ensures) ∙ c .before .before .before .before .if5 .left, lt-leb _ _ (c .before .before .if6 .left), eq-eqb _ _ (c .if7 .taken))
 
--- src/spare.rt:60:9
 returns-8 : tie.Need-returns-8
 unfolding apartOf
 returns-8 c = simp (lt-leb _ _ (c .before .before .before .before .before .before .before .before .before .before .before .before .before .before .if1 .left), sym (c .before .before .before .before .before .before .before .before .before .before .before .before .before .way-has .ensures) ∙ c .before .before .before .before .before .before .before .before .before .before .before .before .if2 .left, lt-leb _ _ (c .before .before .before .before .before .before .before .before .before .before .if3 .left), ne-eqb _ _ (c .before .before .before .before .before .before .before .before .if4 .left), sym (c .before .before .before .before .before .before .before .way-has2 .ensures) ∙ c .before .before .before .before .before .before .if5 .left, lt-leb _ _ (c .before .before .before .before .if6 .left), ne-eqb _ _ (c .before .before .if7 .left), eq-eqb _ _ (c .if8 .taken))
 
--- src/spare.rt:62:8
 way-has-requires-3 : tie.Need-way-has-requires-3
 way-has-requires-3 c κs = search needs
 
--- src/spare.rt:63:9
 returns-9 : tie.Need-returns-9
 unfolding apartOf
 returns-9 c = simp (lt-leb _ _ (c .before .before .before .before .before .before .before .before .before .before .before .before .before .before .before .before .if1 .left), sym (c .before .before .before .before .before .before .before .before .before .before .before .before .before .before .before .way-has .ensures) ∙ c .before .before .before .before .before .before .before .before .before .before .before .before .before .before .if2 .left, lt-leb _ _ (c .before .before .before .before .before .before .before .before .before .before .before .before .if3 .left), ne-eqb _ _ (c .before .before .before .before .before .before .before .before .before .before .if4 .left), sym (c .before .before .before .before .before .before .before .before .before .way-has2 .ensures) ∙ c .before .before .before .before .before .before .before .before .if5 .left, lt-leb _ _ (c .before .before .before .before .before .before .if6 .left), ne-eqb _ _ (c .before .before .before .before .if7 .left), ne-eqb _ _ (c .before .before .if8 .left), sym (c .before .way-has3 .ensures) ∙ c .if9 .taken)
 
--- src/spare.rt:35:1
 returns-10 : tie.Need-returns-10
 unfolding apartOf
 returns-10 c = simp (lt-leb _ _ (c .before .before .before .before .before .before .before .before .before .before .before .before .before .before .before .before .if1 .left), sym (c .before .before .before .before .before .before .before .before .before .before .before .before .before .before .before .way-has .ensures) ∙ c .before .before .before .before .before .before .before .before .before .before .before .before .before .before .if2 .left, lt-leb _ _ (c .before .before .before .before .before .before .before .before .before .before .before .before .if3 .left), ne-eqb _ _ (c .before .before .before .before .before .before .before .before .before .before .if4 .left), sym (c .before .before .before .before .before .before .before .before .before .way-has2 .ensures) ∙ c .before .before .before .before .before .before .before .before .if5 .left, lt-leb _ _ (c .before .before .before .before .before .before .if6 .left), ne-eqb _ _ (c .before .before .before .before .if7 .left), ne-eqb _ _ (c .before .before .if8 .left), sym (c .before .way-has3 .ensures) ∙ c .if9 .left)

@@ -7,29 +7,23 @@ use Rattle.plan.proofs.spare.spared.Reads as reads
 use Rattle.plan.proofs.spare.spared.Lts as lts
 use Rattle.plan.proofs.spare.apart.Reads as apart-reads
 
--- src/spare.rt:73:25
 enum-known-s : tie.Need-enum-known-s
 enum-known-s c = search needs
 
--- src/spare.rt:74:23
 enum-known-s-2 : tie.Need-enum-known-s-2
 enum-known-s-2 c = search needs
 
--- src/spare.rt:75:16
 apart-requires : tie.Need-apart-requires
 apart-requires c κs = search needs
 
--- src/spare.rt:76:17
 returns : tie.Need-returns
 unfolding sparedOf
 returns c = rw (c .before .before .before .s2 .given .1, sym (c .before .apart .ensures) ∙ c .if1 .taken)
 
--- src/spare.rt:69:1
 returns-2 : tie.Need-returns-2
 unfolding sparedOf
 returns-2 c = rw (c .before .s .given .1)
 
--- src/spare.rt:69:1
 returns-3 : tie.Need-returns-3
 unfolding sparedOf
 returns-3 c = rw (c .before .before .before .s2 .given .1, sym (c .before .apart .ensures) ∙ c .if1 .left)

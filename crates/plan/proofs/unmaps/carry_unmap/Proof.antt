@@ -9,47 +9,36 @@ use Rattle.plan.proofs.unmaps.carry_unmap.Lts as lts
 use Rattle.plan.proofs.unmaps.cut.Reads as cut-reads
 use Rattle.word.proofs.write.Reads as write-reads
 
--- src/unmaps.rt:147:5
 write-requires : tie.Need-write-requires
 write-requires c κs = search needs
 
--- src/unmaps.rt:149:9
 same-length : tie.Need-same-length
 same-length c = search needs
 
--- src/unmaps.rt:149:9
 returns : tie.Need-returns
 returns c = cuts-none _ _ (c .before .before .before .before .before .before .before .before .before .before .args .r) _ _ _ _ _ (c .if1 .taken) (c .before .before .before .before .before .before .before .before .before .before .pre .1) (c .before .before .before .write .ensures)
 
--- src/unmaps.rt:153:48
 add-cut : tie.Need-add-cut
 add-cut c = search needs
 
--- src/unmaps.rt:153:9
 cut-requires : tie.Need-cut-requires
 cut-requires c κs = search needs
 
--- src/unmaps.rt:154:48
 add-cut-2 : tie.Need-add-cut-2
 add-cut-2 c = search needs
 
--- src/unmaps.rt:154:9
 cut-requires-2 : tie.Need-cut-requires-2
 cut-requires-2 c κs = search needs
 
--- src/unmaps.rt:155:39
 add-cut-3 : tie.Need-add-cut-3
 add-cut-3 c = omega (arith, c .before .before .before .before .before .before .before .before .before .before .before .before .before .before .before .before .before .before .before .before .before .before .pre .0)
 
--- src/unmaps.rt:155:5
 cut-requires-3 : tie.Need-cut-requires-3
 cut-requires-3 c κs = λ u. omega (arith, c .before .before .before .before .before .before .before .before .before .before .before .before .before .before .before .before .before .before .before .before .before .before .pre .0)
 
--- src/unmaps.rt:138:1
 same-length-2 : tie.Need-same-length-2
 same-length-2 c = length-wrote _ _ _ _ _ _ (cuts-wrote _ _ (c .before .before .before .before .before .before .before .before .before .before .before .before .before .before .before .before .before .before .before .before .before .before .before .before .before .args .r) _ _ _ _ _ _ _ _ _ _ _ _ _ (c .before .before .before .before .before .before .before .before .before .before .before .before .before .before .before .before .before .before .before .before .before .before .before .before .before .pre .1) (c .before .before .before .before .before .before .before .before .before .before .before .before .before .before .before .before .before .before .write .ensures) (c .before .before .before .before .before .before .before .before .before .before .before .before .cut .ensures .0) (c .before .before .before .before .before .before .before .cut2 .ensures .0) (c .before .before .before .before .before .before .before .before .before .before .before .before .cut .ensures .1) (c .before .before .before .before .before .before .before .cut2 .ensures .1) (c .before .before .cut3 .ensures .1))
 
--- src/unmaps.rt:138:1
 returns-2 : tie.Need-returns-2
 returns-2 c = cuts-wrote _ _ (c .before .before .before .before .before .before .before .before .before .before .before .before .before .before .before .before .before .before .before .before .before .before .before .before .before .args .r) _ _ _ _ _ _ _ _ _ _ _ _ _ (c .before .before .before .before .before .before .before .before .before .before .before .before .before .before .before .before .before .before .before .before .before .before .before .before .before .pre .1) (c .before .before .before .before .before .before .before .before .before .before .before .before .before .before .before .before .before .before .write .ensures) (c .before .before .before .before .before .before .before .before .before .before .before .before .cut .ensures .0) (c .before .before .before .before .before .before .before .cut2 .ensures .0) (c .before .before .before .before .before .before .before .before .before .before .before .before .cut .ensures .1) (c .before .before .before .before .before .before .before .cut2 .ensures .1) (c .before .before .cut3 .ensures .1)
 

@@ -10,28 +10,22 @@ use Rattle.pool.proofs.set_aside.Reads as set-aside-reads
 use Rattle.walk.proofs.index.Reads as index-reads
 use Rattle.word.proofs.write.Reads as write-reads
 
--- src/unmaps.rt:132:9
 returns : tie.Need-returns
 unfolding cutBook cutWrites
 returns c = (simp (le-leb _ _ (c .if1 .taken)), simp (le-leb _ _ (c .if1 .taken)) (wrote-none _ _ _))
 
--- src/unmaps.rt:134:50
 index-requires : tie.Need-index-requires
 index-requires c κs = search needs
 
--- src/unmaps.rt:134:5
 write-requires : tie.Need-write-requires
 write-requires c κs = search needs
 
--- src/unmaps.rt:135:5
 set-aside-requires : tie.Need-set-aside-requires
 set-aside-requires c κs = search needs
 
--- src/unmaps.rt:115:1
 same-length : tie.Need-same-length
 same-length c = search needs
 
--- src/unmaps.rt:115:1
 returns-2 : tie.Need-returns-2
 unfolding cutBook cutWrites
 returns-2 c = (simp (lt-leb _ _ (c .before .before .before .before .before .before .before .before .before .before .before .if1 .left)) (c .before .before .set-aside .ensures .0), simp (lt-leb _ _ (c .before .before .before .before .before .before .before .before .before .before .before .if1 .left)) (rw (← c .before .before .before .before .before .before .before .before .index .ensures .0 (c .before .before .before .before .before .before .before .before .before .before .before .before .before .pre (c .before .before .before .before .before .before .before .before .before .before .before .if1 .left))) (wrote-then _ _ _ _ _ _ _ _ _ (c .before .before .before .before .before .before .before .write .ensures) (c .before .before .set-aside .ensures .1))))

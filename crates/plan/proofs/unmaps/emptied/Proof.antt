@@ -10,61 +10,48 @@ use Rattle.plan.proofs.unmaps.emptied.Lts as lts
 use Rattle.word.proofs.besides.Reads as besides-reads
 use Rattle.walk.proofs.index.Reads as index-reads
 
--- src/unmaps.rt:63:9
 returns : tie.Need-returns
 unfolding emptiedOf
 returns c = λ e. simp (le-leb _ _ (c .if1 .taken))
 
--- src/unmaps.rt:65:32
 index-requires : tie.Need-index-requires
 index-requires c κs = search needs
 
--- src/unmaps.rt:65:8
 besides-requires : tie.Need-besides-requires
 besides-requires c κs = search needs
 
--- src/unmaps.rt:66:9
 returns-2 : tie.Need-returns-2
 unfolding emptiedOf
 returns-2 c = λ e. simp (lt-leb _ _ (c .before .before .if1 .left), rw e at (sym (c .before .besides .ensures) ∙ c .if2 .taken))
 
--- src/unmaps.rt:69:9
 returns-3 : tie.Need-returns-3
 unfolding emptiedOf
 returns-3 c = λ e. simp (lt-leb _ _ (c .before .before .before .before .if1 .left), rw e at (sym (c .before .before .before .besides .ensures) ∙ c .before .before .if2 .left), le-leb _ _ (c .if3 .taken))
 
--- src/unmaps.rt:71:44
 add-index : tie.Need-add-index
 add-index c = search needs
 
--- src/unmaps.rt:71:32
 index-requires-2 : tie.Need-index-requires-2
 index-requires-2 c κs = search needs
 
--- src/unmaps.rt:71:8
 besides-requires-2 : tie.Need-besides-requires-2
 besides-requires-2 c κs = search needs
 
--- src/unmaps.rt:72:9
 returns-4 : tie.Need-returns-4
 unfolding emptiedOf
 returns-4 c = λ e. simp (lt-leb _ _ (c .before .before .before .before .before .before .before .before .if1 .left), rw e at (sym (c .before .before .before .before .before .before .before .besides .ensures) ∙ c .before .before .before .before .before .before .if2 .left), lt-leb _ _ (c .before .before .before .before .if3 .left), rw (c .before .before .index .ensures .0 (omega arith)) at (sym (c .before .besides2 .ensures) ∙ c .if4 .taken))
 
--- src/unmaps.rt:75:9
 returns-5 : tie.Need-returns-5
 unfolding emptiedOf
 returns-5 c = λ e. simp (lt-leb _ _ (c .before .before .before .before .before .before .before .before .before .before .if1 .left), rw e at (sym (c .before .before .before .before .before .before .before .before .before .besides .ensures) ∙ c .before .before .before .before .before .before .before .before .if2 .left), lt-leb _ _ (c .before .before .before .before .before .before .if3 .left), rw (c .before .before .before .before .index .ensures .0 (omega arith)) at (sym (c .before .before .before .besides2 .ensures) ∙ c .before .before .if4 .left), le-leb _ _ (c .if5 .taken))
 
--- src/unmaps.rt:77:8
 besides-requires-3 : tie.Need-besides-requires-3
 besides-requires-3 c κs = search needs
 
--- src/unmaps.rt:78:9
 returns-6 : tie.Need-returns-6
 unfolding emptiedOf
 returns-6 c = λ e. simp (lt-leb _ _ (c .before .before .before .before .before .before .before .before .before .before .before .before .before .if1 .left), rw e at (sym (c .before .before .before .before .before .before .before .before .before .before .before .before .besides .ensures) ∙ c .before .before .before .before .before .before .before .before .before .before .before .if2 .left), lt-leb _ _ (c .before .before .before .before .before .before .before .before .before .if3 .left), rw (c .before .before .before .before .before .before .before .index .ensures .0 (omega arith)) at (sym (c .before .before .before .before .before .before .besides2 .ensures) ∙ c .before .before .before .before .before .if4 .left), lt-leb _ _ (c .before .before .before .if5 .left), rw (c .before .before .index2 .ensures .0 (omega arith)) at (sym (c .before .besides3 .ensures) ∙ c .if6 .taken))
 
--- src/unmaps.rt:59:1
 returns-7 : tie.Need-returns-7
 unfolding emptiedOf
 returns-7 c = λ e. simp (lt-leb _ _ (c .before .before .before .before .before .before .before .before .before .before .before .before .before .if1 .left), rw e at (sym (c .before .before .before .before .before .before .before .before .before .before .before .before .besides .ensures) ∙ c .before .before .before .before .before .before .before .before .before .before .before .if2 .left), lt-leb _ _ (c .before .before .before .before .before .before .before .before .before .if3 .left), rw (c .before .before .before .before .before .before .before .index .ensures .0 (omega arith)) at (sym (c .before .before .before .before .before .before .besides2 .ensures) ∙ c .before .before .before .before .before .if4 .left), lt-leb _ _ (c .before .before .before .if5 .left), rw (c .before .before .index2 .ensures .0 (omega arith)) at (sym (c .before .besides3 .ensures) ∙ c .if6 .left))

@@ -13,44 +13,34 @@ use Rattle.plan.proofs.unmaps.decide_unmap.Reads as decide-unmap-reads
 use Rattle.pool.proofs.book_now.Reads as book-now-reads
 use Rattle.pool.proofs.ticket_after.Reads as ticket-after-reads
 
--- src/unmaps.rt:163:9
 decide-unmap-requires : tie.Need-decide-unmap-requires
 decide-unmap-requires c κs = search needs
 
--- src/unmaps.rt:165:27
 enum-known-d : tie.Need-enum-known-d
 enum-known-d c = search needs
 
--- src/unmaps.rt:166:22
 enum-known-d-2 : tie.Need-enum-known-d-2
 enum-known-d-2 c = search needs
 
--- src/unmaps.rt:167:45
 book-now-requires : tie.Need-book-now-requires
 book-now-requires c κs = search needs
 
--- src/unmaps.rt:167:17
 ticket-after-requires : tie.Need-ticket-after-requires
 ticket-after-requires c κs = search needs
 
--- src/unmaps.rt:168:13
 carry-unmap-requires : tie.Need-carry-unmap-requires
 carry-unmap-requires c κs = let f = unmap-fits _ _ _ _ _ (sym (c .before .before .before .before .before .before .before .before .decide-unmap .ensures) ∙ c .before .before .before .before .before .before .d2 .given .1) in (f .low, f .index)
 
--- src/unmaps.rt:159:1
 same-length : tie.Need-same-length
 same-length c = search needs
 
--- src/unmaps.rt:159:1
 returns : tie.Need-returns
 unfolding didOf unmappingOf
 returns c = let e = sym (c .before .before .before .decide-unmap .ensures) ∙ c .before .d .given .1 in (rw e, rw e (wrote-none _ _ _))
 
--- src/unmaps.rt:159:1
 same-length-2 : tie.Need-same-length-2
 same-length-2 c = search needs
 
--- src/unmaps.rt:159:1
 returns-2 : tie.Need-returns-2
 unfolding didOf unmappingOf
 returns-2 c = let e = sym (c .before .before .before .before .before .before .before .before .before .before .before .decide-unmap .ensures) ∙ c .before .before .before .before .before .before .before .before .before .d2 .given .1 in (rw (e, c .before .before .before .before .before .ticket-after .ensures, c .before .before .before .before .before .before .book-now .ensures ∙ now-is _ _ (unmap-room _ _ _ _ _ e)), rw e (c .before .before .carry-unmap .ensures))

@@ -8,23 +8,18 @@ use Rattle.pool.proofs.bounds.among.Reads as reads
 use Rattle.pool.proofs.bounds.among.Lts as lts
 use Rattle.pool.proofs.book_pages.Reads as book-pages-reads
 
--- src/lib.rt:112:9
 returns : tie.Need-returns
 returns c = sym (not-in-pool _ _ (λ s. omega (arith, s .behind, c .if1 .taken)))
 
--- src/lib.rt:115:12
 book-pages-requires : tie.Need-book-pages-requires
 book-pages-requires c κs = search needs
 
--- src/lib.rt:116:9
 returns-2 : tie.Need-returns-2
 returns-2 c = sym (not-in-pool _ _ (λ s. omega (arith, s .behind, c .if2 .taken, c .before .before .before .if1 .left, c .before .book-pages .ensures)))
 
--- src/lib.rt:119:9
 returns-3 : tie.Need-returns-3
 returns-3 c = sym (not-in-pool _ _ (λ s. omega (arith, s .before-end, c .if3 .taken, c .before .before .before .before .before .if1 .left)))
 
--- src/lib.rt:108:1
 returns-4 : tie.Need-returns-4
 returns-4 c = sym (in-pool _ _ (record { behind = omega (arith, c .before .before .if2 .left, c .before .before .before .before .before .if1 .left, c .before .before .before .book-pages .ensures); before-end = omega (arith, c .if3 .left) }))
 

@@ -6,19 +6,15 @@ use Rattle.pool.proofs.bounds.book_of.Tie as tie
 use Rattle.pool.proofs.bounds.book_of.Reads as reads
 use Rattle.pool.proofs.bounds.book_of.Lts as lts
 
--- src/bounds.rt:18:15
 mul-result : tie.Need-mul-result
 mul-result c = search needs
 
--- src/bounds.rt:18:6
 add-result : tie.Need-add-result
 add-result c = search needs
 
--- src/bounds.rt:18:6
 add-result-2 : tie.Need-add-result-2
 add-result-2 c = search needs
 
--- src/bounds.rt:14:1
 returns : tie.Need-returns
 unfolding bookPages
 returns c = refl

@@ -8,20 +8,16 @@ use Rattle.pool.proofs.bounds.entry.Lts as lts
 use Rattle.pool.proofs.bounds.book_of.Reads as book-of-reads
 use Rattle.word.proofs.read_among.Reads as read-among-reads
 
--- src/bounds.rt:70:9
 returns : tie.Need-returns
 unfolding entryOf
 returns c = simp (lt-leb _ _ (c .if1 .taken))
 
--- src/bounds.rt:76:9
 book-of-requires : tie.Need-book-of-requires
 book-of-requires c κs = search needs
 
--- src/bounds.rt:72:5
 read-among-requires : tie.Need-read-among-requires
 read-among-requires c κs = search needs
 
--- src/bounds.rt:66:1
 returns-2 : tie.Need-returns-2
 unfolding entryOf
 returns-2 c = simp (le-leb _ _ (c .before .before .if1 .left), c .read-among .ensures, c .before .book-of .ensures)

@@ -9,47 +9,37 @@ use Rattle.pool.proofs.bounds.among.Reads as among-reads
 use Rattle.pool.proofs.bounds.book_of.Reads as book-of-reads
 use Rattle.pool.proofs.bounds.lies.Reads as lies-reads
 
--- src/bounds.rt:76:9
 among-requires : tie.Need-among-requires
 among-requires c κs = search needs
 
--- src/bounds.rt:76:9
 returns : tie.Need-returns
 returns c = search needs
 
--- src/bounds.rt:78:22
 book-of-requires : tie.Need-book-of-requires
 book-of-requires c κs = search needs
 
--- src/bounds.rt:78:22
 add-if2 : tie.Need-add-if2
 unfolding bookPages
 add-if2 c = omega (arith, c .book-of .ensures)
 
--- src/bounds.rt:79:9
 among-requires-2 : tie.Need-among-requires-2
 among-requires-2 c κs = search needs
 
--- src/bounds.rt:79:9
 returns-2 : tie.Need-returns-2
 returns-2 c = search needs
 
--- src/bounds.rt:82:9
 sub-if3 : tie.Need-sub-if3
 sub-if3 c = search needs
 
 among-requires-3 : tie.Need-among-requires-3
 among-requires-3 c κs = search needs
 
--- src/bounds.rt:82:9
 returns-3 : tie.Need-returns-3
 returns-3 c = search needs
 
--- src/bounds.rt:84:5
 lies-requires : tie.Need-lies-requires
 lies-requires c κs = record { low = omega (arith, c .if3 .left, c .before .before .before .if2 .left, c .before .before .before .before .before .book-of .ensures); small = c .before .before .before .before .before .before .if1 .left; enough = omega (arith, c .before .before .before .if2 .left, c .before .before .before .before .before .book-of .ensures) }
 
--- src/bounds.rt:72:1
 returns-4 : tie.Need-returns-4
 returns-4 c = search needs
 

@@ -9,27 +9,21 @@ use Rattle.pool.proofs.bounds.lies.Lts as lts
 use Rattle.pool.proofs.bounds.book_of.Reads as book-of-reads
 use Rattle.std.proofs.num.wrapping_sub_u64.Reads as wrapping-sub-u64-reads
 
--- src/bounds.rt:44:9
 book-of-requires : tie.Need-book-of-requires
 book-of-requires c κs = search needs
 
--- src/bounds.rt:45:48
 add-wrapping-sub-u64 : tie.Need-add-wrapping-sub-u64
 add-wrapping-sub-u64 c = search needs
 
--- src/bounds.rt:45:9
 wrapping-sub-u64-requires : tie.Need-wrapping-sub-u64-requires
 wrapping-sub-u64-requires c κs = search needs
 
--- src/bounds.rt:46:17
 sub-if1 : tie.Need-sub-if1
 sub-if1 c = search needs
 
--- src/bounds.rt:47:9
 returns : tie.Need-returns
 returns c = sym (in-pool _ _ (record { behind = omega (arith, c .before .before .wrapping-sub-u64 .ensures, c .before .before .before .before .book-of .ensures, c .before .before .before .before .before .pre .low, c .before .before .before .before .before .pre .small, c .before .before .before .before .before .pre .enough); before-end = omega (arith, c .before .before .wrapping-sub-u64 .ensures, c .before .before .before .before .book-of .ensures, c .before .before .before .before .before .pre .low, c .before .before .before .before .before .pre .small, c .before .before .before .before .before .pre .enough) }))
 
--- src/bounds.rt:40:1
 returns-2 : tie.Need-returns-2
 returns-2 c = sym (not-in-pool _ _ (λ k. omega (arith, c .before .before .wrapping-sub-u64 .ensures, c .before .before .before .before .book-of .ensures, c .before .before .before .before .before .pre .low, c .before .before .before .before .before .pre .small, c .before .before .before .before .before .pre .enough, k .behind, k .before-end)))
 

@@ -9,24 +9,19 @@ use Rattle.pool.proofs.bounds.set_entry.Lts as lts
 use Rattle.pool.proofs.bounds.book_of.Reads as book-of-reads
 use Rattle.word.proofs.write_among.Reads as write-among-reads
 
--- src/bounds.rt:89:9
 returns : tie.Need-returns
 unfolding entryWrites
 returns c = simp (lt-leb _ _ (c .if1 .taken)) (wrote-none _ _ _)
 
--- src/bounds.rt:96:9
 book-of-requires : tie.Need-book-of-requires
 book-of-requires c κs = search needs
 
--- src/bounds.rt:91:5
 write-among-requires : tie.Need-write-among-requires
 write-among-requires c κs = search needs
 
--- src/bounds.rt:85:1
 same-length : tie.Need-same-length
 same-length c = search needs
 
--- src/bounds.rt:85:1
 returns-2 : tie.Need-returns-2
 unfolding entryWrites
 returns-2 c = simp (le-leb _ _ (c .before .before .before .before .before .before .if1 .left)) (rw (← c .before .before .before .book-of .ensures) (c .before .before .write-among .ensures))

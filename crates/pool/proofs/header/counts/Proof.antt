@@ -9,20 +9,16 @@ use Rattle.pool.proofs.header.counts.Lts as lts
 use Rattle.pool.proofs.header.book_now.Reads as book-now-reads
 use Rattle.pool.proofs.sound.Reads as sound-reads
 
--- src/header.rt
 book-now-requires : tie.Need-book-now-requires
 book-now-requires c κs = search needs
 
--- src/header.rt
 sound-requires : tie.Need-sound-requires
 sound-requires c κs = search needs
 
--- src/header.rt
 returns : tie.Need-returns
 unfolding countsOf
 returns c = λ f. rw (← (c .before .before .book-now .ensures ∙ now-is _ _ f)) (simp (sym (c .before .sound .ensures) ∙ c .if1 .taken))
 
--- src/header.rt
 returns-2 : tie.Need-returns-2
 unfolding countsOf
 returns-2 c = λ f. rw (← (c .before .before .book-now .ensures ∙ now-is _ _ f)) (simp (sym (c .before .sound .ensures) ∙ c .if1 .left))

@@ -8,24 +8,19 @@ use Rattle.pool.proofs.header.get.Reads as reads
 use Rattle.pool.proofs.header.get.Lts as lts
 use Rattle.word.proofs.read_among.Reads as read-among-reads
 
--- src/header.rt:30:9
 read-among-requires : tie.Need-read-among-requires
 read-among-requires c κs = search needs
 
--- src/header.rt:40:20
 enum-known-c : tie.Need-enum-known-c
 enum-known-c c = search needs
 
--- src/header.rt:41:26
 enum-told : tie.Need-enum-told
 enum-told c = search needs
 
--- src/header.rt:26:1
 returns : tie.Need-returns
 unfolding wordNow wordIn
 returns c = (λ f. head-is _ (c .before .before .before .before .before .args .space) _ _ (sym (c .before .before .before .read-among .ensures) ∙ c .before .c .given .1), rw (sym (c .before .before .before .read-among .ensures) ∙ c .before .c .given .1))
 
--- src/header.rt:26:1
 returns-2 : tie.Need-returns-2
 unfolding wordNow wordIn
 returns-2 c = (λ f. absurd (head-out _ (c .before .before .before .before .args .space) _ (c .before .before .before .before .pre) (sym (c .before .before .read-among .ensures) ∙ c .enum-told .given .1) f), rw (sym (c .before .before .read-among .ensures) ∙ c .enum-told .given .1))

@@ -9,34 +9,27 @@ use Rattle.pool.proofs.header.headed.Reads as reads
 use Rattle.pool.proofs.header.headed.Lts as lts
 use Rattle.pool.proofs.header.get.Reads as get-reads
 
--- src/header.rt:49:8
 get-requires : tie.Need-get-requires
 get-requires c κs = search needs
 
--- src/header.rt:50:9
 returns : tie.Need-returns
 unfolding headedOf markAt
 returns c = λ f. rw (← c .before .get .ensures .0 f) (simp (ne-eqb _ _ (c .if1 .taken)))
 
--- src/header.rt:52:8
 get-requires-2 : tie.Need-get-requires-2
 get-requires-2 c κs = search needs
 
--- src/header.rt:53:9
 returns-2 : tie.Need-returns-2
 unfolding headedOf markAt pagesAt
 returns-2 c = λ f. rw (← c .before .before .before .before .get .ensures .0 f, ← c .before .before .get2 .ensures .0 f) (simp (eq-eqb _ _ (c .before .before .before .if1 .left), ne-eqb _ _ (c .if2 .taken)))
 
--- src/header.rt:55:8
 get-requires-3 : tie.Need-get-requires-3
 get-requires-3 c κs = search needs
 
--- src/header.rt:56:9
 returns-3 : tie.Need-returns-3
 unfolding headedOf markAt pagesAt rootAt
 returns-3 c = λ f. rw (← c .before .before .before .before .before .before .before .get .ensures .0 f, ← c .before .before .before .before .before .get2 .ensures .0 f, ← c .before .before .get3 .ensures .0 f) (simp (eq-eqb _ _ (c .before .before .before .before .before .before .if1 .left), eq-eqb _ _ (c .before .before .before .if2 .left), ne-eqb _ _ (c .if3 .taken)))
 
--- src/header.rt:46:1
 returns-4 : tie.Need-returns-4
 unfolding headedOf markAt pagesAt rootAt
 returns-4 c = λ f. rw (← c .before .before .before .before .before .before .before .get .ensures .0 f, ← c .before .before .before .before .before .get2 .ensures .0 f, ← c .before .before .get3 .ensures .0 f) (simp (eq-eqb _ _ (c .before .before .before .before .before .before .if1 .left), eq-eqb _ _ (c .before .before .before .if2 .left), eq-eqb _ _ (c .if3 .left)))

@@ -9,28 +9,22 @@ use Rattle.pool.proofs.header.open.Lts as lts
 use Rattle.pool.proofs.header.counts.Reads as counts-reads
 use Rattle.pool.proofs.header.names.Reads as names-reads
 
--- src/header.rt:107:9
 names-requires : tie.Need-names-requires
 names-requires c κs = search needs
 
--- src/header.rt:109:22
 enum-known-fit : tie.Need-enum-known-fit
 enum-known-fit c = search needs
 
--- src/header.rt:110:22
 enum-told : tie.Need-enum-told
 enum-told c = search needs
 
--- src/header.rt:110:22
 counts-requires : tie.Need-counts-requires
 counts-requires c κs = search needs
 
--- src/header.rt:104:1
 returns : tie.Need-returns
 unfolding openedOf openedIn
 returns c = rw (sym (c .before .before .before .names .ensures) ∙ c .before .fit .given .1)
 
--- src/header.rt:104:1
 returns-2 : tie.Need-returns-2
 unfolding openedOf openedIn
 returns-2 c = let e = sym (c .before .before .before .names .ensures) ∙ c .before .enum-told .given .1 in rw e (c .counts .ensures (names-room _ _ _ e))

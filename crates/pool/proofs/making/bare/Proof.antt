@@ -9,23 +9,18 @@ use Rattle.pool.proofs.making.bare.Lts as lts
 use Rattle.pool.proofs.making.unmark.Reads as unmark-reads
 use Rattle.pool.proofs.put.Reads as put-reads
 
--- src/making.rt:78:5
 put-requires : tie.Need-put-requires
 put-requires c κs = search needs
 
--- src/making.rt:79:37
 add-unmark : tie.Need-add-unmark
 add-unmark c = search needs
 
--- src/making.rt:79:5
 unmark-requires : tie.Need-unmark-requires
 unmark-requires c κs = search needs
 
--- src/making.rt:74:1
 same-length : tie.Need-same-length
 same-length c = search needs
 
--- src/making.rt:74:1
 returns : tie.Need-returns
 unfolding bared markAt
 returns c = wrote-then _ _ _ _ _ _ _ _ _ (c .before .before .before .before .before .before .before .before .put .ensures) (c .before .before .unmark .ensures)

@@ -12,44 +12,34 @@ use Rattle.pool.proofs.book_pages.Reads as book-pages-reads
 use Rattle.pool.proofs.making.lay_out.Reads as lay-out-reads
 use Rattle.pool.proofs.making.may_create.Reads as may-create-reads
 
--- src/making.rt:72:9
 may-create-requires : tie.Need-may-create-requires
 may-create-requires c κs = search needs
 
--- src/making.rt:74:22
 enum-known-fit : tie.Need-enum-known-fit
 enum-known-fit c = search needs
 
--- src/making.rt:76:32
 enum-told : tie.Need-enum-told
 enum-told c = search needs
 
--- src/making.rt:76:32
 book-pages-requires : tie.Need-book-pages-requires
 book-pages-requires c κs = search needs
 
--- src/making.rt:76:24
 add-root : tie.Need-add-root
 add-root c = let f = may-fit _ _ _ _ _ (sym (c .before .before .before .may-create .ensures) ∙ c .before .enum-told .given .1) in omega (arith, fit-small _ _ _ _ f, f .enough, c .book-pages .ensures)
 
--- src/making.rt:83:13
 lay-out-requires : tie.Need-lay-out-requires
 lay-out-requires c κs = rw (c .before .before .book-pages .ensures) (roomy _ _ _ _ (may-fit _ _ _ _ _ (sym (c .before .before .before .before .before .may-create .ensures) ∙ c .before .before .before .enum-told .given .1)))
 
--- src/making.rt:68:1
 same-length : tie.Need-same-length
 same-length c = search needs
 
--- src/making.rt:68:1
 returns : tie.Need-returns
 unfolding createdOf createdIn createWrites createIn
 returns c = let e = sym (c .before .before .before .may-create .ensures) ∙ c .before .fit .given .1 in (rw e, rw e (wrote-none _ _ _))
 
--- src/making.rt:68:1
 same-length-2 : tie.Need-same-length-2
 same-length-2 c = search needs
 
--- src/making.rt:68:1
 returns-2 : tie.Need-returns-2
 unfolding createdOf createdIn createWrites createIn
 returns-2 c = let e = sym (c .before .before .before .before .before .before .before .before .may-create .ensures) ∙ c .before .before .before .before .before .before .enum-told .given .1 in (rw (e, c .before .before .before .before .before .book-pages .ensures), rw (e, ← c .before .before .before .before .before .book-pages .ensures) (c .before .before .lay-out .ensures))

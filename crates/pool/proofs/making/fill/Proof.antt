@@ -18,40 +18,31 @@ Inv-loop mem₀ left₀ space from n j₀ mem left j = (j ≤ n) × Wrote (space
 abbrev μ-loop : tie.MeasureT-loop
 μ-loop mem₀ left₀ space from n j₀ mem left j = n - j
 
--- src/making.rt:36:5
 loop-holds : tie.Need-loop-holds Inv-loop μ-loop
 loop-holds c = (omega arith, wrote-no-word _ _ _ _ _)
 
--- src/making.rt:37:31
 add-put : tie.Need-add-put Inv-loop μ-loop
 add-put c = omega arith
 
--- src/making.rt:37:38
 add-put-2 : tie.Need-add-put-2 Inv-loop μ-loop
 add-put-2 c = omega arith
 
--- src/making.rt:37:9
 put-requires : tie.Need-put-requires Inv-loop μ-loop
 put-requires c κs = tt
 
--- src/making.rt:38:9
 add-j : tie.Need-add-j Inv-loop μ-loop
 add-j c = omega arith
 
--- src/making.rt:36:5
 loop-less : tie.Need-loop-less Inv-loop μ-loop
 loop-less c = omega arith
 
--- src/making.rt:36:5
 loop-again : tie.Need-loop-again Inv-loop μ-loop
 unfolding slotAt
 loop-again c = (omega arith, wrote-word _ _ (λ j. c .before .before .before .before .before .before .before .before .args .from + j) _ _ _ _ _ _ _ (c .before .before .before .before .before .before .loop .inv .1) (c .before .before .put .ensures))
 
--- src/making.rt:31:1
 same-length : tie.Need-same-length Inv-loop μ-loop
 same-length c = length-wrote _ _ _ _ _ _ (c .before .loop .inv .1)
 
--- src/making.rt:31:1
 returns : tie.Need-returns Inv-loop μ-loop
 returns c = let e : c .before .loop .j ≡ c .before .before .before .args .n = omega arith in rw e at (c .before .loop .inv .1)
 

@@ -13,43 +13,33 @@ use Rattle.pool.proofs.making.put_slots.Reads as put-slots-reads
 use Rattle.pool.proofs.put.Reads as put-reads
 use Rattle.word.proofs.clear.Reads as clear-reads
 
--- src/making.rt:108:30
 book-pages-requires : tie.Need-book-pages-requires
 book-pages-requires c κs = search needs
 
--- src/making.rt:108:16
 sub-free : tie.Need-sub-free
 sub-free c = search needs
 
--- src/making.rt:108:16
 sub-free-2 : tie.Need-sub-free-2
 sub-free-2 c = search needs
 
--- src/making.rt:109:5
 bare-requires : tie.Need-bare-requires
 bare-requires c κs = search needs
 
--- src/making.rt:110:5
 put-slots-requires : tie.Need-put-slots-requires
 put-slots-requires c κs = search needs
 
--- src/making.rt:111:5
 put-header-requires : tie.Need-put-header-requires
 put-header-requires c κs = search needs
 
--- src/making.rt:112:5
 clear-requires : tie.Need-clear-requires
 clear-requires c κs = search needs
 
--- src/making.rt:113:5
 put-requires : tie.Need-put-requires
 put-requires c κs = search needs
 
--- src/making.rt:104:1
 same-length : tie.Need-same-length
 same-length c = search needs
 
--- src/making.rt:104:1
 returns : tie.Need-returns
 unfolding layOut markAt
 returns c = rw (← c .before .before .before .before .before .before .before .before .before .before .before .before .before .before .before .before .before .before .before .before .before .before .before .before .before .before .book-pages .ensures) (wrote-then _ _ _ _ _ _ _ _ _ (c .before .before .before .before .before .before .before .before .before .before .before .before .before .before .before .before .before .before .before .before .before .before .bare .ensures) (wrote-then _ _ _ _ _ _ _ _ _ (c .before .before .before .before .before .before .before .before .before .before .before .before .before .before .before .before .before .put-slots .ensures) (wrote-then _ _ _ _ _ _ _ _ _ (c .before .before .before .before .before .before .before .before .before .before .before .before .put-header .ensures) (wrote-then _ _ _ _ _ _ _ _ _ (c .before .before .before .before .before .before .before .clear .ensures) (c .before .before .put .ensures)))))

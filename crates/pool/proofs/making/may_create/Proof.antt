@@ -7,21 +7,17 @@ use Rattle.pool.proofs.making.may_create.Reads as reads
 use Rattle.pool.proofs.making.may_create.Lts as lts
 use Rattle.pool.proofs.room.Reads as room-reads
 
--- src/lib.rt:350:9
 returns : tie.Need-returns
 unfolding mayCreate
 returns c = simp (ne-eqb _ _ (c .if1 .taken))
 
--- src/lib.rt:353:9
 returns-2 : tie.Need-returns-2
 unfolding mayCreate
 returns-2 c = simp (eq-eqb _ _ (c .before .if1 .left), ne-eqb _ _ (c .if2 .taken))
 
--- src/lib.rt:355:5
 room-requires : tie.Need-room-requires
 room-requires c κs = search needs
 
--- src/lib.rt:346:1
 returns-3 : tie.Need-returns-3
 unfolding mayCreate
 returns-3 c = simp (eq-eqb _ _ (c .before .before .if1 .left), eq-eqb _ _ (c .before .if2 .left), c .room .ensures)

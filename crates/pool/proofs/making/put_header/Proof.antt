@@ -9,35 +9,27 @@ use Rattle.pool.proofs.making.put_header.Lts as lts
 use Rattle.pool.proofs.making.blank.Reads as blank-reads
 use Rattle.pool.proofs.put.Reads as put-reads
 
--- src/making.rt:65:5
 put-requires : tie.Need-put-requires
 put-requires c κs = search needs
 
--- src/making.rt:66:5
 put-requires-2 : tie.Need-put-requires-2
 put-requires-2 c κs = search needs
 
--- src/making.rt:67:5
 put-requires-3 : tie.Need-put-requires-3
 put-requires-3 c κs = search needs
 
--- src/making.rt:68:5
 put-requires-4 : tie.Need-put-requires-4
 put-requires-4 c κs = search needs
 
--- src/making.rt:69:39
 sub-blank : tie.Need-sub-blank
 sub-blank c = search needs
 
--- src/making.rt:69:5
 blank-requires : tie.Need-blank-requires
 blank-requires c κs = search needs
 
--- src/making.rt:62:1
 same-length : tie.Need-same-length
 same-length c = search needs
 
--- src/making.rt:62:1
 returns : tie.Need-returns
 unfolding header pagesAt rootAt ticketsAt freeAt asideAt headerWords
 returns c = wrote-then _ _ _ _ _ _ _ _ _ (c .before .before .before .before .before .before .before .before .before .before .before .before .before .before .before .before .before .before .before .before .before .before .put .ensures) (wrote-then _ _ _ _ _ _ _ _ _ (c .before .before .before .before .before .before .before .before .before .before .before .before .before .before .before .before .before .put2 .ensures) (wrote-then _ _ _ _ _ _ _ _ _ (c .before .before .before .before .before .before .before .before .before .before .before .before .put3 .ensures) (wrote-then _ _ _ _ _ _ _ _ _ (c .before .before .before .before .before .before .before .put4 .ensures) (c .before .before .blank .ensures))))

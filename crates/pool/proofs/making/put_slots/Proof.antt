@@ -9,35 +9,27 @@ use Rattle.pool.proofs.making.put_slots.Lts as lts
 use Rattle.pool.proofs.making.blank.Reads as blank-reads
 use Rattle.pool.proofs.making.fill.Reads as fill-reads
 
--- src/making.rt:87:28
 add-fill : tie.Need-add-fill
 add-fill c = search needs
 
--- src/making.rt:87:5
 fill-requires : tie.Need-fill-requires
 fill-requires c κs = search needs
 
--- src/making.rt:88:29
 add-blank : tie.Need-add-blank
 add-blank c = search needs
 
--- src/making.rt:88:41
 mul-blank : tie.Need-mul-blank
 mul-blank c = search needs
 
--- src/making.rt:88:41
 sub-blank : tie.Need-sub-blank
 sub-blank c = search needs
 
--- src/making.rt:88:5
 blank-requires : tie.Need-blank-requires
 blank-requires c κs = search needs
 
--- src/making.rt:83:1
 same-length : tie.Need-same-length
 same-length c = search needs
 
--- src/making.rt:83:1
 returns : tie.Need-returns
 unfolding slots headerWords slotAt
 returns c = wrote-then _ _ _ _ _ _ _ _ _ (c .before .before .before .before .before .before .before .before .fill .ensures) (c .before .before .blank .ensures)

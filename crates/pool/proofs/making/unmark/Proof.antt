@@ -17,35 +17,27 @@ Inv-loop mem₀ left₀ origin p n j₀ mem left j = (j ≤ n) × Wrote origin (
 abbrev μ-loop : tie.MeasureT-loop
 μ-loop mem₀ left₀ origin p n j₀ mem left j = n - j
 
--- src/making.rt:67:5
 loop-holds : tie.Need-loop-holds Inv-loop μ-loop
 loop-holds c = (omega arith, wrote-no-mark _ _ _ _)
 
--- src/making.rt:68:40
 add-write : tie.Need-add-write Inv-loop μ-loop
 add-write c = omega arith
 
--- src/making.rt:68:9
 write-requires : tie.Need-write-requires Inv-loop μ-loop
 write-requires c κs = tt
 
--- src/making.rt:69:9
 add-j : tie.Need-add-j Inv-loop μ-loop
 add-j c = omega arith
 
--- src/making.rt:67:5
 loop-less : tie.Need-loop-less Inv-loop μ-loop
 loop-less c = omega arith
 
--- src/making.rt:67:5
 loop-again : tie.Need-loop-again Inv-loop μ-loop
 loop-again c = (omega arith, wrote-mark _ _ _ _ _ _ _ _ _ (c .before .before .before .before .before .before .loop .inv .1) (c .before .before .write .ensures))
 
--- src/making.rt:62:1
 same-length : tie.Need-same-length Inv-loop μ-loop
 same-length c = length-wrote _ _ _ _ _ _ (c .before .loop .inv .1)
 
--- src/making.rt:62:1
 returns : tie.Need-returns Inv-loop μ-loop
 returns c = let e : c .before .loop .j ≡ c .before .before .before .args .n = omega arith in rw e at (c .before .loop .inv .1)
 

@@ -7,31 +7,24 @@ use Rattle.pool.proofs.moment.counted.Lts as lts
 use Rattle.pool.proofs.book_pages.Reads as book-pages-reads
 use Rattle.pool.proofs.ticket.Reads as ticket-reads
 
--- src/moment.rt:72:31
 book-pages-requires : tie.Need-book-pages-requires
 book-pages-requires c κs = search needs
 
--- src/moment.rt:72:17
 sub-t4 : tie.Need-sub-t4
 sub-t4 c = search needs
 
--- src/moment.rt:72:17
 sub-t5 : tie.Need-sub-t5
 sub-t5 c = search needs
 
--- src/moment.rt:72:17
 sub-t6 : tie.Need-sub-t6
 sub-t6 c = search needs
 
--- src/moment.rt:72:17
 sub-t7 : tie.Need-sub-t7
 sub-t7 c = search needs
 
--- src/moment.rt:73:17
 ticket-requires : tie.Need-ticket-requires
 ticket-requires c κs = search needs
 
--- src/moment.rt:64:1
 returns : tie.Need-returns
 unfolding countsOf
 returns c = rw (c .before .before .before .before .book-pages .ensures, c .ticket .ensures)

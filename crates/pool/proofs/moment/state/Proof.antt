@@ -9,28 +9,22 @@ use Rattle.pool.proofs.moment.state.Lts as lts
 use Rattle.pool.proofs.moment.counted.Reads as counted-reads
 use Rattle.pool.proofs.open.Reads as open-reads
 
--- src/moment.rt:81:9
 open-requires : tie.Need-open-requires
 open-requires c κs = search needs
 
--- src/moment.rt:83:25
 enum-known-o : tie.Need-enum-known-o
 enum-known-o c = search needs
 
--- src/moment.rt:84:22
 enum-known-o-2 : tie.Need-enum-known-o-2
 enum-known-o-2 c = search needs
 
--- src/moment.rt:84:43
 counted-requires : tie.Need-counted-requires
 counted-requires c κs = open-shows _ _ _ _ (sym (c .before .before .before .«open» .ensures) ∙ c .before .o2 .given .1) .sound
 
--- src/moment.rt:78:1
 returns : tie.Need-returns
 unfolding stateOf statedOf
 returns c = rw (sym (c .before .before .before .«open» .ensures) ∙ c .before .o .given .1)
 
--- src/moment.rt:78:1
 returns-2 : tie.Need-returns-2
 unfolding stateOf statedOf
 returns-2 c = rw (sym (c .before .before .before .before .«open» .ensures) ∙ c .before .before .o2 .given .1, c .counted .ensures)

@@ -11,35 +11,27 @@ use Rattle.word.proofs.run.read_among.Lts as lts
 use Rattle.word.proofs.load.Reads as load-reads
 use Rattle.word.proofs.run.among.Reads as among-reads
 
--- src/run.rt:52:8
 among-requires : tie.Need-among-requires
 among-requires c κs = search needs
 
--- src/run.rt:53:38
 mul-load : tie.Need-mul-load
 mul-load c = let a = is-among _ _ _ _ (c .before .before .before .args .kept) (c .before .before .before .args .p) (c .before .before .before .args .i) (sym (c .before .among .ensures) ∙ c .if1 .taken) in let o = offset _ _ _ _ (among-holds _ _ _ _ _ _ _ a) (a .small) in omega (arith, o .product)
 
--- src/run.rt:53:38
 sub-load : tie.Need-sub-load
 sub-load c = let a = is-among _ _ _ _ (c .before .before .before .args .kept) (c .before .before .before .args .p) (c .before .before .before .args .i) (sym (c .before .among .ensures) ∙ c .if1 .taken) in let o = offset _ _ _ _ (among-holds _ _ _ _ _ _ _ a) (a .small) in o .above
 
--- src/run.rt:53:58
 mul-load-2 : tie.Need-mul-load-2
 mul-load-2 c = let a = is-among _ _ _ _ (c .before .before .before .args .kept) (c .before .before .before .args .p) (c .before .before .before .args .i) (sym (c .before .among .ensures) ∙ c .if1 .taken) in let o = offset _ _ _ _ (among-holds _ _ _ _ _ _ _ a) (a .small) in omega (arith, a .small)
 
--- src/run.rt:53:38
 add-load : tie.Need-add-load
 add-load c = let a = is-among _ _ _ _ (c .before .before .before .args .kept) (c .before .before .before .args .p) (c .before .before .before .args .i) (sym (c .before .among .ensures) ∙ c .if1 .taken) in let o = offset _ _ _ _ (among-holds _ _ _ _ _ _ _ a) (a .small) in omega (arith, o .fits)
 
--- src/run.rt:53:27
 load-requires : tie.Need-load-requires
 load-requires c κs = let a = is-among _ _ _ _ (c .before .before .before .args .kept) (c .before .before .before .args .p) (c .before .before .before .args .i) (sym (c .before .among .ensures) ∙ c .if1 .taken) in let o = offset _ _ _ _ (among-holds _ _ _ _ _ _ _ a) (a .small) in omega (arith, o .fits)
 
--- src/run.rt:53:9
 returns : tie.Need-returns
 returns c = let a = is-among _ _ _ _ (c .before .before .before .before .args .kept) (c .before .before .before .before .args .p) (c .before .before .before .before .args .i) (sym (c .before .before .among .ensures) ∙ c .before .if1 .taken) in let o = offset _ _ _ _ (among-holds _ _ _ _ _ _ _ a) (a .small) in rw (c .load .ensures, o .same, sym (memory-in _ _ _ (held-lies _ _ _ _ (held _ _ _ (among-holds _ _ _ _ _ _ _ a)) (a .small)))) (among-word _ _ _ _ _ _ _ a)
 
--- src/run.rt:41:1
 returns-2 : tie.Need-returns-2
 unfolding amongOf
 returns-2 c = simp (sym (c .before .among .ensures) ∙ c .if1 .left)

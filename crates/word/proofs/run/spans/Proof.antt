@@ -7,35 +7,27 @@ use Rattle.word.proofs.run.spans.Tie as tie
 use Rattle.word.proofs.run.spans.Reads as reads
 use Rattle.word.proofs.run.spans.Lts as lts
 
--- src/run.rt:13:9
 returns : tie.Need-returns
 returns c = sym (no-run _ _ _ _ (λ r. omega (arith, r .end, c .if1 .taken)))
 
--- src/run.rt:16:9
 returns-2 : tie.Need-returns-2
 returns-2 c = sym (no-run _ _ _ _ (λ r. omega (arith, r .end, c .if2 .taken)))
 
--- src/run.rt:18:8
 mul-if3 : tie.Need-mul-if3
 mul-if3 c = search needs
 
--- src/run.rt:19:9
 returns-3 : tie.Need-returns-3
 returns-3 c = sym (no-run _ _ _ _ (λ r. omega (arith, r .from, c .if3 .taken)))
 
--- src/run.rt:21:6
 add-result : tie.Need-add-result
 add-result c = search needs
 
--- src/run.rt:21:5
 mul-result : tie.Need-mul-result
 mul-result c = search needs
 
--- src/run.rt:21:5
 sub-result : tie.Need-sub-result
 sub-result c = search needs
 
--- src/run.rt:9:1
 returns-4 : tie.Need-returns-4
 returns-4 c = spans-last _ _ _ _ (omega (arith, c .before .if2 .left)) (omega (arith, c .if3 .left))
 

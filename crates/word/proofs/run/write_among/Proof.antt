@@ -11,55 +11,42 @@ use Rattle.word.proofs.run.among.Reads as among-reads
 use Rattle.word.proofs.spend.Reads as spend-reads
 use Rattle.word.proofs.store.Reads as store-reads
 
--- src/run.rt:74:8
 among-requires : tie.Need-among-requires
 among-requires c κs = search needs
 
--- src/run.rt:75:12
 spend-requires : tie.Need-spend-requires
 spend-requires c κs = search needs
 
--- src/run.rt:76:25
 mul-store : tie.Need-mul-store
 mul-store c = omega (arith, among-offset _ _ _ _ (c .before .before .before .before .before .before .before .before .args .kept) _ (c .before .before .before .before .before .before .before .before .args .i) (sym (c .before .before .before .before .before .among .ensures) ∙ c .before .before .before .before .if1 .taken) .product)
 
--- src/run.rt:76:25
 sub-store : tie.Need-sub-store
 sub-store c = among-offset _ _ _ _ (c .before .before .before .before .before .before .before .before .args .kept) _ (c .before .before .before .before .before .before .before .before .args .i) (sym (c .before .before .before .before .before .among .ensures) ∙ c .before .before .before .before .if1 .taken) .above
 
--- src/run.rt:76:45
 mul-store-2 : tie.Need-mul-store-2
 mul-store-2 c = omega (arith, among-index _ _ _ _ (c .before .before .before .before .before .before .before .before .args .kept) (c .before .before .before .before .before .before .before .before .args .p) (c .before .before .before .before .before .before .before .before .args .i) (sym (c .before .before .before .before .before .among .ensures) ∙ c .before .before .before .before .if1 .taken))
 
--- src/run.rt:76:25
 add-store : tie.Need-add-store
 add-store c = omega (arith, among-offset _ _ _ _ (c .before .before .before .before .before .before .before .before .args .kept) _ (c .before .before .before .before .before .before .before .before .args .i) (sym (c .before .before .before .before .before .among .ensures) ∙ c .before .before .before .before .if1 .taken) .fits)
 
--- src/run.rt:76:13
 store-requires : tie.Need-store-requires
 store-requires c κs = among-offset _ _ _ _ (c .before .before .before .before .before .before .before .before .args .kept) _ (c .before .before .before .before .before .before .before .before .args .i) (sym (c .before .before .before .before .before .among .ensures) ∙ c .before .before .before .before .if1 .taken) .fits
 
--- src/run.rt:61:1
 same-length : tie.Need-same-length
 same-length c = search needs
 
--- src/run.rt:61:1
 returns : tie.Need-returns
 returns c = let e = sym (c .before .before .before .before .before .before .before .before .among .ensures) ∙ c .before .before .before .before .before .before .before .if1 .taken in rw (one-among _ _ _ _ _ _ _ (c .before .before .before .before .before .before .before .before .before .before .before .args .w) e) (wrote-one _ _ _ _ _ _ _ _ (sym (c .before .before .before .before .before .spend .ensures .0) ∙ c .before .before .before .before .if2 .taken) (c .before .before .before .before .before .spend .ensures .1) (c .before .before .store .ensures ∙ among-written _ _ _ _ _ _ _ _ e))
 
--- src/run.rt:61:1
 same-length-2 : tie.Need-same-length-2
 same-length-2 c = search needs
 
--- src/run.rt:61:1
 returns-2 : tie.Need-returns-2
 returns-2 c = rw (one-among _ _ _ _ _ _ _ (c .before .before .before .before .before .before .before .args .w) (sym (c .before .before .before .before .among .ensures) ∙ c .before .before .before .if1 .taken)) (wrote-stopped _ _ _ _ _ _ _ (sym (c .before .spend .ensures .0) ∙ c .if2 .left) (c .before .spend .ensures .1))
 
--- src/run.rt:61:1
 same-length-3 : tie.Need-same-length-3
 same-length-3 c = search needs
 
--- src/run.rt:61:1
 returns-3 : tie.Need-returns-3
 returns-3 c = rw (none-among _ _ _ _ _ _ _ (c .before .before .before .before .args .w) (sym (c .before .among .ensures) ∙ c .if1 .left)) (wrote-none _ _ _)
 

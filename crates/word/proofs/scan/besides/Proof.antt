@@ -11,71 +11,54 @@ use Rattle.word.proofs.inside.Reads as inside-reads
 use Rattle.word.proofs.scan.each.Reads as each-reads
 use Rattle.word.proofs.scan.eights.Reads as eights-reads
 
--- src/scan.rt:75:8
 inside-requires : tie.Need-inside-requires
 inside-requires c κs = search needs
 
--- src/scan.rt:77:13
 eights-requires : tie.Need-eights-requires
 eights-requires c κs = ((sym (c .before .before .inside .ensures) ∙ c .before .if1 .taken), omega arith)
 
--- src/scan.rt:77:13
 returns : tie.Need-returns
 returns c = c .eights .ensures ∙ sym (besides-before _ _ _ _ (sym (c .before .before .before .inside .ensures) ∙ c .before .before .if1 .taken) 512 (c .before .if2 .taken))
 
--- src/scan.rt:80:12
 eights-requires-2 : tie.Need-eights-requires-2
 eights-requires-2 c κs = ((sym (c .before .before .inside .ensures) ∙ c .before .if1 .taken), omega arith)
 
--- src/scan.rt:81:13
 returns-2 : tie.Need-returns-2
 returns-2 c = sym (besides-eights _ _ _ _ (sym (c .before .before .before .before .inside .ensures) ∙ c .before .before .before .if1 .taken) (c .before .before .if2 .left) true _ _ _ (sym (c .if3 .taken) ∙ c .before .eights2 .ensures) refl refl refl)
 
--- src/scan.rt:83:33
 mul-each : tie.Need-mul-each
 mul-each c = search needs
 
--- src/scan.rt:83:12
 each-requires : tie.Need-each-requires
 each-requires c κs = ((sym (c .before .before .before .before .inside .ensures) ∙ c .before .before .before .if1 .taken), omega arith)
 
--- src/scan.rt:84:13
 returns-3 : tie.Need-returns-3
 returns-3 c = sym (besides-eights _ _ _ _ (sym (c .before .before .before .before .before .before .inside .ensures) ∙ c .before .before .before .before .before .if1 .taken) (c .before .before .before .before .if2 .left) false true _ _ (sym (c .before .before .if3 .left) ∙ c .before .before .before .eights2 .ensures) (sym (c .if4 .taken) ∙ c .before .each .ensures) refl refl)
 
--- src/scan.rt:86:33
 add-each : tie.Need-add-each
 add-each c = search needs
 
--- src/scan.rt:86:40
 mul-each-2 : tie.Need-mul-each-2
 mul-each-2 c = search needs
 
--- src/scan.rt:86:40
 add-each-2 : tie.Need-add-each-2
 add-each-2 c = search needs
 
--- src/scan.rt:86:12
 each-requires-2 : tie.Need-each-requires-2
 each-requires-2 c κs = ((sym (c .before .before .before .before .before .before .inside .ensures) ∙ c .before .before .before .before .before .if1 .taken), omega arith)
 
--- src/scan.rt:87:13
 returns-4 : tie.Need-returns-4
 returns-4 c = sym (besides-eights _ _ _ _ (sym (c .before .before .before .before .before .before .before .before .inside .ensures) ∙ c .before .before .before .before .before .before .before .if1 .taken) (c .before .before .before .before .before .before .if2 .left) false false true _ (sym (c .before .before .before .before .if3 .left) ∙ c .before .before .before .before .before .eights2 .ensures) (sym (c .before .before .if4 .left) ∙ c .before .before .before .each .ensures) (sym (c .if5 .taken) ∙ c .before .each2 .ensures) refl)
 
--- src/scan.rt:89:39
 add-eights : tie.Need-add-eights
 add-eights c = search needs
 
--- src/scan.rt:89:9
 eights-requires-3 : tie.Need-eights-requires-3
 eights-requires-3 c κs = ((sym (c .before .before .before .before .before .before .before .before .inside .ensures) ∙ c .before .before .before .before .before .before .before .if1 .taken), omega arith)
 
--- src/scan.rt:89:9
 returns-5 : tie.Need-returns-5
 returns-5 c = sym (besides-eights _ _ _ _ (sym (c .before .before .before .before .before .before .before .before .before .inside .ensures) ∙ c .before .before .before .before .before .before .before .before .if1 .taken) (c .before .before .before .before .before .before .before .if2 .left) false false false _ (sym (c .before .before .before .before .before .if3 .left) ∙ c .before .before .before .before .before .before .eights2 .ensures) (sym (c .before .before .before .if4 .left) ∙ c .before .before .before .before .each .ensures) (sym (c .before .if5 .left) ∙ c .before .before .each2 .ensures) (c .eights3 .ensures))
 
--- src/scan.rt:72:1
 returns-6 : tie.Need-returns-6
 returns-6 c = sym (besides-outside _ _ _ _ 512 (sym (c .before .inside .ensures) ∙ c .if1 .left))
 

@@ -17,35 +17,27 @@ Inv-loop mem origin p from to k₀ k = oddOf (memory mem origin) p from (to - fr
 abbrev μ-loop : tie.MeasureT-loop
 μ-loop mem origin p from to k₀ k = to - k
 
--- src/scan.rt:56:5
 loop-holds : tie.Need-loop-holds Inv-loop μ-loop
 loop-holds c = refl
 
--- src/scan.rt:57:19
 word-requires : tie.Need-word-requires Inv-loop μ-loop
 word-requires c κs = (c .before .before .before .pre .0, omega (arith, c .before .before .before .pre .1))
 
--- src/scan.rt:57:12
 is-odd-requires : tie.Need-is-odd-requires Inv-loop μ-loop
 is-odd-requires c κs = tt
 
--- src/scan.rt:58:13
 returns : tie.Need-returns Inv-loop μ-loop
 returns c = sym (c .before .before .before .before .loop .inv ∙ (odd-part _ _ _ _ 1 (omega arith) ∙ rw (odd-one _ _ _, sym (c .before .before .word .ensures), sym (c .before .is-odd .ensures), c .if1 .taken)))
 
--- src/scan.rt:60:9
 add-k : tie.Need-add-k Inv-loop μ-loop
 add-k c = omega (arith, c .before .before .before .before .before .before .pre .1)
 
--- src/scan.rt:56:5
 loop-less : tie.Need-loop-less Inv-loop μ-loop
 loop-less c = omega arith
 
--- src/scan.rt:56:5
 loop-again : tie.Need-loop-again Inv-loop μ-loop
 loop-again c = c .before .before .before .before .loop .inv ∙ (odd-part _ _ _ _ 1 (omega arith) ∙ rw (odd-one _ _ _, sym (c .before .before .word .ensures), sym (c .before .is-odd .ensures), c .if1 .left))
 
--- src/scan.rt:51:1
 returns-2 : tie.Need-returns-2 Inv-loop μ-loop
 returns-2 c = let z = c .before .loop .inv in let y : c .before .before .before .args .to - c .before .loop .k ≡ 0 = omega arith in sym (z ∙ rw y (odd-none _ _ _))
 

@@ -17,39 +17,30 @@ Inv-loop mem origin p from to k₀ k = oddOf (memory mem origin) p (8 * from) (8
 abbrev μ-loop : tie.MeasureT-loop
 μ-loop mem origin p from to k₀ k = to - k
 
--- src/scan.rt:71:5
 loop-holds : tie.Need-loop-holds Inv-loop μ-loop
 loop-holds c = refl
 
--- src/scan.rt:72:41
 mul-eight : tie.Need-mul-eight Inv-loop μ-loop
 mul-eight c = omega (arith, c .before .before .before .pre .1)
 
--- src/scan.rt:72:19
 eight-requires : tie.Need-eight-requires Inv-loop μ-loop
 eight-requires c κs = (c .before .before .before .pre .0, omega (arith, c .before .before .before .pre .1))
 
--- src/scan.rt:72:12
 is-odd-requires : tie.Need-is-odd-requires Inv-loop μ-loop
 is-odd-requires c κs = tt
 
--- src/scan.rt:73:13
 returns : tie.Need-returns Inv-loop μ-loop
 returns c = sym (c .before .before .before .before .loop .inv ∙ (odd-eights _ _ _ _ (omega arith) ∙ rw (sym (c .before .before .eight .ensures), sym (c .before .is-odd .ensures), c .if1 .taken)))
 
--- src/scan.rt:75:9
 add-k : tie.Need-add-k Inv-loop μ-loop
 add-k c = omega (arith, c .before .before .before .before .before .before .pre .1)
 
--- src/scan.rt:71:5
 loop-less : tie.Need-loop-less Inv-loop μ-loop
 loop-less c = omega arith
 
--- src/scan.rt:71:5
 loop-again : tie.Need-loop-again Inv-loop μ-loop
 loop-again c = c .before .before .before .before .loop .inv ∙ (odd-eights _ _ _ _ (omega arith) ∙ rw (sym (c .before .before .eight .ensures), sym (c .before .is-odd .ensures), c .if1 .left))
 
--- src/scan.rt:66:1
 returns-2 : tie.Need-returns-2 Inv-loop μ-loop
 returns-2 c = let z = c .before .loop .inv in let y : 8 * (c .before .before .before .args .to - c .before .loop .k) ≡ 0 = omega arith in sym (z ∙ rw y (odd-none _ _ _))
 

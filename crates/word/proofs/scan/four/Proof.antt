@@ -7,19 +7,15 @@ use Rattle.word.proofs.scan.four.Reads as reads
 use Rattle.word.proofs.scan.four.Lts as lts
 use Rattle.word.proofs.scan.two.Reads as two-reads
 
--- src/scan.rt:30:5
 two-requires : tie.Need-two-requires
 two-requires c κs = search needs
 
--- src/scan.rt:30:50
 add-two : tie.Need-add-two
 add-two c = search needs
 
--- src/scan.rt:30:30
 two-requires-2 : tie.Need-two-requires-2
 two-requires-2 c κs = search needs
 
--- src/scan.rt:26:1
 returns : tie.Need-returns
 returns c = odd-or (c .before .two .result) (c .two2 .result) ∙ (rw (c .before .two .ensures, c .two2 .ensures) (sym (odd-join _ _ _ 2 2)))
 

@@ -5,11 +5,9 @@ use Rattle.word.proofs.scan.is_odd.Tie as tie
 use Rattle.word.proofs.scan.is_odd.Reads as reads
 use Rattle.word.proofs.scan.is_odd.Lts as lts
 
--- src/scan.rt:15:9
 returns : tie.Need-returns
 returns c = sym (odd-zero _ (c .if1 .taken))
 
--- src/scan.rt:11:1
 returns-2 : tie.Need-returns-2
 returns-2 c = sym (odd-test _ _ refl)
 

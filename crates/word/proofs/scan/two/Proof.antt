@@ -7,19 +7,15 @@ use Rattle.word.proofs.scan.two.Reads as reads
 use Rattle.word.proofs.scan.two.Lts as lts
 use Rattle.word.proofs.scan.word.Reads as word-reads
 
--- src/scan.rt:23:5
 word-requires : tie.Need-word-requires
 word-requires c κs = search needs
 
--- src/scan.rt:23:52
 add-word : tie.Need-add-word
 add-word c = search needs
 
--- src/scan.rt:23:31
 word-requires-2 : tie.Need-word-requires-2
 word-requires-2 c κs = search needs
 
--- src/scan.rt:19:1
 returns : tie.Need-returns
 returns c = odd-or (c .before .word .result) (c .word2 .result) ∙ (rw (c .before .word .ensures, c .word2 .ensures) (sym (odd-join _ _ _ 1 1 ∙ rw (odd-one, odd-one))))
 

@@ -8,27 +8,21 @@ use Rattle.word.proofs.scan.word.Reads as reads
 use Rattle.word.proofs.scan.word.Lts as lts
 use Rattle.word.proofs.load.Reads as load-reads
 
--- src/lib.rt:84:16
 mul-load : tie.Need-mul-load
 mul-load c = omega (arith, offset _ _ _ _ (c .before .pre .0) (c .before .pre .1) .product)
 
--- src/lib.rt:84:16
 sub-load : tie.Need-sub-load
 sub-load c = offset _ _ _ _ (c .before .pre .0) (c .before .pre .1) .above
 
--- src/lib.rt:84:36
 mul-load-2 : tie.Need-mul-load-2
 mul-load-2 c = search needs
 
--- src/lib.rt:84:16
 add-load : tie.Need-add-load
 add-load c = omega (arith, offset _ _ _ _ (c .before .pre .0) (c .before .pre .1) .fits)
 
--- src/lib.rt:84:5
 load-requires : tie.Need-load-requires
 load-requires c κs = offset _ _ _ _ (c .before .pre .0) (c .before .pre .1) .fits
 
--- src/lib.rt:80:1
 returns : tie.Need-returns
 returns c = simp (c .load .ensures, offset _ _ _ _ (c .before .before .pre .0) (c .before .before .pre .1) .same, memory-in _ _ _ (held-lies _ _ _ _ (held _ _ _ (c .before .before .pre .0)) (c .before .before .pre .1)))
 

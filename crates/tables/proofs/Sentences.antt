@@ -7,33 +7,18 @@ use native.Mathlib.Omega.{arith}
 use Rattle.word.specs.Memory.{at}
 use Rattle.entry.specs.Entry.{sizeOf, tableOf, everything}
 use Rattle.entry.specs.declared.Rights.{Rights}
-use Rattle.entry.specs.declared.Entry.{Entry}
-use Rattle.entry.specs.declared.Entry.the-variants.{Nothing, Page, Table}
+use Rattle.entry.specs.declared.Entry.the-variants.{Nothing, Table}
 use Rattle.walk.specs.Walk.{indexOf}
 use Rattle.walk.proofs.Digits.{index-lt}
-use Rattle.tables.specs.Roles.{Setting, Role, foreign, free, aside, book, root, table, left, Live, entryAt, Home, Built, Holds, Filled}
-use Rattle.tables.specs.Near.{pick, pick-near, pick-index}
-use Rattle.tables.specs.Way.{Comes, begin, onto, comes-near, comes-left, one-way}
+use Rattle.tables.specs.Roles.{Setting, Role, foreign, free, aside, book, root, table, left, Live, entryAt, Built, Holds, Filled}
+use Rattle.tables.proofs.Near.{pick, pick-near, pick-index}
+use Rattle.tables.specs.Way.{Comes, begin, onto}
+use Rattle.tables.proofs.Way.{comes-near, comes-left, one-way}
 
 module _ {σ : Setting} {m : ℕ → ℕ} {role : ℕ → Role} (b : Built σ m role) where
   -- RESERVED BITS ARE 0: a word of a table that is present, bit 0, is never one at which a walk faults.
   pub present-says : (q l i : ℕ) → Live role q l → i < 512 → m (at q i) % 2 ≡ 1 → entryAt m l q i ≢ Nothing
   present-says q l i h u p e = omega (arith, ap (λ w. w % 2) (b .zeros q l i h u e))
-
-  -- EVERY PRESENT ENTRY of a table that a walk comes to, if it is no page, names a table of the pool.
-  pub present-names : {va l q : ℕ} → Comes σ m va (suc l) q → (i : ℕ) → i < 512 → m (at q i) % 2 ≡ 1 → ((f : ℕ) (g : Rights) → entryAt m l q i ≢ Page f g)
-      → (t : ℕ) × (entryAt m l q i ≡ Table t everything) × (role t ≡ table l q i) × Home σ t
-  present-names {va} {l} {q} c i u p n = go (entryAt m l q i) refl
-    where
-      live : Live role q l
-      live = comes-left b c
-
-      go : (e : Entry) → entryAt m l q i ≡ e → (t : ℕ) × (entryAt m l q i ≡ Table t everything) × (role t ≡ table l q i) × Home σ t
-      go Nothing e = absurd (present-says q l i live u p e)
-      go (Page f g) e = absurd (n f g e)
-      go (Table t g) e =
-          let o = b .down q l i t g live u e in
-          (t, e ∙ ap (Table t) (o .1), o .0, b .home t (λ f. let z : _≡_ {A = ℕ} 0 1 = cc in omega arith))
 
   -- NO TABLE IS REACHED TWICE. Two walks that come to one table have the same levels left, and came by the same entries.
   pub reached-once : {va vb n k p : ℕ} → Comes σ m va n p → Comes σ m vb k p → (n ≡ k) × (va / sizeOf n ≡ vb / sizeOf n)

@@ -6,15 +6,18 @@ use Prim.Native.Nat.{ℕ, suc, _+_, _/_}
 use native.Mathlib.Omega.{arith}
 use native.Mathlib.Decide.{ℕ-discrete}
 use Rattle.word.specs.Memory.{set}
-use Rattle.world.specs.Events.{Event, write, mark, happen, after, Among, All}
-use Rattle.world.specs.Walker.{cell, meaning, run, Reads, ReadsIn, Below, BelowIn, Gives}
-use Rattle.world.specs.Ways.{nowhere-cell, rested-gives, below-reads}
+use Rattle.world.specs.Events.{Event, write, mark, happen, after, Among}
+use Rattle.world.specs.Walker.{cell, meaning, run, Reads, ReadsIn, Below, BelowIn}
+use Rattle.world.proofs.Ways.{nowhere-cell, rested-gives}
 use Rattle.world.specs.Held.{Can, None, still, starts, steps, shares}
-use Rattle.world.specs.Discipline.{Safe, Cuts, interleaving}
-use Rattle.world.specs.Turns.{Turn, tick, event, events, Idle, begun, places, each-walk}
+use Rattle.world.specs.Discipline.{Safe, Cuts}
+use Rattle.world.proofs.Discipline.{interleaving}
+use Rattle.world.specs.Turns.{Turn, tick, event, events, Idle, begun, places}
+use Rattle.world.proofs.Turns.{each-walk}
 use Rattle.world.specs.Reports.{Thawed}
-use Rattle.world.specs.OneChange.{OneChange, change-one, change-then-quiet, quiet-more, quiet-nil, unseen-same-meaning}
-use Rattle.world.specs.Tiny.{Spot, entry, onward, next, tiny}
+use Rattle.world.specs.OneChange.{OneChange}
+use Rattle.world.proofs.OneChange.{change-one, change-then-quiet, quiet-more, quiet-nil, unseen-same-meaning}
+use Rattle.world.proofs.Tiny.{entry, onward, next, tiny, tiny-laws}
 
 -- a table at 2000, with page 5 for address 0 and page 6 for address 1
 abbrev pub memory : ℕ → ℕ
@@ -72,15 +75,15 @@ good-safe = (refl, (root-free (set memory 1000 4001) refl, tt))
 good-moment-0 : Among memory (mark 1000 4001 ∷ (write 1000 0 ∷ [])) (λ m'. meaning tiny m' 0 ≡ 5)
 unfolding events Idle after
 good-moment-0 =
-    each-walk tiny who [] (opening ++ (tick 1 ∷ (tick 0 ∷ []))) (tick 1 ∷ []) Thawed memory good-safe 0 tt (omega arith, tt) 5
-    (rw good-ends-0 (rested-gives tiny 0 _ refl))
+    each-walk tiny tiny-laws who [] (opening ++ (tick 1 ∷ (tick 0 ∷ []))) (tick 1 ∷ []) Thawed memory good-safe 0 tt (omega arith, tt) 5
+    (rw good-ends-0 (rested-gives tiny tiny-laws 0 _ refl))
 
 -- walk 1 began after it: the only moment of its run is the one where it means nothing
 good-moment-1 : meaning tiny (set (set memory 1000 4001) 1000 0) 1 ≡ 0
 unfolding events Idle Among after happen
 good-moment-1 =
-    each-walk tiny who opening (tick 1 ∷ (tick 0 ∷ (tick 1 ∷ []))) [] Thawed memory good-safe 1 (omega arith, tt) tt 0
-    (rw good-ends-1 (rested-gives tiny 1 _ refl))
+    each-walk tiny tiny-laws who opening (tick 1 ∷ (tick 0 ∷ (tick 1 ∷ []))) [] Thawed memory good-safe 1 (omega arith, tt) tt 0
+    (rw good-ends-1 (rested-gives tiny tiny-laws 1 _ refl))
 
 -- THE BAD RUN. The same, but the code writes into the table that it cut off before walk 0 has ended: page 9, which address 0 never meant.
 abbrev bad : List (Turn ℕ)
@@ -98,7 +101,7 @@ bad-never (inr (inr e)) = omega arith
 
 bad-refused : (F : ℕ → Type 0) → ¬ Safe tiny F memory (events bad)
 unfolding events Idle after
-bad-refused F s = bad-never (each-walk tiny who [] bad [] F memory s 0 tt tt 9 (rw bad-ends (rested-gives tiny 0 _ refl)))
+bad-refused F s = bad-never (each-walk tiny tiny-laws who [] bad [] F memory s 0 tt tt 9 (rw bad-ends (rested-gives tiny tiny-laws 0 _ refl)))
 
 -- THE SELF-MAP. The root's word names the root itself. One write over it is enough for an answer that was never the meaning, and no cell was
 -- frozen before: so a write is asked of the cells that it freezes itself.
@@ -119,7 +122,7 @@ over-never (inr e) = omega arith
 
 over-refused : (F : ℕ → Type 0) → ¬ Safe tiny F looped (events over)
 unfolding events Idle after
-over-refused F s = over-never (each-walk tiny who [] over [] F looped s 0 tt tt 2000 (rw over-ends (rested-gives tiny 0 _ refl)))
+over-refused F s = over-never (each-walk tiny tiny-laws who [] over [] F looped s 0 tt tt 2000 (rw over-ends (rested-gives tiny tiny-laws 0 _ refl)))
 
 -- THROUGH A CACHE. A walk of address 0 reads the root's word, and a cache keeps that. The word is cleared. A walk of address 1 goes on from
 -- what the cache has, and ends with page 6: the meaning since the last report, though no more when that walk began.
@@ -135,7 +138,7 @@ unfolding Safe clearing set ℕ-discrete
 clearing-safe = (root-free memory refl, tt)
 
 cached-moment : Among memory clearing (λ m'. meaning tiny m' 1 ≡ 6)
-cached-moment = interleaving tiny clearing Thawed memory clearing-safe 1 (record { levels = 0; table = 6 }) 6 cached (rested-gives tiny 1 _ refl)
+cached-moment = interleaving tiny tiny-laws clearing Thawed memory clearing-safe 1 (record { levels = 0; table = 6 }) 6 cached (rested-gives tiny tiny-laws 1 _ refl)
 
 cached-late : meaning tiny (after memory clearing) 1 ≡ 0
 unfolding after clearing happen run set ℕ-discrete onward entry
@@ -154,6 +157,6 @@ root-only m e va x (inr r) = go (subst (λ t. ReadsIn tiny m va 1 (record { leve
 -- ONE CHANGE: the root's word is cleared, and then a cell is written that no walk reads.
 unmapped : OneChange tiny memory (write 1000 0 ∷ (write 7000 2 ∷ []))
 unfolding after happen set ℕ-discrete
-unmapped = change-then-quiet tiny (write 1000 0 ∷ []) (write 7000 2 ∷ []) memory (change-one tiny memory 1000 0)
-    (quiet-more tiny (write 7000 2) [] (set memory 1000 0)
-    (unseen-same-meaning tiny (set memory 1000 0) 7000 2 (λ va r. omega (arith, root-only (set memory 1000 0) refl va 7000 r))) (quiet-nil tiny _))
+unmapped = change-then-quiet tiny tiny-laws (write 1000 0 ∷ []) (write 7000 2 ∷ []) memory (change-one tiny tiny-laws memory 1000 0)
+    (quiet-more tiny tiny-laws (write 7000 2) [] (set memory 1000 0)
+    (unseen-same-meaning tiny tiny-laws (set memory 1000 0) 7000 2 (λ va r. omega (arith, root-only (set memory 1000 0) refl va 7000 r))) (quiet-nil tiny tiny-laws _))

@@ -21,13 +21,14 @@ use Rattle.walk.specs.Walk.{indexOf, baseOf, entered, stepOf, run, start, found
 use Rattle.walk.specs.declared.Found.the-variants as found
 use Rattle.tables.specs.Roles.{Setting, Role, foreign, free, aside, book, root, table, Home, Sound, Zero}
 use Rattle.tables.specs.Way.{onto}
-use Rattle.tables.specs.Meaning.{meaning, comes-root}
-use Rattle.tables.specs.OneWrite.{at-page, table-something}
-use Rattle.tables.specs.Kept.{zero-bare}
-use Rattle.tables.specs.Start.{fresh-sound}
-use Rattle.tables.specs.Operation.{changed-sound}
-use Rattle.tables.specs.Down.{down-start, down-step, down-link, map-done}
-use Rattle.tables.specs.Up.{up-start, up-step, unmap-done}
+use Rattle.tables.specs.Meaning.{meaning}
+use Rattle.tables.proofs.Meaning.{comes-root}
+use Rattle.tables.proofs.OneWrite.{at-page, table-something}
+use Rattle.tables.proofs.Kept.{zero-bare}
+use Rattle.tables.proofs.Start.{fresh-sound}
+use Rattle.tables.proofs.Operation.{changed-sound}
+use Rattle.tables.proofs.Down.{down-start, down-step, down-link, map-done}
+use Rattle.tables.proofs.Up.{up-start, up-step, unmap-done}
 
 -- pages 16 to 23 are lent, and are the pool; the root is in page 17
 abbrev pub setting : Setting

@@ -1,53 +1,29 @@
--- The walker that takes `walk`'s own steps, so that its meaning is `walk`: what is proved of walkers is proved of walks through page tables.
-use mathlib.Core.Path.{_≡_, refl, sym, _∙_, ap, subst, fun-ext}
+-- The walker of page tables has a walker's laws, and its meaning is `walk`: what is proved of walkers is proved of walks through page tables.
+use mathlib.Core.Path.{_≡_, refl, _∙_, ap, fun-ext, sym, subst}
 use mathlib.Core.Bool.{Bool, true, false, cond}
-use mathlib.Core.Logic.{inl, inr}
-use Prim.Native.Nat.{ℕ, zero, suc, _*_, _/_, _^_}
+use Prim.Native.Nat.{ℕ, zero, suc, _^_}
+use Rattle.entry.specs.Marks.{Marked}
+use Rattle.entry.proofs.Marks.{marks-say-nothing}
+use Rattle.walk.specs.Walk.{stepOf, run, start, foundOf, walk, entryOf, entered}
+use Rattle.walk.specs.declared.Found.{Found}
+use Rattle.walk.specs.declared.Place.{Place}
+use Rattle.walk.specs.declared.Place.the-variants.{Ended, Going}
+use Rattle.walk.proofs.Steps.{run-ended}
+use Rattle.world.specs.Walker as the
+use Rattle.world.specs.Walker.{WalkerLaws, meaning, Gives, nowhere, cell}
+use Rattle.tables.specs.Walks.{stepAt, sayings, walker, oneSpace, readsAt, SamePrefix}
+use Rattle.tables.specs.Roles.{Setting}
+use Rattle.tables.specs.Discipline.{walkerOf}
 use native.Mathlib.Omega.{arith}
 use lib.Dec.{ltb}
 use borrow.Author.Tests.{ltb-true, ltb-false, lt-ltb, le-ltb}
-use Rattle.entry.specs.Entry.{sizeOf, tableOf, says, both, everything}
-use Rattle.entry.specs.declared.Rights.{Rights}
-use Rattle.entry.specs.Marks.{Marked}
+use Rattle.entry.specs.Entry.{sizeOf, tableOf, says, everything}
 use Rattle.entry.specs.declared.Entry.{Entry}
 use Rattle.entry.specs.declared.Entry.the-variants as entry
-use Rattle.entry.proofs.Marks.{marks-say-nothing}
-use Rattle.walk.specs.Walk.{indexOf, baseOf, entryOf, entered, stepOf, run, start, foundOf, walk}
-use Rattle.walk.specs.declared.Found.{Found}
 use Rattle.walk.specs.declared.Found.the-variants.{Nothing, Outside}
-use Rattle.walk.specs.declared.Place.{Place}
-use Rattle.walk.specs.declared.Place.the-variants.{Going, Ended}
-use Rattle.walk.proofs.Steps.{run-ended}
 use Rattle.walk.proofs.Digits.{agree-up, same-index, same-base}
-use Rattle.world.specs.Walker as the
-use Rattle.world.specs.Ways.{nowhere-cell}
-use Rattle.world.specs.Walker.{Next, nowhere, cell, Walker, meaning, Gives, Reads, ReadsIn}
 
--- a walk with so many levels to go
-pub record At : Type 0 where
-  pub levels : ℕ
-  pub place : Place
-
--- ONE STEP is `walk`'s, at the next level.
-unfoldable pub stepAt : (ℕ → Bool) → (ℕ → ℕ) → ℕ → ℕ → Place → At
-stepAt h m va zero p = record { levels = zero; place = p }
-stepAt h m va (suc n) p = record { levels = n; place = stepOf h m n va p }
-
--- the entry that it reads: none at a table outside the window, and none once the walk has ended
-unfoldable pub readsAt : (ℕ → Bool) → ℕ → ℕ → Place → Next
-readsAt h va zero p = nowhere
-readsAt h va (suc n) (Going t r) = cond (h t) (cell (entryOf n va t)) nowhere
-readsAt h va (suc n) (Ended f) = nowhere
-
--- what a word says, at each level
-abbrev pub sayings : ℕ → ℕ → Entry
-sayings w n = says n w
-
--- one prefix: the addresses differ only in what n more levels, and the place in the page, tell apart
-abbrev pub SamePrefix : ℕ → ℕ → ℕ → Type 0
-SamePrefix n va vb = va / sizeOf n ≡ vb / sizeOf n
-
-pub prefix-start : (root va vb : ℕ) → SamePrefix 4 va vb → start root va ≡ start root vb
+prefix-start : (root va vb : ℕ) → SamePrefix 4 va vb → start root va ≡ start root vb
 unfolding start sizeOf
 prefix-start root va vb e = ap (λ b. cond b (Going (tableOf root) everything) (Ended Nothing)) (go (ltb vb (2 ^ 48)) refl)
   where
@@ -65,11 +41,11 @@ prefix-step h m n va vb (Going t r) e = ap (λ f. cond (h t) f (Ended Outside)) 
     go (entry.Page f g) = rw (same-base n va vb e)
     go (entry.Table u g) = refl
 
-pub prefix-up : (n va vb : ℕ) → SamePrefix n va vb → SamePrefix (suc n) va vb
+prefix-up : (n va vb : ℕ) → SamePrefix n va vb → SamePrefix (suc n) va vb
 prefix-up n va vb = agree-up n (suc n) va vb (omega arith)
 
 -- a step can tell of a word only what it says
-pub step-local : (h : ℕ → Bool) (m m' : ℕ → ℕ) (va n : ℕ) (p : Place) → ((c : ℕ) → readsAt h va n p ≡ cell c → sayings (m c) ≡ sayings (m' c))
+step-local : (h : ℕ → Bool) (m m' : ℕ → ℕ) (va n : ℕ) (p : Place) → ((c : ℕ) → readsAt h va n p ≡ cell c → sayings (m c) ≡ sayings (m' c))
     → stepAt h m va n p ≡ stepAt h m' va n p
 unfolding stepAt readsAt stepOf
 step-local h m m' va zero p g = refl
@@ -84,32 +60,25 @@ step-local h m m' va (suc n) (Going t r) g = ap (λ p. record { levels = n; plac
     go true k = ap (λ s. entered n va r (s n)) (k (entryOf n va t) refl)
     go false k = refl
 
-pub step-falls : (h : ℕ → Bool) (m : ℕ → ℕ) (va n k : ℕ) (p : Place) → k ≡ suc n → stepAt h m va k p .levels ≡ n
+step-falls : (h : ℕ → Bool) (m : ℕ → ℕ) (va n k : ℕ) (p : Place) → k ≡ suc n → stepAt h m va k p .levels ≡ n
 unfolding stepAt
 step-falls h m va n zero p e = absurd (omega arith)
 step-falls h m va n (suc k) p e = omega arith
 
-pub step-rests : (h : ℕ → Bool) (m : ℕ → ℕ) (va k : ℕ) (p : Place) → k ≡ 0 → stepAt h m va k p ≡ record { levels = k; place = p }
+step-rests : (h : ℕ → Bool) (m : ℕ → ℕ) (va k : ℕ) (p : Place) → k ≡ 0 → stepAt h m va k p ≡ record { levels = k; place = p }
 unfolding stepAt
 step-rests h m va zero p e = refl
 step-rests h m va (suc k) p e = absurd (omega arith)
 
-pub step-alike : (h : ℕ → Bool) (m : ℕ → ℕ) (va vb n k : ℕ) (p : Place) → k ≡ suc n → SamePrefix n va vb → stepAt h m va k p ≡ stepAt h m vb k p
+step-alike : (h : ℕ → Bool) (m : ℕ → ℕ) (va vb n k : ℕ) (p : Place) → k ≡ suc n → SamePrefix n va vb → stepAt h m va k p ≡ stepAt h m vb k p
 unfolding stepAt
 step-alike h m va vb n zero p e q = refl
 step-alike h m va vb n (suc k) p e q = ap (λ p. record { levels = k; place = p }) (prefix-step h m k va vb p (subst (λ j. SamePrefix j va vb) (omega arith) q))
 
 module _ (h : ℕ → Bool) {Address : Type 0} (rootOf vaOf : Address → ℕ) where
-  -- THE WALKER. An address is of an address space, whose root it says (rootOf, as in CR3), and it says its number there (vaOf).
-  abbrev pub walker : Walker ℕ (ℕ → Entry) Address At Found
-  walker = record {
-    see = sayings;
-    start = λ a. record { levels = 4; place = start (rootOf a) (vaOf a) };
-    left = λ p. p .levels;
-    reads = λ a p. readsAt h (vaOf a) (p .levels) (p .place);
-    step = λ m a p. stepAt h m (vaOf a) (p .levels) (p .place);
-    answer = λ p. foundOf (p .place);
-    Alike = λ n a b. (rootOf a ≡ rootOf b) × SamePrefix n (vaOf a) (vaOf b);
+  -- ITS LAWS
+  pub walker-laws : WalkerLaws (walker h rootOf vaOf)
+  walker-laws = record {
     local = λ m m' a p. step-local h m m' (vaOf a) (p .levels) (p .place);
     falls = λ m a p n. step-falls h m (vaOf a) n (p .levels) (p .place);
     rests = λ m a p. step-rests h m (vaOf a) (p .levels) (p .place);
@@ -120,18 +89,18 @@ module _ (h : ℕ → Bool) {Address : Type 0} (rootOf vaOf : Address → ℕ) w
     alike-step = λ m a b p n e q. step-alike h m (vaOf a) (vaOf b) n (p .levels) (p .place) e (q .1);
   }
 
-  runs : (m : ℕ → ℕ) (a : Address) (n : ℕ) (p : Place) → the.run walker m a n (record { levels = n; place = p }) ≡ record { levels = 0; place = run h m n (vaOf a) p }
+  runs : (m : ℕ → ℕ) (a : Address) (n : ℕ) (p : Place) → the.run (walker h rootOf vaOf) m a n (record { levels = n; place = p }) ≡ record { levels = 0; place = run h m n (vaOf a) p }
   unfolding the.run run stepAt
   runs m a zero p = refl
   runs m a (suc n) p = runs m a n (stepOf h m n (vaOf a) p)
 
   -- THE MEANING of the walker is `walk`.
-  pub meaning-is-walk : (m : ℕ → ℕ) (a : Address) → meaning walker m a ≡ walk h m (rootOf a) (vaOf a)
+  pub meaning-is-walk : (m : ℕ → ℕ) (a : Address) → meaning (walker h rootOf vaOf) m a ≡ walk h m (rootOf a) (vaOf a)
   unfolding walk
   meaning-is-walk m a = ap (λ p. foundOf (p .place)) (runs m a 4 (start (rootOf a) (vaOf a)))
 
   -- a walk that has ended gives what it found
-  pub ended-gives : (a : Address) (n : ℕ) (f : Found) → Gives walker a (record { levels = n; place = Ended f }) f
+  pub ended-gives : (a : Address) (n : ℕ) (f : Found) → Gives (walker h rootOf vaOf) a (record { levels = n; place = Ended f }) f
   unfolding foundOf
   ended-gives a n f m = ap (λ p. foundOf (p .place)) (runs m a n (Ended f)) ∙ ap foundOf (run-ended h m n (vaOf a) f)
 
@@ -139,9 +108,9 @@ module _ (h : ℕ → Bool) {Address : Type 0} (rootOf vaOf : Address → ℕ) w
 pub marked-says : (v w : ℕ) → Marked v w → sayings v ≡ sayings w
 marked-says v w k = fun-ext (λ n. marks-say-nothing n v w k)
 
--- One address space: an address is its number.
-abbrev pub oneSpace : (ℕ → Bool) → ℕ → Walker ℕ (ℕ → Entry) ℕ At Found
-oneSpace h root = walker h (λ va. root) (λ va. va)
-
 pub one-space-meaning : (h : ℕ → Bool) (root : ℕ) (m : ℕ → ℕ) (va : ℕ) → meaning (oneSpace h root) m va ≡ walk h m root va
 one-space-meaning h root = meaning-is-walk h (λ va. root) (λ va. va)
+
+-- the laws of the walker of tables
+pub laws-of : (σ : Setting) → WalkerLaws (walkerOf σ)
+laws-of σ = walker-laws (σ .window) (λ va. σ .cr3) (λ va. va)

@@ -14,9 +14,9 @@ use Rattle.walk.specs.declared.Found.{Found}
 use Rattle.walk.specs.declared.Found.the-variants.{Outside}
 use Rattle.walk.specs.declared.Place.{Place}
 use Rattle.walk.specs.declared.Place.the-variants.{Going, Ended}
 use Rattle.world.specs.Walker.{nowhere, cell, Reads, ReadsIn, On, here, down}
-use Rattle.world.specs.Ways.{nowhere-cell}
-use Rattle.world.specs.Walks.{At, stepAt, readsAt, walker}
+use Rattle.world.proofs.Ways.{nowhere-cell}
+use Rattle.tables.specs.Walks.{At, stepAt, readsAt, walker}
 
 reads-now : (P : ℕ → Type 0) (h : ℕ → Bool) (va n : ℕ) (p : Place) (x : ℕ) → ReadsNow P h n va p → readsAt h va (suc n) p ≡ cell x → P x
 unfolding readsAt

@@ -3,23 +3,20 @@
 use Prim.Native.Nat.{ℕ, suc, _/_, _<_}
 use mathlib.Core.Logic.{_⊎_, inl, inr, _≢_}
 use mathlib.Core.Path.{_≡_, refl, sym, ap, _∙_, subst}
-use native.Mathlib.Decide.{ℕ-discrete}
 use native.Mathlib.Omega.{arith}
 use Rattle.word.specs.Memory.{set, at}
 use Rattle.word.proofs.Writes.{page-of}
-use Rattle.word.proofs.Set.{set-at, set-other}
+use Rattle.word.proofs.Set.{set-other}
 use Rattle.entry.specs.Entry.{says}
 use Rattle.entry.specs.Clean.{Clean}
-use Rattle.entry.specs.Marks.{Marked}
-use Rattle.entry.proofs.Clean.{marked-clean}
-use Rattle.entry.proofs.Marks.{marks-say-nothing}
 use Rattle.walk.specs.Walk.{indexOf, start, foundOf, walk}
 use Rattle.walk.proofs.Digits.{index-lt}
 use Rattle.walk.proofs.Frame.{Same, run-agrees}
 use Rattle.tables.specs.Roles.{Setting, Role, foreign, free, aside, book, root, table, left, Idle, Live, Built, Holds, Filled, Sound}
-use Rattle.tables.specs.Way.{Comes, begin, onto, comes-left}
+use Rattle.tables.specs.Way.{Comes, begin, onto}
+use Rattle.tables.proofs.Way.{comes-left}
 use Rattle.tables.specs.Meaning.{meaning}
-use Rattle.tables.specs.Reach.{walk-reads-tables}
+use Rattle.tables.proofs.Reach.{walk-reads-tables}
 
 -- what the words of all tables say is the same, at every level; a 0 stays 0, and what is as we write it stays so
 abbrev pub Alike : (ℕ → Role) → (m m' : ℕ → ℕ) → Type 0
@@ -63,18 +60,6 @@ module _ (m : ℕ → ℕ) (role : ℕ → Role) (a v : ℕ) where
 
   pub unseen-alike : left (role (a / 512)) ≡ 0 → Alike role m (set m a v)
   unseen-alike n q l i h u = let w = unseen-word n q l i h u in (λ k. ap (says k) w, λ z. w ∙ z, λ k c. subst (Clean k) (sym w) c)
-
-  -- THE MACHINE'S MARKS, accessed and dirty, which it sets in words that are not 0.
-  pub marked-alike : Marked v (m a) → m a ≢ 0 → Alike role m (set m a v)
-  marked-alike k n q l i h u = go (ℕ-discrete a (at q i))
-    where
-      go : Dec (a ≡ at q i) → Same m (set m a v) (at q i) × (m (at q i) ≡ 0 → set m a v (at q i) ≡ 0) × ((j : ℕ) → Clean j (m (at q i)) → Clean j (set m a v (at q i)))
-      go (yes e) = (
-        λ j. ap (says j) (set-at m a v (at q i) e) ∙ marks-say-nothing j v (m a) k ∙ ap (λ x. says j (m x)) e,
-        λ z. absurd (n (ap m e ∙ z)),
-        λ j c. subst (Clean j) (sym (set-at m a v (at q i) e)) (marked-clean j v (m a) k (subst (λ x. Clean j (m x)) (sym e) c)),
-      )
-      go (no d) = let w = set-other m a v (at q i) d in (λ j. ap (says j) w, λ z. w ∙ z, λ j c. subst (Clean j) (sym w) c)
 
 -- Other roles ------------------------------------------------------------------------------------------------------------------
 

@@ -13,7 +13,8 @@ use Rattle.entry.specs.declared.Entry.the-variants.{Nothing, Page, Table}
 use Rattle.entry.proofs.Fields.{says-absent}
 use Rattle.tables.specs.Roles.{Setting, Role, foreign, free, aside, book, root, table, unlinked, left, Live, entryAt, Home, Apart, Built, Zero, Bare, Plain}
 use Rattle.entry.proofs.Clean.{zero-clean}
-use Rattle.tables.specs.OneWrite.{Spot, Seen, this, other, seen, other-page, zeros-kept, apart-kept, clean-kept, nothing-plain}
+use Rattle.tables.specs.OneWrite.{Spot}
+use Rattle.tables.proofs.OneWrite.{Seen, this, other, seen, other-page, zeros-kept, apart-kept, clean-kept, nothing-plain}
 
 -- a page of zeros says nothing, at any level
 pub zero-bare : (m : ℕ → ℕ) (n p : ℕ) → Zero m p → Bare m n p

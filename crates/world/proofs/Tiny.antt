@@ -4,7 +4,7 @@
 use mathlib.Core.Path.{_≡_, refl, _∙_, ap}
 use Prim.Native.Nat.{ℕ, zero, suc, _+_, _/_}
 use native.Mathlib.Omega.{arith}
-use Rattle.world.specs.Walker.{Next, nowhere, cell, Walker}
+use Rattle.world.specs.Walker.{Next, nowhere, cell, Walker, WalkerLaws}
 
 -- so many levels to go, at this table; or with this page, where no level is left
 pub record Spot : Type 0 where
@@ -75,6 +75,10 @@ tiny = record {
   step = λ m va p. onward m va (p .levels) (p .table);
   answer = λ p. p .table;
   Alike = OnePrefix;
+}
+
+pub tiny-laws : WalkerLaws tiny
+tiny-laws = record {
   local = λ m m' va p. onward-local m m' va (p .levels) (p .table);
   falls = λ m va p n. onward-falls m va n (p .levels) (p .table);
   rests = λ m va p. onward-rests m va (p .levels) (p .table);

@@ -7,8 +7,7 @@ use mathlib.Core.Path.{_≡_, refl, sym, ap, _∙_, subst}
 use native.Mathlib.Decide.{ℕ-discrete}
 use native.Mathlib.Omega.{arith}
 use Rattle.word.specs.Memory.{set, at}
-use Rattle.word.specs.Writes.{Write, write, after}
-use Rattle.word.proofs.Writes.{Every}
+use Rattle.word.specs.Writes.{Write, write, after, Every}
 use Rattle.word.proofs.Set.{set-same, set-other}
 use Rattle.entry.specs.Entry.{everything}
 use Rattle.entry.specs.declared.Rights.{Rights}
@@ -20,12 +19,18 @@ use Rattle.walk.proofs.Digits.{index-lt}
 use Rattle.world.specs.Events.{All}
 use Rattle.world.specs.OneChange.{OneChange}
 use Rattle.tables.specs.Roles.{Setting, Role, table, unlinked, left, entryAt, Built, Holds, FilledBut, Sound, Bare}
-use Rattle.tables.specs.Way.{Comes, comes-left, comes-parent, onto-role}
-use Rattle.tables.specs.OneWrite.{Spot, comes-spot, page-plain, other-page, comes-kept}
-use Rattle.tables.specs.Edits.{Keeps, Turns, clear-page, clear-filled, unlink, unlink-filled}
-use Rattle.tables.specs.Discipline.{walkerOf, ObeysOf, plain-obeys, unlink-obeys}
-use Rattle.tables.specs.Clearing.{eventsOf, Spare, Untouched, spare-untouched, untouched-holds}
-use Rattle.tables.specs.Operation.{Moment, moments-one, moments-spare, moments-then, Changed, after-then, after-write, change-then, obeys-then, quiet-one, obeys-one, change-write}
+use Rattle.tables.specs.Way.{Comes}
+use Rattle.tables.proofs.Way.{comes-left, comes-parent, onto-role}
+use Rattle.tables.specs.OneWrite.{Spot}
+use Rattle.tables.proofs.OneWrite.{comes-spot, page-plain, other-page, comes-kept}
+use Rattle.tables.specs.Edits.{Keeps, Turns}
+use Rattle.tables.proofs.Edits.{clear-page, clear-filled, unlink, unlink-filled}
+use Rattle.tables.specs.Discipline.{walkerOf, ObeysOf}
+use Rattle.tables.proofs.Discipline.{plain-obeys, unlink-obeys}
+use Rattle.tables.specs.Clearing.{eventsOf}
+use Rattle.tables.proofs.Clearing.{Spare, Untouched, spare-untouched, untouched-holds}
+use Rattle.tables.specs.Operation.{Moment, Changed}
+use Rattle.tables.proofs.Operation.{moments-one, moments-spare, moments-then, after-then, after-write, change-then, obeys-then, quiet-one, obeys-one, change-write}
 
 -- THE WAY UP. From m₀ on xs was written; the range of va at level l has lost its page, by one write; the walk of va comes to page t with
 -- suc k levels left; t, and it alone, may be empty. Above t all roles and words are as they were, and so is t but for one entry, which is 0.
