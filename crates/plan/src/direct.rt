@@ -117,7 +117,8 @@ fn placed(mem: &mut [u8], left: &mut u64, space: Space, n: u64, va: u64, x: u64)
     let l = last(mem, space, n, va);
     match l {
         Lead::Table(t) => settle(mem, left, space, n, va, t, x),
-        Lead::Page => Once::Overlap,
+        // what remains is rare, and one exit for all of it keeps the compiler's registers
+        Lead::Page => Once::Unsaid,
         Lead::Nothing => Once::Unsaid,
         Lead::Stray => Once::Unsaid,
     }

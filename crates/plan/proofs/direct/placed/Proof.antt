@@ -1,7 +1,5 @@
-use mathlib.Core.Bool.{true}
 use mathlib.Core.Path.{refl}
 use Rattle.word.proofs.Budget.{wrote-none}
-use Rattle.plan.specs.Descend.{wayOf}
 use Rattle.plan.proofs.Directly.{settled}
 use borrow.Author.Needs.{needs}
 use Rattle.plan.proofs.direct.placed.Statement.{statement}
@@ -39,8 +37,7 @@ same-length-2 : tie.Need-same-length-2
 same-length-2 c = search needs
 
 returns-2 : tie.Need-returns-2
-unfolding wayOf
-returns-2 c = record { by = true; why = rw (c .enum-told .given .1) at (c .before .before .last .ensures (c .before .before .before .before .before .pre .0)); order = wrote-none _ _ _ }
+returns-2 c = wrote-none _ _ _
 
 same-length-3 : tie.Need-same-length-3
 same-length-3 c = search needs
