@@ -201,9 +201,9 @@ pub fn state(mem: &[u8], space: Space) -> Stated
     pool::state(mem, space)
 }
 
-// What the address means; the root is given as in CR3.
-pub fn look_up(mem: &[u8], origin: u64, root: u64, va: u64) -> Found
-    ensures answer { λ f. ⌜ f ≡ walk (holds (now (mem .entry)) origin) (memory (now (mem .entry)) origin) root va ⌝ }
+// What the address means with this CR3.
+pub fn look_up(mem: &[u8], origin: u64, cr3: u64, va: u64) -> Found
+    ensures answer { λ f. ⌜ f ≡ walk (holds (now (mem .entry)) origin) (memory (now (mem .entry)) origin) cr3 va ⌝ }
 {
-    walk::look_up(mem, origin, root, va)
+    walk::look_up(mem, origin, cr3, va)
 }
