@@ -7,7 +7,7 @@ use Rattle.pool.proofs.making.put_header.Tie as tie
 use Rattle.pool.proofs.making.put_header.Reads as reads
 use Rattle.pool.proofs.making.put_header.Lts as lts
 use Rattle.pool.proofs.making.blank.Reads as blank-reads
-use Rattle.pool.proofs.put.Reads as put-reads
+use Rattle.pool.proofs.changes.put.Reads as put-reads
 
 -- src/making.rt:65:5
 put-requires : tie.Need-put-requires
@@ -40,7 +40,13 @@ same-length c = search needs
 -- src/making.rt:62:1
 returns : tie.Need-returns
 unfolding header pagesAt rootAt ticketsAt freeAt asideAt headerWords
-returns c = wrote-then _ _ _ _ _ _ _ _ _ (c .before .before .before .before .before .before .before .before .before .before .before .before .before .before .before .before .before .before .before .before .before .before .put .ensures) (wrote-then _ _ _ _ _ _ _ _ _ (c .before .before .before .before .before .before .before .before .before .before .before .before .before .before .before .before .before .put2 .ensures) (wrote-then _ _ _ _ _ _ _ _ _ (c .before .before .before .before .before .before .before .before .before .before .before .before .put3 .ensures) (wrote-then _ _ _ _ _ _ _ _ _ (c .before .before .before .before .before .before .before .put4 .ensures) (c .before .before .blank .ensures))))
+returns c =
+    wrote-then _ _ _ _ _ _ _ _ _
+    (c .before .before .before .before .before .before .before .before .before .before .before .before .before .before .before .before .before .before .before .before .before .before .put .ensures)
+    (wrote-then _ _ _ _ _ _ _ _ _
+    (c .before .before .before .before .before .before .before .before .before .before .before .before .before .before .before .before .before .put2 .ensures)
+    (wrote-then _ _ _ _ _ _ _ _ _ (c .before .before .before .before .before .before .before .before .before .before .before .before .put3 .ensures)
+    (wrote-then _ _ _ _ _ _ _ _ _ (c .before .before .before .before .before .before .before .put4 .ensures) (c .before .before .blank .ensures))))
 
 pub put-header-spec : {M : Type 1} → statement M
 put-header-spec =

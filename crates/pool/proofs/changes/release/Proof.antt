@@ -6,11 +6,11 @@ use Rattle.word.proofs.Budget.{wrote-none, wrote-then}
 use Rattle.pool.specs.Changes.{releaseWrites}
 use Rattle.pool.proofs.Counts.{sound-is}
 use borrow.Author.Needs.{needs}
-use Rattle.pool.proofs.release.Statement.{statement}
-use Rattle.pool.proofs.release.Tie as tie
-use Rattle.pool.proofs.release.Reads as reads
-use Rattle.pool.proofs.release.Lts as lts
-use Rattle.pool.proofs.put.Reads as put-reads
+use Rattle.pool.proofs.changes.release.Statement.{statement}
+use Rattle.pool.proofs.changes.release.Tie as tie
+use Rattle.pool.proofs.changes.release.Reads as reads
+use Rattle.pool.proofs.changes.release.Lts as lts
+use Rattle.pool.proofs.changes.put.Reads as put-reads
 use Rattle.pool.proofs.sound.Reads as sound-reads
 
 -- src/lib.rt:327:9
@@ -36,7 +36,11 @@ put-requires-2 c κs = search needs
 
 -- src/lib.rt:332:34
 add-put-2 : tie.Need-add-put-2
-add-put-2 c = let s = sound-is _ _ (sym (c .before .before .before .before .before .before .before .before .before .before .before .before .before .before .before .before .sound .ensures) ∙ c .before .before .before .before .before .before .before .before .before .before .before .before .before .before .before .if2 .taken) in omega (arith, s .small, s .room, s .early, c .before .before .before .before .before .before .before .before .before .before .before .before .before .before .before .before .before .if1 .left)
+add-put-2 c =
+    let e = sym (c .before .before .before .before .before .before .before .before .before .before .before .before .before .before .before .before .sound .ensures) ∙ c .before .before .before .before .before .before .before .before .before .before .before .before .before .before .before .if2 .taken in
+    let s = sound-is _ _ e in
+    let l = c .before .before .before .before .before .before .before .before .before .before .before .before .before .before .before .before .before .if1 .left in
+    omega (arith, s .small, s .room, s .early, l)
 
 -- src/lib.rt:332:9
 put-requires-3 : tie.Need-put-requires-3
@@ -49,7 +53,12 @@ same-length c = search needs
 -- src/lib.rt:323:1
 returns-2 : tie.Need-returns-2
 unfolding releaseWrites freeAt asideAt ticketsAt
-returns-2 c = simp (le-leb _ _ (c .before .before .before .before .before .before .before .before .before .before .before .before .before .before .before .before .before .before .before .before .if1 .left), sym (c .before .before .before .before .before .before .before .before .before .before .before .before .before .before .before .before .before .before .before .sound .ensures) ∙ c .before .before .before .before .before .before .before .before .before .before .before .before .before .before .before .before .before .before .if2 .taken) (wrote-then _ _ _ _ _ _ _ _ _ (c .before .before .before .before .before .before .before .before .before .before .before .before .before .before .put .ensures) (wrote-then _ _ _ _ _ _ _ _ _ (c .before .before .before .before .before .before .before .before .put2 .ensures) (c .before .before .put3 .ensures)))
+returns-2 c =
+    let a = le-leb _ _ (c .before .before .before .before .before .before .before .before .before .before .before .before .before .before .before .before .before .before .before .before .if1 .left) in
+    let e = sym (c .before .before .before .before .before .before .before .before .before .before .before .before .before .before .before .before .before .before .before .sound .ensures) ∙ c .before .before .before .before .before .before .before .before .before .before .before .before .before .before .before .before .before .before .if2 .taken in
+    simp (a, e)
+    (wrote-then _ _ _ _ _ _ _ _ _ (c .before .before .before .before .before .before .before .before .before .before .before .before .before .before .put .ensures)
+    (wrote-then _ _ _ _ _ _ _ _ _ (c .before .before .before .before .before .before .before .before .put2 .ensures) (c .before .before .put3 .ensures)))
 
 -- src/lib.rt:323:1
 returns-3 : tie.Need-returns-3

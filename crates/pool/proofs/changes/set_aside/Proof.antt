@@ -6,11 +6,11 @@ use Rattle.word.proofs.Budget.{wrote-none, wrote-then}
 use Rattle.pool.specs.Changes.{asideWrites, asideBook}
 use Rattle.pool.proofs.Counts.{sound-is, spot-in}
 use borrow.Author.Needs.{needs}
-use Rattle.pool.proofs.set_aside.Statement.{statement}
-use Rattle.pool.proofs.set_aside.Tie as tie
-use Rattle.pool.proofs.set_aside.Reads as reads
-use Rattle.pool.proofs.set_aside.Lts as lts
-use Rattle.pool.proofs.put.Reads as put-reads
+use Rattle.pool.proofs.changes.set_aside.Statement.{statement}
+use Rattle.pool.proofs.changes.set_aside.Tie as tie
+use Rattle.pool.proofs.changes.set_aside.Reads as reads
+use Rattle.pool.proofs.changes.set_aside.Lts as lts
+use Rattle.pool.proofs.changes.put.Reads as put-reads
 use Rattle.pool.proofs.sound.Reads as sound-reads
 use Rattle.pool.proofs.spot.Reads as spot-reads
 
@@ -28,7 +28,10 @@ spot-requires c κs = search needs
 
 -- src/lib.rt:310:31
 add-put : tie.Need-add-put
-add-put c = let s = sound-is _ _ (sym (c .before .before .before .before .before .sound .ensures) ∙ c .before .before .before .before .if1 .taken) in omega (arith, s .small, c .before .before .spot .ensures, spot-in _ _ (c .before .before .before .before .before .before .before .args .book .free + c .before .before .before .before .before .before .before .args .book .aside) (s .head-in) (omega (arith, s .room)))
+add-put c =
+    let s = sound-is _ _ (sym (c .before .before .before .before .before .sound .ensures) ∙ c .before .before .before .before .if1 .taken) in
+    let b = c .before .before .before .before .before .before .before .args .book in
+    omega (arith, s .small, c .before .before .spot .ensures, spot-in _ _ (b .free + b .aside) (s .head-in) (omega (arith, s .room)))
 
 -- src/lib.rt:310:9
 put-requires : tie.Need-put-requires
@@ -36,7 +39,9 @@ put-requires c κs = search needs
 
 -- src/lib.rt:311:34
 add-put-2 : tie.Need-add-put-2
-add-put-2 c = let s = sound-is _ _ (sym (c .before .before .before .before .before .before .before .before .before .before .before .sound .ensures) ∙ c .before .before .before .before .before .before .before .before .before .before .if1 .taken) in omega (arith, s .small, s .room)
+add-put-2 c =
+    let s = sound-is _ _ (sym (c .before .before .before .before .before .before .before .before .before .before .before .sound .ensures) ∙ c .before .before .before .before .before .before .before .before .before .before .if1 .taken) in
+    omega (arith, s .small, s .room)
 
 -- src/lib.rt:311:9
 put-requires-2 : tie.Need-put-requires-2
@@ -53,7 +58,10 @@ same-length c = search needs
 -- src/lib.rt:312:9
 returns : tie.Need-returns
 unfolding asideWrites asideBook asideAt slotAt
-returns c = let e = sym (c .before .before .before .before .before .before .before .before .before .before .before .before .before .before .before .sound .ensures) ∙ c .before .before .before .before .before .before .before .before .before .before .before .before .before .before .if1 .taken in (rw e, simp e (rw (← c .before .before .before .before .before .before .before .before .before .before .before .before .spot .ensures) (wrote-then _ _ _ _ _ _ _ _ _ (c .before .before .before .before .before .before .before .before .before .put .ensures) (c .before .before .before .put2 .ensures))))
+returns c =
+    let e = sym (c .before .before .before .before .before .before .before .before .before .before .before .before .before .before .before .sound .ensures) ∙ c .before .before .before .before .before .before .before .before .before .before .before .before .before .before .if1 .taken in
+    let both = wrote-then _ _ _ _ _ _ _ _ _ (c .before .before .before .before .before .before .before .before .before .put .ensures) (c .before .before .before .put2 .ensures) in
+    (rw e, simp e (rw (← c .before .before .before .before .before .before .before .before .before .before .before .before .spot .ensures) both))
 
 -- src/lib.rt:304:1
 returns-2 : tie.Need-returns-2
