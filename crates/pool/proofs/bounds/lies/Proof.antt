@@ -27,7 +27,25 @@ sub-if1 c = search needs
 
 -- src/bounds.rt:47:9
 returns : tie.Need-returns
-returns c = sym (in-pool _ _ (record { behind = omega (arith, c .before .before .wrapping-sub-u64 .ensures, c .before .before .before .before .book-of .ensures, c .before .before .before .before .before .pre .low, c .before .before .before .before .before .pre .small, c .before .before .before .before .before .pre .enough); before-end = omega (arith, c .before .before .wrapping-sub-u64 .ensures, c .before .before .before .before .book-of .ensures, c .before .before .before .before .before .pre .low, c .before .before .before .before .before .pre .small, c .before .before .before .before .before .pre .enough) }))
+returns c =
+    sym (in-pool _ _ (record {
+      behind = omega (
+        arith,
+        c .before .before .wrapping-sub-u64 .ensures,
+        c .before .before .before .before .book-of .ensures,
+        c .before .before .before .before .before .pre .low,
+        c .before .before .before .before .before .pre .small,
+        c .before .before .before .before .before .pre .enough,
+      );
+      before-end = omega (
+        arith,
+        c .before .before .wrapping-sub-u64 .ensures,
+        c .before .before .before .before .book-of .ensures,
+        c .before .before .before .before .before .pre .low,
+        c .before .before .before .before .before .pre .small,
+        c .before .before .before .before .before .pre .enough,
+      );
+    }))
 
 -- src/bounds.rt:40:1
 returns-2 : tie.Need-returns-2

@@ -29,7 +29,14 @@ sub-store c = among-offset _ _ _ _ (c .before .before .before .before .before .b
 
 -- src/run.rt:76:45
 mul-store-2 : tie.Need-mul-store-2
-mul-store-2 c = omega (arith, among-index _ _ _ _ (c .before .before .before .before .before .before .before .before .args .kept) (c .before .before .before .before .before .before .before .before .args .p) (c .before .before .before .before .before .before .before .before .args .i) (sym (c .before .before .before .before .before .among .ensures) ∙ c .before .before .before .before .if1 .taken))
+mul-store-2 c =
+    omega (
+      arith,
+      among-index _ _ _ _ (c .before .before .before .before .before .before .before .before .args .kept)
+          (c .before .before .before .before .before .before .before .before .args .p)
+          (c .before .before .before .before .before .before .before .before .args .i) (sym (c .before .before .before .before .before .among .ensures)
+          ∙ c .before .before .before .before .if1 .taken),
+    )
 
 -- src/run.rt:76:25
 add-store : tie.Need-add-store
@@ -45,7 +52,12 @@ same-length c = search needs
 
 -- src/run.rt:61:1
 returns : tie.Need-returns
-returns c = let e = sym (c .before .before .before .before .before .before .before .before .among .ensures) ∙ c .before .before .before .before .before .before .before .if1 .taken in rw (one-among _ _ _ _ _ _ _ (c .before .before .before .before .before .before .before .before .before .before .before .args .w) e) (wrote-one _ _ _ _ _ _ _ _ (sym (c .before .before .before .before .before .spend .ensures .0) ∙ c .before .before .before .before .if2 .taken) (c .before .before .before .before .before .spend .ensures .1) (c .before .before .store .ensures ∙ among-written _ _ _ _ _ _ _ _ e))
+returns c =
+    let e = sym (c .before .before .before .before .before .before .before .before .among .ensures)
+    ∙ c .before .before .before .before .before .before .before .if1 .taken in
+    rw (one-among _ _ _ _ _ _ _ (c .before .before .before .before .before .before .before .before .before .before .before .args .w) e)
+    (wrote-one _ _ _ _ _ _ _ _ (sym (c .before .before .before .before .before .spend .ensures .0) ∙ c .before .before .before .before .if2 .taken)
+    (c .before .before .before .before .before .spend .ensures .1) (c .before .before .store .ensures ∙ among-written _ _ _ _ _ _ _ _ e))
 
 -- src/run.rt:61:1
 same-length-2 : tie.Need-same-length-2

@@ -61,7 +61,12 @@ each-requires-2 c κs = ((sym (c .before .before .before .before .before .before
 
 -- src/scan.rt:87:13
 returns-4 : tie.Need-returns-4
-returns-4 c = sym (besides-eights _ _ _ _ (sym (c .before .before .before .before .before .before .before .before .inside .ensures) ∙ c .before .before .before .before .before .before .before .if1 .taken) (c .before .before .before .before .before .before .if2 .left) false false true _ (sym (c .before .before .before .before .if3 .left) ∙ c .before .before .before .before .before .eights2 .ensures) (sym (c .before .before .if4 .left) ∙ c .before .before .before .each .ensures) (sym (c .if5 .taken) ∙ c .before .each2 .ensures) refl)
+returns-4 c =
+    sym (besides-eights _ _ _ _ (sym (c .before .before .before .before .before .before .before .before .inside .ensures)
+    ∙ c .before .before .before .before .before .before .before .if1 .taken)
+    (c .before .before .before .before .before .before .if2 .left) false false true _ (sym (c .before .before .before .before .if3 .left)
+    ∙ c .before .before .before .before .before .eights2 .ensures) (sym (c .before .before .if4 .left) ∙ c .before .before .before .each .ensures)
+    (sym (c .if5 .taken) ∙ c .before .each2 .ensures) refl)
 
 -- src/scan.rt:89:39
 add-eights : tie.Need-add-eights
@@ -73,7 +78,13 @@ eights-requires-3 c κs = ((sym (c .before .before .before .before .before .befo
 
 -- src/scan.rt:89:9
 returns-5 : tie.Need-returns-5
-returns-5 c = sym (besides-eights _ _ _ _ (sym (c .before .before .before .before .before .before .before .before .before .inside .ensures) ∙ c .before .before .before .before .before .before .before .before .if1 .taken) (c .before .before .before .before .before .before .before .if2 .left) false false false _ (sym (c .before .before .before .before .before .if3 .left) ∙ c .before .before .before .before .before .before .eights2 .ensures) (sym (c .before .before .before .if4 .left) ∙ c .before .before .before .before .each .ensures) (sym (c .before .if5 .left) ∙ c .before .before .each2 .ensures) (c .eights3 .ensures))
+returns-5 c =
+    sym (besides-eights _ _ _ _ (sym (c .before .before .before .before .before .before .before .before .before .inside .ensures)
+    ∙ c .before .before .before .before .before .before .before .before .if1 .taken)
+    (c .before .before .before .before .before .before .before .if2 .left) false false false _ (sym
+    (c .before .before .before .before .before .if3 .left) ∙ c .before .before .before .before .before .before .eights2 .ensures) (sym
+    (c .before .before .before .if4 .left) ∙ c .before .before .before .before .each .ensures) (sym (c .before .if5 .left)
+    ∙ c .before .before .each2 .ensures) (c .eights3 .ensures))
 
 -- src/scan.rt:72:1
 returns-6 : tie.Need-returns-6
