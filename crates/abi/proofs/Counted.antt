@@ -5,7 +5,7 @@ use mathlib.Core.Path.{_≡_, refl, ap, _∙_}
 use native.Mathlib.Omega.{arith}
 use Rattle.word.specs.Memory.{memory, holds}
 use Rattle.pool.specs.Book.{bookOf}
-use Rattle.pool.specs.State.{stateOf, statedOf, countsOf}
+use Rattle.pool.specs.State.{stateOf, statedOf, countedOf}
 use Rattle.pool.proofs.Pages.{adds-up}
 use Rattle.pool.proofs.Tickets.{ticket-sound}
 use Rattle.effect.proofs.Wholes.{owned, book-opens}
@@ -21,7 +21,7 @@ use Rattle.abi.proofs.Named.{call-leaves, state-answers}
 use Rattle.abi.proofs.Says.{unmap-says, protect-says}
 
 pub state-counts : (s : List ℕ) (n : Numbers) (w : WholeAt s n) → StateCounts (tpState s n) n (bookOf (memory s (n .origin)) (spaceOf n)) (w .role)
-unfolding counted stateOf statedOf countsOf
+unfolding counted stateOf statedOf countedOf
 state-counts s n w =
     rw (state-answers n (w .aligned) s, book-opens (w .whole)) (record {
       done = refl;

@@ -57,32 +57,11 @@ numberOf pointer = 26
 unfoldable pub header : List Why
 header =
     -- tools/reasons: header
-    done
-    ∷ refused plan.Size
-    ∷ refused plan.BaseUnaligned
-    ∷ refused plan.FrameUnaligned
-    ∷ refused plan.BaseRange
-    ∷ refused plan.FrameRange
-    ∷ refused plan.FrameInPool
-    ∷ refused plan.Overlap
-    ∷ refused plan.NoRoom
-    ∷ refused plan.NothingStarts
-    ∷ refused plan.Stray
-    ∷ refused plan.BadList
-    ∷ refused (plan.Pool pool.OriginUnaligned)
-    ∷ refused (plan.Pool pool.LengthUnaligned)
-    ∷ pool-unaligned
-    ∷ root-unaligned
-    ∷ refused (plan.Pool pool.PoolLarge)
-    ∷ refused (plan.Pool pool.PoolSmall)
-    ∷ refused (plan.Pool pool.PoolOutside)
-    ∷ refused (plan.Pool pool.BadRoot)
-    ∷ refused (plan.Pool pool.NoBook)
-    ∷ refused (plan.Pool pool.OtherBook)
-    ∷ refused (plan.Pool pool.BadBook)
-    ∷ unknown
-    ∷ spent
-    ∷ rights
-    ∷ pointer
+    done ∷ refused plan.Size ∷ refused plan.BaseUnaligned ∷ refused plan.FrameUnaligned ∷ refused plan.BaseRange ∷ refused plan.FrameRange
+    ∷ refused plan.FrameInPool ∷ refused plan.Overlap ∷ refused plan.NoRoom ∷ refused plan.NothingStarts ∷ refused plan.Stray
+    ∷ refused plan.BadList ∷ refused (plan.Pool pool.OriginUnaligned) ∷ refused (plan.Pool pool.LengthUnaligned) ∷ pool-unaligned
+    ∷ root-unaligned ∷ refused (plan.Pool pool.PoolLarge) ∷ refused (plan.Pool pool.PoolSmall) ∷ refused (plan.Pool pool.PoolOutside)
+    ∷ refused (plan.Pool pool.BadRoot) ∷ refused (plan.Pool pool.NoBook) ∷ refused (plan.Pool pool.OtherBook)
+    ∷ refused (plan.Pool pool.BadBook) ∷ unknown ∷ spent ∷ rights ∷ pointer
     -- tools/reasons: end
     ∷ []

@@ -33,8 +33,8 @@ bookNow s sp = record {
 }
 
 -- tables: the pages that are not the book's, nor the root, nor free, nor set aside
-unfoldable pub countsOf : Space → Book → Counts
-countsOf sp b = record {
+unfoldable pub countedOf : Space → Book → Counts
+countedOf sp b = record {
   pages = sp .pages;
   free = b .free;
   aside = b .aside;
@@ -43,7 +43,7 @@ countsOf sp b = record {
 }
 
 unfoldable pub statedOf : Space → Opened → Stated
-statedOf sp (opened.Book b) = stated.Counts (countsOf sp b)
+statedOf sp (opened.Book b) = stated.Counts (countedOf sp b)
 statedOf sp (opened.Refused r) = stated.Refused r
 
 -- WHAT STATE ANSWERS

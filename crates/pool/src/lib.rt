@@ -1,18 +1,16 @@
 // The book of a pool of pages, in the pool's own first pages: which pages are free, and which are set aside until every cache was told.
-// It knows nothing of tables: what is taken, set aside and released is up to the caller.
+// The code knows no tables: what is taken, set aside and released is up to the caller. Its laws give each page a role (tables/specs/Roles):
+// a book lists those that are free and those set aside, and all others are the book's, the root, or tables.
 ghost use mathlib.Core.Path.{_≡_};
 ghost use Prim.Native.Nat.{_+_, _*_, _/_, _%_, _^_, _<_, _≤_};
 ghost use mathlib.Core.Bool.{true};
 ghost use Rattle.word.specs.Memory.{memory, holds};
-ghost use mathlib.Core.List.{[], _∷_};
-ghost use Rattle.word.specs.Writes.{Wrote};
 ghost use Rattle.pool.specs.Book as the;
 ghost use Rattle.pool.specs.Layout.{bookPages};
-ghost use Rattle.pool.specs.Changes as to;
-ghost use Rattle.pool.specs.Stands as stand;
 use word::Cell;
 
 mod bounds;
+mod changes;
 mod header;
 mod layout;
 mod making;
@@ -22,12 +20,14 @@ use bounds::book_of;
 pub use bounds::entry;
 pub use bounds::in_pool;
 pub use bounds::set_entry;
+pub use changes::release;
+pub use changes::set_aside;
+pub use changes::takes;
+pub use changes::took;
 pub use header::book_now;
 pub use header::names;
 pub use header::open;
-use layout::ASIDE_AT;
 pub use layout::FREE_AT;
-use layout::HEAD_AT;
 pub use layout::HEADER;
 pub use layout::TICKETS_AT;
 pub use making::create;
@@ -235,75 +235,4 @@ pub fn due_by(book: Book, ticket: u64) -> Due
         return Due::Spent;
     }
     Due::Pages(k)
-}
-
-// Sets word k of the book: one write of the budget. A page from 2^40 on lies in no window, so any such page will do.
-fn put(mem: &mut [u8], left: &mut u64, space: Space, k: u64, w: u64)
-    ensures { λ _. ⌜ Wrote (space .origin) (to.put space k w ∷ []) (now (left .entry)) (now (left .exit)) (now (mem .entry)) (now (mem .exit)) ⌝ }
-{
-    if 1099511627776 <= space.first {
-        word::write(mem, left, space.origin, 1099511627776, k % 512, w);
-        return;
-    }
-    word::write(mem, left, space.origin, space.first + k / 512, k % 512, w)
-}
-
-// The k oldest free pages were taken.
-pub fn took(mem: &mut [u8], left: &mut u64, space: Space, book: Book, k: u64)
-    ensures { λ _. ⌜ Wrote (space .origin) (to.tookWrites space book k) (now (left .entry)) (now (left .exit)) (now (mem .entry)) (now (mem .exit)) ⌝ }
-{
-    if book.free < k {
-        return;
-    }
-    if sound(space.pages, book) {
-        put(mem, left, space, HEAD_AT, spot(space.pages, book.head, k));
-        put(mem, left, space, FREE_AT, book.free - k);
-    }
-}
-
-// Sets page p aside, behind all others, and answers the book after it.
-pub fn set_aside(mem: &mut [u8], left: &mut u64, space: Space, book: Book, p: u64) -> Book
-    ensures { λ r. ⌜ r ≡ to.asideBook space book ⌝ }
-    ensures { λ _. ⌜ Wrote (space .origin) (to.asideWrites space book p) (now (left .entry)) (now (left .exit)) (now (mem .entry)) (now (mem .exit)) ⌝ }
-{
-    if sound(space.pages, book) {
-        let at = spot(space.pages, book.head, book.free + book.aside);
-        put(mem, left, space, HEADER + at, p);
-        put(mem, left, space, ASIDE_AT, book.aside + 1);
-        return Book {
-            head: book.head,
-            free: book.free,
-            aside: book.aside + 1,
-            tickets: book.tickets,
-        };
-    }
-    book
-}
-
-// The k oldest pages set aside become free: the border moves, no slot is written.
-pub fn release(mem: &mut [u8], left: &mut u64, space: Space, book: Book, k: u64)
-    ensures { λ _. ⌜ Wrote (space .origin) (to.releaseWrites space book k) (now (left .entry)) (now (left .exit)) (now (mem .entry)) (now (mem .exit)) ⌝ }
-{
-    if book.aside < k {
-        return;
-    }
-    if sound(space.pages, book) {
-        put(mem, left, space, FREE_AT, book.free + k);
-        put(mem, left, space, ASIDE_AT, book.aside - k);
-        put(mem, left, space, TICKETS_AT, book.tickets + k);
-    }
-}
-
-// Has the book room for n pages more to be set aside?
-pub fn takes(space: Space, book: Book, n: u64) -> bool
-    ensures { λ r. ⌜ r ≡ stand.takesOf space book n ⌝ }
-{
-    if sound(space.pages, book) {
-        let most = space.pages - book_pages(space.pages) - 1;
-        if most - book.free - book.aside < n {
-            return false;
-        }
-        return true;
-    }
-    false
 }

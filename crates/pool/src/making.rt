@@ -11,6 +11,7 @@ use crate::MARK;
 use crate::Reason;
 use crate::Space;
 use crate::book_pages;
+use crate::changes::put;
 use crate::layout::ASIDE_AT;
 use crate::layout::FREE_AT;
 use crate::layout::HEADER;
@@ -18,7 +19,6 @@ use crate::layout::MARK_AT;
 use crate::layout::PAGES_AT;
 use crate::layout::ROOT_AT;
 use crate::layout::TICKETS_AT;
-use crate::put;
 use crate::room;
 
 // May a pool be made there? The window's ends are page boundaries.

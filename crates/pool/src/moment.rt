@@ -28,7 +28,7 @@ pub enum Stated {
 // What an opened book says of its pool.
 fn counted(space: Space, b: Book) -> Counts
     requires { ⌜ the.Sound (space .pages) b ⌝ }
-    ensures { λ r. ⌜ r ≡ say.countsOf space b ⌝ }
+    ensures { λ r. ⌜ r ≡ say.countedOf space b ⌝ }
 {
     Counts {
         pages: space.pages,

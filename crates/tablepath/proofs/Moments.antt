@@ -12,7 +12,7 @@ use Rattle.tables.specs.Roles.{Role}
 use Rattle.pool.specs.Layout.{bookPages}
 use Rattle.pool.specs.Book.{bookOf, ticketOf, openedOf}
 use Rattle.pool.specs.Booked.{tablesOf}
-use Rattle.pool.specs.State.{countsOf, statedOf, stateOf}
+use Rattle.pool.specs.State.{countedOf, statedOf, stateOf}
 use Rattle.pool.specs.declared.Space.{Space}
 use Rattle.pool.specs.declared.Reason.{Reason}
 use Rattle.pool.specs.declared.Opened.{Opened}
@@ -45,9 +45,9 @@ state-opened h m sp = record { refused = λ y. (refused-by sp y (openedOf h m sp
 module _ {h : ℕ → Bool} {sp : Space} {m : ℕ → ℕ} {role : ℕ → Role} (w : Whole h sp m role) where
   -- WHAT STATE ANSWERS
   pub state-says : StateSays sp m role (stateOf h m sp)
-  unfolding stateOf statedOf countsOf
+  unfolding stateOf statedOf countedOf
   state-says = record {
-    counts = countsOf sp (bookOf m sp);
+    counts = countedOf sp (bookOf m sp);
     answered = rw (book-opens w);
     pages = refl;
     free = sym (free-count (owned w) (w .booked));

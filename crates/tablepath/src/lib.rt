@@ -208,10 +208,10 @@ pub fn state(mem: &[u8], space: Space) -> Stated
     pool::state(mem, space)
 }
 
-// What the address means; the root is given as in CR3.
-pub fn look_up(mem: &[u8], origin: u64, root: u64, va: u64) -> Found
-    ensures answer { λ f. ⌜ f ≡ inWindow (now (mem .entry)) origin walk root va ⌝ }
-    ensures meaning { λ r. ⌜ LookUpMeans (now (mem .entry)) origin root va r ⌝ }
+// What the address means with this CR3.
+pub fn look_up(mem: &[u8], origin: u64, cr3: u64, va: u64) -> Found
+    ensures answer { λ f. ⌜ f ≡ inWindow (now (mem .entry)) origin walk cr3 va ⌝ }
+    ensures meaning { λ r. ⌜ LookUpMeans (now (mem .entry)) origin cr3 va r ⌝ }
 {
-    walk::look_up(mem, origin, root, va)
+    walk::look_up(mem, origin, cr3, va)
 }

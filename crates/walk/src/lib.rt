@@ -86,15 +86,15 @@ pub fn step(mem: &[u8], origin: u64, n: u64, va: u64, p: Place) -> Place
     }
 }
 
-// Where a walk begins; the root is given as in CR3.
-pub fn begin(root: u64, va: u64) -> Place
-    ensures { λ p. ⌜ p ≡ the.start root va ⌝ }
+// Where a walk begins with this CR3.
+pub fn begin(cr3: u64, va: u64) -> Place
+    ensures { λ p. ⌜ p ≡ the.start cr3 va ⌝ }
 {
     if 281474976710656 <= va {
         return Place::Ended(Found::Nothing);
     }
     Place::Going(
-        entry::table(root),
+        entry::table(cr3),
         Rights {
             writable: true,
             user: true,
@@ -113,11 +113,11 @@ pub fn answer(p: Place) -> Found
     }
 }
 
-// What the address means in the tables below this root, for any bytes and any numbers.
-pub fn look_up(mem: &[u8], origin: u64, root: u64, va: u64) -> Found
-    ensures { λ f. ⌜ f ≡ the.walk (holds (now (mem .entry)) origin) (memory (now (mem .entry)) origin) root va ⌝ }
+// What the address means with this CR3, for any bytes and any numbers.
+pub fn look_up(mem: &[u8], origin: u64, cr3: u64, va: u64) -> Found
+    ensures { λ f. ⌜ f ≡ the.walk (holds (now (mem .entry)) origin) (memory (now (mem .entry)) origin) cr3 va ⌝ }
 {
-    let mut p = begin(root, va);
+    let mut p = begin(cr3, va);
     let mut n: u64 = 4;
     while 0 < n {
         n -= 1;

@@ -33,7 +33,15 @@ granted-requires-2 c κs = search needs
 
 returns-3 : tie.Need-returns-3
 unfolding says
-returns-3 c = simp (bit-on 0 (c .before .before .before .before .before .args .w) (omega arith), present-above (c .before .before .before .before .before .args .n) (c .before .before .before .before .before .args .w) (c .before .before .before .if2 .left), bit-off 7 (c .before .before .before .before .before .args .w) (c .before .before .if3 .taken), c .before .table .ensures, c .granted2 .ensures)
+returns-3 c =
+    simp (
+      bit-on 0 (c .before .before .before .before .before .args .w) (omega arith),
+      present-above
+          (c .before .before .before .before .before .args .n) (c .before .before .before .before .before .args .w) (c .before .before .before .if2 .left),
+      bit-off 7 (c .before .before .before .before .before .args .w) (c .before .before .if3 .taken),
+      c .before .table .ensures,
+      c .granted2 .ensures,
+    )
 
 large-requires : tie.Need-large-requires
 large-requires c κs = search needs

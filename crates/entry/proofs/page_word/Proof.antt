@@ -67,7 +67,19 @@ add-t16 c = search needs
 
 returns-4 : tie.Need-returns-4
 unfolding madePage fits pageWord
-returns-4 c = simp (le-leb _ _ (c .before .before .before .before .before .before .before .if1 .left), ← (c .before .before .before .before .before .before .size .ensures .0 (omega arith)), eq-eqb _ _ (c .before .before .before .before .before .if2 .left), lt-ltb _ _ (c .before .before .before .before .if3 .left), c .before .before .before .flag .ensures .0, c .before .before .flag2 .ensures .0, c .flag3 .ensures .0, c .before .large-flag .ensures .0)
+returns-4 c =
+    simp (
+      le-leb _ _ (c .before .before .before .before .before .before .before .if1 .left),
+      ←
+          (c .before .before .before .before .before .before .size .ensures .0 (omega arith)),
+      eq-eqb _ _
+          (c .before .before .before .before .before .if2 .left),
+      lt-ltb _ _ (c .before .before .before .before .if3 .left),
+      c .before .before .before .flag .ensures .0,
+      c .before .before .flag2 .ensures .0,
+      c .flag3 .ensures .0,
+      c .before .large-flag .ensures .0,
+    )
 
 pub page-word-spec : {M : Type 1} → statement M
 page-word-spec =

@@ -33,11 +33,31 @@ spans-requires c κs = search needs
 
 returns-3 : tie.Need-returns-3
 unfolding roomOf
-returns-3 c = simp (le-leb _ _ (c .before .before .before .before .if1 .left), le-leb (bookPages (c .before .before .before .before .before .before .args .pages) + 2) (c .before .before .before .before .before .before .args .pages) (omega (arith, c .before .before .if2 .left, c .before .before .before .book-of .ensures)), sym (spans-ends _ _ _ _ (omega (arith, c .before .before .if2 .left))) ∙ (sym (c .before .spans .ensures) ∙ c .if3 .taken))
+returns-3 c =
+    simp (
+      le-leb _ _ (c .before .before .before .before .if1 .left),
+      le-leb (bookPages
+          (c .before .before .before .before .before .before .args .pages) + 2) (c .before .before .before .before .before .before .args .pages)
+          (omega (arith, c .before .before .if2 .left, c .before .before .before .book-of .ensures)),
+      sym (spans-ends _ _ _ _ (omega (
+        arith,
+        c .before .before .if2 .left,
+      ))) ∙ (sym (c .before .spans .ensures) ∙ c .if3 .taken),
+    )
 
 returns-4 : tie.Need-returns-4
 unfolding roomOf
-returns-4 c = simp (le-leb _ _ (c .before .before .before .before .if1 .left), le-leb (bookPages (c .before .before .before .before .before .before .args .pages) + 2) (c .before .before .before .before .before .before .args .pages) (omega (arith, c .before .before .if2 .left, c .before .before .before .book-of .ensures)), sym (spans-ends _ _ _ _ (omega (arith, c .before .before .if2 .left))) ∙ (sym (c .before .spans .ensures) ∙ c .if3 .left))
+returns-4 c =
+    simp (
+      le-leb _ _ (c .before .before .before .before .if1 .left),
+      le-leb (bookPages
+          (c .before .before .before .before .before .before .args .pages) + 2) (c .before .before .before .before .before .before .args .pages)
+          (omega (arith, c .before .before .if2 .left, c .before .before .before .book-of .ensures)),
+      sym (spans-ends _ _ _ _ (omega (
+        arith,
+        c .before .before .if2 .left,
+      ))) ∙ (sym (c .before .spans .ensures) ∙ c .if3 .left),
+    )
 
 pub room-spec : {M : Type 1} → statement M
 room-spec =

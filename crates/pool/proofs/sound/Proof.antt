@@ -33,7 +33,15 @@ returns-5 : tie.Need-returns-5
 returns-5 c = sym (unsound _ _ (λ s. omega (arith, s .room, c .if5 .taken, c .before .before .before .if4 .left, c .before .before .before .before .before .before .book-pages .ensures)))
 
 returns-6 : tie.Need-returns-6
-returns-6 c = sound-last _ _ (c .before .before .before .before .before .before .before .before .before .before .if1 .left) (c .before .before .before .before .before .before .before .before .if2 .left) (omega (arith, c .before .before .before .before .before .before .if3 .left, c .before .before .before .before .if4 .left, c .before .if5 .left, c .before .before .before .before .before .before .before .book-pages .ensures))
+returns-6 c =
+    sound-last _ _ (c .before .before .before .before .before .before .before .before .before .before .if1 .left)
+    (c .before .before .before .before .before .before .before .before .if2 .left) (omega (
+      arith,
+      c .before .before .before .before .before .before .if3 .left,
+      c .before .before .before .before .if4 .left,
+      c .before .if5 .left,
+      c .before .before .before .before .before .before .before .book-pages .ensures,
+    ))
 
 pub sound-spec : {M : Type 1} → statement M
 sound-spec =

@@ -60,7 +60,12 @@ same-length-4 c = search needs
 
 returns-4 : tie.Need-returns-4
 unfolding toldAnswer toldWrites toldSaid toldDid dueSaid dueDid
-returns-4 c = let e = sym (c .before .before .before .before .before .before .before .before .before .before .before .before .«open» .ensures) ∙ c .before .before .before .before .before .before .before .before .before .before .o2 .given .1 in let f = sym (c .before .before .before .before .before .before .before .before .due-by .ensures) ∙ c .before .before .before .before .before .before .d .given .1 in (rw (e, f), rw (e, f) (c .before .before .release .ensures))
+returns-4 c =
+    let e = sym (c .before .before .before .before .before .before .before .before .before .before .before .before .«open» .ensures)
+    ∙ c .before .before .before .before .before .before .before .before .before .before .o2 .given .1 in
+    let f = sym (c .before .before .before .before .before .before .before .before .due-by .ensures)
+    ∙ c .before .before .before .before .before .before .d .given .1 in
+    (rw (e, f), rw (e, f) (c .before .before .release .ensures))
 
 pub told-up-to-spec : {M : Type 1} → statement M
 told-up-to-spec =

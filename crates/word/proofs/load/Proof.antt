@@ -80,7 +80,16 @@ wide-requires-8 c κs = search needs
 
 returns : tie.Need-returns
 unfolding wordAt
-returns c = part-more 7 56 _ _ _ _ refl (omega arith) (part-more 6 48 _ _ _ _ refl (omega arith) (part-more 5 40 _ _ _ _ refl (omega arith) (part-more 4 32 _ _ _ _ refl (omega arith) (part-more 3 24 _ _ _ _ refl (omega arith) (part-more 2 16 _ _ _ _ refl (omega arith) (part-more 1 8 _ _ _ _ refl (omega arith) (part-first _ _ _ (c .before .before .before .before .before .before .before .before .before .before .before .before .before .before .wide .ensures)) (c .before .before .before .before .before .before .before .before .before .before .before .before .wide2 .ensures)) (c .before .before .before .before .before .before .before .before .before .before .wide3 .ensures)) (c .before .before .before .before .before .before .before .before .wide4 .ensures)) (c .before .before .before .before .before .before .wide5 .ensures)) (c .before .before .before .before .wide6 .ensures)) (c .before .before .wide7 .ensures)) (c .wide8 .ensures) .same
+returns c =
+    part-more 7 56 _ _ _ _ refl (omega arith) (part-more 6 48 _ _ _ _ refl (omega arith) (part-more 5 40 _ _ _ _ refl (omega arith)
+    (part-more 4 32 _ _ _ _ refl (omega arith) (part-more 3 24 _ _ _ _ refl (omega arith) (part-more 2 16 _ _ _ _ refl (omega arith)
+    (part-more 1 8 _ _ _ _ refl (omega arith) (part-first _ _ _
+    (c .before .before .before .before .before .before .before .before .before .before .before .before .before .before .wide .ensures))
+    (c .before .before .before .before .before .before .before .before .before .before .before .before .wide2 .ensures))
+    (c .before .before .before .before .before .before .before .before .before .before .wide3 .ensures))
+    (c .before .before .before .before .before .before .before .before .wide4 .ensures))
+    (c .before .before .before .before .before .before .wide5 .ensures)) (c .before .before .before .before .wide6 .ensures))
+    (c .before .before .wide7 .ensures)) (c .wide8 .ensures) .same
 
 pub load-spec : {M : Type 1} → statement M
 load-spec =

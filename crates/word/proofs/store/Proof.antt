@@ -84,7 +84,19 @@ same-length c = search needs
 
 returns : tie.Need-returns
 unfolding putWord putBytes
-returns c = rw (add-zero, div-one, c .before .before .before .before .before .before .before .byte .ensures, c .before .before .before .before .before .before .byte2 .ensures, c .before .before .before .before .before .byte3 .ensures, c .before .before .before .before .byte4 .ensures, c .before .before .before .byte5 .ensures, c .before .before .byte6 .ensures, c .before .byte7 .ensures, c .byte8 .ensures)
+returns c =
+    rw (
+      add-zero,
+      div-one,
+      c .before .before .before .before .before .before .before .byte .ensures,
+      c .before .before .before .before .before .before .byte2 .ensures,
+      c .before .before .before .before .before .byte3 .ensures,
+      c .before .before .before .before .byte4 .ensures,
+      c .before .before .before .byte5 .ensures,
+      c .before .before .byte6 .ensures,
+      c .before .byte7 .ensures,
+      c .byte8 .ensures,
+    )
 
 pub store-spec : {M : Type 1} → statement M
 store-spec =

@@ -22,7 +22,25 @@ sub-if1 : tie.Need-sub-if1
 sub-if1 c = search needs
 
 returns : tie.Need-returns
-returns c = sym (in-pool _ _ (record { behind = omega (arith, c .before .before .wrapping-sub-u64 .ensures, c .before .before .before .before .book-of .ensures, c .before .before .before .before .before .pre .low, c .before .before .before .before .before .pre .small, c .before .before .before .before .before .pre .enough); before-end = omega (arith, c .before .before .wrapping-sub-u64 .ensures, c .before .before .before .before .book-of .ensures, c .before .before .before .before .before .pre .low, c .before .before .before .before .before .pre .small, c .before .before .before .before .before .pre .enough) }))
+returns c =
+    sym (in-pool _ _ (record {
+      behind = omega (
+        arith,
+        c .before .before .wrapping-sub-u64 .ensures,
+        c .before .before .before .before .book-of .ensures,
+        c .before .before .before .before .before .pre .low,
+        c .before .before .before .before .before .pre .small,
+        c .before .before .before .before .before .pre .enough,
+      );
+      before-end = omega (
+        arith,
+        c .before .before .wrapping-sub-u64 .ensures,
+        c .before .before .before .before .book-of .ensures,
+        c .before .before .before .before .before .pre .low,
+        c .before .before .before .before .before .pre .small,
+        c .before .before .before .before .before .pre .enough,
+      );
+    }))
 
 returns-2 : tie.Need-returns-2
 returns-2 c = sym (not-in-pool _ _ (λ k. omega (arith, c .before .before .wrapping-sub-u64 .ensures, c .before .before .before .before .book-of .ensures, c .before .before .before .before .before .pre .low, c .before .before .before .before .before .pre .small, c .before .before .before .before .before .pre .enough, k .behind, k .before-end)))

@@ -7,7 +7,7 @@ use Rattle.pool.proofs.making.bare.Tie as tie
 use Rattle.pool.proofs.making.bare.Reads as reads
 use Rattle.pool.proofs.making.bare.Lts as lts
 use Rattle.pool.proofs.making.unmark.Reads as unmark-reads
-use Rattle.pool.proofs.put.Reads as put-reads
+use Rattle.pool.proofs.changes.put.Reads as put-reads
 
 put-requires : tie.Need-put-requires
 put-requires c κs = search needs

@@ -9,7 +9,7 @@ use Rattle.pool.proofs.making.blank.Statement.{statement}
 use Rattle.pool.proofs.making.blank.Tie as tie
 use Rattle.pool.proofs.making.blank.Reads as reads
 use Rattle.pool.proofs.making.blank.Lts as lts
-use Rattle.pool.proofs.put.Reads as put-reads
+use Rattle.pool.proofs.changes.put.Reads as put-reads
 
 abbrev Inv-loop : tie.InvT-loop
 Inv-loop mem₀ left₀ space k n j₀ mem left j = (j ≤ n) × Wrote (space .origin) (blanks space k j) left₀ left mem₀ mem

@@ -10,7 +10,7 @@ use Rattle.pool.proofs.making.fill.Statement.{statement}
 use Rattle.pool.proofs.making.fill.Tie as tie
 use Rattle.pool.proofs.making.fill.Reads as reads
 use Rattle.pool.proofs.making.fill.Lts as lts
-use Rattle.pool.proofs.put.Reads as put-reads
+use Rattle.pool.proofs.changes.put.Reads as put-reads
 
 abbrev Inv-loop : tie.InvT-loop
 Inv-loop mem₀ left₀ space from n j₀ mem left j = (j ≤ n) × Wrote (space .origin) (fills space from j) left₀ left mem₀ mem

@@ -10,7 +10,7 @@ use Rattle.pool.proofs.book_pages.Reads as book-pages-reads
 use Rattle.pool.proofs.making.bare.Reads as bare-reads
 use Rattle.pool.proofs.making.put_header.Reads as put-header-reads
 use Rattle.pool.proofs.making.put_slots.Reads as put-slots-reads
-use Rattle.pool.proofs.put.Reads as put-reads
+use Rattle.pool.proofs.changes.put.Reads as put-reads
 use Rattle.word.proofs.clear.Reads as clear-reads
 
 book-pages-requires : tie.Need-book-pages-requires
@@ -42,7 +42,16 @@ same-length c = search needs
 
 returns : tie.Need-returns
 unfolding layOut markAt
-returns c = rw (← c .before .before .before .before .before .before .before .before .before .before .before .before .before .before .before .before .before .before .before .before .before .before .before .before .before .before .book-pages .ensures) (wrote-then _ _ _ _ _ _ _ _ _ (c .before .before .before .before .before .before .before .before .before .before .before .before .before .before .before .before .before .before .before .before .before .before .bare .ensures) (wrote-then _ _ _ _ _ _ _ _ _ (c .before .before .before .before .before .before .before .before .before .before .before .before .before .before .before .before .before .put-slots .ensures) (wrote-then _ _ _ _ _ _ _ _ _ (c .before .before .before .before .before .before .before .before .before .before .before .before .put-header .ensures) (wrote-then _ _ _ _ _ _ _ _ _ (c .before .before .before .before .before .before .before .clear .ensures) (c .before .before .put .ensures)))))
+returns c =
+    rw
+    (← c .before .before .before .before .before .before .before .before .before .before .before .before .before .before .before .before .before .before .before .before .before .before .before .before .before .before .book-pages .ensures)
+    (wrote-then _ _ _ _ _ _ _ _ _
+    (c .before .before .before .before .before .before .before .before .before .before .before .before .before .before .before .before .before .before .before .before .before .before .bare .ensures)
+    (wrote-then _ _ _ _ _ _ _ _ _
+    (c .before .before .before .before .before .before .before .before .before .before .before .before .before .before .before .before .before .put-slots .ensures)
+    (wrote-then _ _ _ _ _ _ _ _ _
+    (c .before .before .before .before .before .before .before .before .before .before .before .before .put-header .ensures)
+    (wrote-then _ _ _ _ _ _ _ _ _ (c .before .before .before .before .before .before .before .clear .ensures) (c .before .before .put .ensures)))))
 
 pub lay-out-spec : {M : Type 1} → statement M
 lay-out-spec =

@@ -7,7 +7,7 @@ use Rattle.pool.proofs.making.put_header.Tie as tie
 use Rattle.pool.proofs.making.put_header.Reads as reads
 use Rattle.pool.proofs.making.put_header.Lts as lts
 use Rattle.pool.proofs.making.blank.Reads as blank-reads
-use Rattle.pool.proofs.put.Reads as put-reads
+use Rattle.pool.proofs.changes.put.Reads as put-reads
 
 put-requires : tie.Need-put-requires
 put-requires c κs = search needs
@@ -32,7 +32,13 @@ same-length c = search needs
 
 returns : tie.Need-returns
 unfolding header pagesAt rootAt ticketsAt freeAt asideAt headerWords
-returns c = wrote-then _ _ _ _ _ _ _ _ _ (c .before .before .before .before .before .before .before .before .before .before .before .before .before .before .before .before .before .before .before .before .before .before .put .ensures) (wrote-then _ _ _ _ _ _ _ _ _ (c .before .before .before .before .before .before .before .before .before .before .before .before .before .before .before .before .before .put2 .ensures) (wrote-then _ _ _ _ _ _ _ _ _ (c .before .before .before .before .before .before .before .before .before .before .before .before .put3 .ensures) (wrote-then _ _ _ _ _ _ _ _ _ (c .before .before .before .before .before .before .before .put4 .ensures) (c .before .before .blank .ensures))))
+returns c =
+    wrote-then _ _ _ _ _ _ _ _ _
+    (c .before .before .before .before .before .before .before .before .before .before .before .before .before .before .before .before .before .before .before .before .before .before .put .ensures)
+    (wrote-then _ _ _ _ _ _ _ _ _
+    (c .before .before .before .before .before .before .before .before .before .before .before .before .before .before .before .before .before .put2 .ensures)
+    (wrote-then _ _ _ _ _ _ _ _ _ (c .before .before .before .before .before .before .before .before .before .before .before .before .put3 .ensures)
+    (wrote-then _ _ _ _ _ _ _ _ _ (c .before .before .before .before .before .before .before .put4 .ensures) (c .before .before .blank .ensures))))
 
 pub put-header-spec : {M : Type 1} → statement M
 put-header-spec =

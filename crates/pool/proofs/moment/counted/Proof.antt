@@ -1,4 +1,4 @@
-use Rattle.pool.specs.State.{countsOf}
+use Rattle.pool.specs.State.{countedOf}
 use borrow.Author.Needs.{needs}
 use Rattle.pool.proofs.moment.counted.Statement.{statement}
 use Rattle.pool.proofs.moment.counted.Tie as tie
@@ -26,7 +26,7 @@ ticket-requires : tie.Need-ticket-requires
 ticket-requires c κs = search needs
 
 returns : tie.Need-returns
-unfolding countsOf
+unfolding countedOf
 returns c = rw (c .before .before .before .before .book-pages .ensures, c .ticket .ensures)
 
 pub counted-spec : {M : Type 1} → statement M

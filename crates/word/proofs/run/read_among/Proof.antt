@@ -30,7 +30,12 @@ load-requires : tie.Need-load-requires
 load-requires c κs = let a = is-among _ _ _ _ (c .before .before .before .args .kept) (c .before .before .before .args .p) (c .before .before .before .args .i) (sym (c .before .among .ensures) ∙ c .if1 .taken) in let o = offset _ _ _ _ (among-holds _ _ _ _ _ _ _ a) (a .small) in omega (arith, o .fits)
 
 returns : tie.Need-returns
-returns c = let a = is-among _ _ _ _ (c .before .before .before .before .args .kept) (c .before .before .before .before .args .p) (c .before .before .before .before .args .i) (sym (c .before .before .among .ensures) ∙ c .before .if1 .taken) in let o = offset _ _ _ _ (among-holds _ _ _ _ _ _ _ a) (a .small) in rw (c .load .ensures, o .same, sym (memory-in _ _ _ (held-lies _ _ _ _ (held _ _ _ (among-holds _ _ _ _ _ _ _ a)) (a .small)))) (among-word _ _ _ _ _ _ _ a)
+returns c =
+    let a = is-among _ _ _ _ (c .before .before .before .before .args .kept) (c .before .before .before .before .args .p)
+    (c .before .before .before .before .args .i) (sym (c .before .before .among .ensures) ∙ c .before .if1 .taken) in
+    let o = offset _ _ _ _ (among-holds _ _ _ _ _ _ _ a) (a .small) in
+    rw (c .load .ensures, o .same, sym (memory-in _ _ _ (held-lies _ _ _ _ (held _ _ _ (among-holds _ _ _ _ _ _ _ a)) (a .small))))
+    (among-word _ _ _ _ _ _ _ a)
 
 returns-2 : tie.Need-returns-2
 unfolding amongOf

@@ -24,7 +24,14 @@ sub-store : tie.Need-sub-store
 sub-store c = among-offset _ _ _ _ (c .before .before .before .before .before .before .before .before .args .kept) _ (c .before .before .before .before .before .before .before .before .args .i) (sym (c .before .before .before .before .before .among .ensures) ∙ c .before .before .before .before .if1 .taken) .above
 
 mul-store-2 : tie.Need-mul-store-2
-mul-store-2 c = omega (arith, among-index _ _ _ _ (c .before .before .before .before .before .before .before .before .args .kept) (c .before .before .before .before .before .before .before .before .args .p) (c .before .before .before .before .before .before .before .before .args .i) (sym (c .before .before .before .before .before .among .ensures) ∙ c .before .before .before .before .if1 .taken))
+mul-store-2 c =
+    omega (
+      arith,
+      among-index _ _ _ _ (c .before .before .before .before .before .before .before .before .args .kept)
+          (c .before .before .before .before .before .before .before .before .args .p)
+          (c .before .before .before .before .before .before .before .before .args .i) (sym (c .before .before .before .before .before .among .ensures)
+          ∙ c .before .before .before .before .if1 .taken),
+    )
 
 add-store : tie.Need-add-store
 add-store c = omega (arith, among-offset _ _ _ _ (c .before .before .before .before .before .before .before .before .args .kept) _ (c .before .before .before .before .before .before .before .before .args .i) (sym (c .before .before .before .before .before .among .ensures) ∙ c .before .before .before .before .if1 .taken) .fits)
@@ -36,7 +43,12 @@ same-length : tie.Need-same-length
 same-length c = search needs
 
 returns : tie.Need-returns
-returns c = let e = sym (c .before .before .before .before .before .before .before .before .among .ensures) ∙ c .before .before .before .before .before .before .before .if1 .taken in rw (one-among _ _ _ _ _ _ _ (c .before .before .before .before .before .before .before .before .before .before .before .args .w) e) (wrote-one _ _ _ _ _ _ _ _ (sym (c .before .before .before .before .before .spend .ensures .0) ∙ c .before .before .before .before .if2 .taken) (c .before .before .before .before .before .spend .ensures .1) (c .before .before .store .ensures ∙ among-written _ _ _ _ _ _ _ _ e))
+returns c =
+    let e = sym (c .before .before .before .before .before .before .before .before .among .ensures)
+    ∙ c .before .before .before .before .before .before .before .if1 .taken in
+    rw (one-among _ _ _ _ _ _ _ (c .before .before .before .before .before .before .before .before .before .before .before .args .w) e)
+    (wrote-one _ _ _ _ _ _ _ _ (sym (c .before .before .before .before .before .spend .ensures .0) ∙ c .before .before .before .before .if2 .taken)
+    (c .before .before .before .before .before .spend .ensures .1) (c .before .before .store .ensures ∙ among-written _ _ _ _ _ _ _ _ e))
 
 same-length-2 : tie.Need-same-length-2
 same-length-2 c = search needs

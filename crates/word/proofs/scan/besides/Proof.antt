@@ -48,7 +48,12 @@ each-requires-2 : tie.Need-each-requires-2
 each-requires-2 c κs = ((sym (c .before .before .before .before .before .before .inside .ensures) ∙ c .before .before .before .before .before .if1 .taken), omega arith)
 
 returns-4 : tie.Need-returns-4
-returns-4 c = sym (besides-eights _ _ _ _ (sym (c .before .before .before .before .before .before .before .before .inside .ensures) ∙ c .before .before .before .before .before .before .before .if1 .taken) (c .before .before .before .before .before .before .if2 .left) false false true _ (sym (c .before .before .before .before .if3 .left) ∙ c .before .before .before .before .before .eights2 .ensures) (sym (c .before .before .if4 .left) ∙ c .before .before .before .each .ensures) (sym (c .if5 .taken) ∙ c .before .each2 .ensures) refl)
+returns-4 c =
+    sym (besides-eights _ _ _ _ (sym (c .before .before .before .before .before .before .before .before .inside .ensures)
+    ∙ c .before .before .before .before .before .before .before .if1 .taken)
+    (c .before .before .before .before .before .before .if2 .left) false false true _ (sym (c .before .before .before .before .if3 .left)
+    ∙ c .before .before .before .before .before .eights2 .ensures) (sym (c .before .before .if4 .left) ∙ c .before .before .before .each .ensures)
+    (sym (c .if5 .taken) ∙ c .before .each2 .ensures) refl)
 
 add-eights : tie.Need-add-eights
 add-eights c = search needs
@@ -57,7 +62,13 @@ eights-requires-3 : tie.Need-eights-requires-3
 eights-requires-3 c κs = ((sym (c .before .before .before .before .before .before .before .before .inside .ensures) ∙ c .before .before .before .before .before .before .before .if1 .taken), omega arith)
 
 returns-5 : tie.Need-returns-5
-returns-5 c = sym (besides-eights _ _ _ _ (sym (c .before .before .before .before .before .before .before .before .before .inside .ensures) ∙ c .before .before .before .before .before .before .before .before .if1 .taken) (c .before .before .before .before .before .before .before .if2 .left) false false false _ (sym (c .before .before .before .before .before .if3 .left) ∙ c .before .before .before .before .before .before .eights2 .ensures) (sym (c .before .before .before .if4 .left) ∙ c .before .before .before .before .each .ensures) (sym (c .before .if5 .left) ∙ c .before .before .each2 .ensures) (c .eights3 .ensures))
+returns-5 c =
+    sym (besides-eights _ _ _ _ (sym (c .before .before .before .before .before .before .before .before .before .inside .ensures)
+    ∙ c .before .before .before .before .before .before .before .before .if1 .taken)
+    (c .before .before .before .before .before .before .before .if2 .left) false false false _ (sym
+    (c .before .before .before .before .before .if3 .left) ∙ c .before .before .before .before .before .before .eights2 .ensures) (sym
+    (c .before .before .before .if4 .left) ∙ c .before .before .before .before .each .ensures) (sym (c .before .if5 .left)
+    ∙ c .before .before .each2 .ensures) (c .eights3 .ensures))
 
 returns-6 : tie.Need-returns-6
 returns-6 c = sym (besides-outside _ _ _ _ 512 (sym (c .before .inside .ensures) ∙ c .if1 .left))

@@ -6,10 +6,10 @@ use Rattle.pool.specs.Layout.{bookPages}
 use Rattle.pool.specs.Stands.{takesOf}
 use Rattle.pool.proofs.Counts.{sound-is}
 use borrow.Author.Needs.{needs}
-use Rattle.pool.proofs.takes.Statement.{statement}
-use Rattle.pool.proofs.takes.Tie as tie
-use Rattle.pool.proofs.takes.Reads as reads
-use Rattle.pool.proofs.takes.Lts as lts
+use Rattle.pool.proofs.changes.takes.Statement.{statement}
+use Rattle.pool.proofs.changes.takes.Tie as tie
+use Rattle.pool.proofs.changes.takes.Reads as reads
+use Rattle.pool.proofs.changes.takes.Lts as lts
 use Rattle.pool.proofs.book_pages.Reads as book-pages-reads
 use Rattle.pool.proofs.sound.Reads as sound-reads
 
@@ -33,11 +33,23 @@ sub-if2-2 c = let s = sound-is _ _ (sym (c .before .before .before .before .befo
 
 returns : tie.Need-returns
 unfolding takesOf
-returns c = let h = sym (c .before .before .before .before .before .before .sound .ensures) ∙ c .before .before .before .before .before .if1 .taken in let s = sound-is _ _ h in let u : c .before .before .before .before .before .before .before .args .space .pages < c .before .before .before .before .before .before .before .args .book .free + c .before .before .before .before .before .before .before .args .book .aside + c .before .before .before .before .before .before .before .args .n + bookPages (c .before .before .before .before .before .before .before .args .space .pages) + 1 = omega (arith, s .room, c .before .before .before .before .book-pages .ensures, c .if2 .taken) in simp (h, lt-leb _ _ u)
+returns c =
+    let h = sym (c .before .before .before .before .before .before .sound .ensures) ∙ c .before .before .before .before .before .if1 .taken in
+    let s = sound-is _ _ h in
+    let a = c .before .before .before .before .before .before .before .args in
+    let u : a .space .pages < a .book .free + a .book .aside + a .n + bookPages (a .space .pages) + 1
+    = omega (arith, s .room, c .before .before .before .before .book-pages .ensures, c .if2 .taken) in
+    simp (h, lt-leb _ _ u)
 
 returns-2 : tie.Need-returns-2
 unfolding takesOf
-returns-2 c = let h = sym (c .before .before .before .before .before .before .sound .ensures) ∙ c .before .before .before .before .before .if1 .taken in let s = sound-is _ _ h in let u : c .before .before .before .before .before .before .before .args .book .free + c .before .before .before .before .before .before .before .args .book .aside + c .before .before .before .before .before .before .before .args .n + bookPages (c .before .before .before .before .before .before .before .args .space .pages) + 1 ≤ c .before .before .before .before .before .before .before .args .space .pages = omega (arith, s .room, c .before .before .before .before .book-pages .ensures, c .if2 .left) in simp (h, le-leb _ _ u)
+returns-2 c =
+    let h = sym (c .before .before .before .before .before .before .sound .ensures) ∙ c .before .before .before .before .before .if1 .taken in
+    let s = sound-is _ _ h in
+    let a = c .before .before .before .before .before .before .before .args in
+    let u : a .book .free + a .book .aside + a .n + bookPages (a .space .pages) + 1 ≤ a .space .pages
+    = omega (arith, s .room, c .before .before .before .before .book-pages .ensures, c .if2 .left) in
+    simp (h, le-leb _ _ u)
 
 returns-3 : tie.Need-returns-3
 unfolding takesOf

@@ -4,11 +4,11 @@ use borrow.Author.Tests.{le-leb, lt-leb}
 use Rattle.word.proofs.Budget.{wrote-none, wrote-then}
 use Rattle.pool.specs.Changes.{tookWrites}
 use borrow.Author.Needs.{needs}
-use Rattle.pool.proofs.took.Statement.{statement}
-use Rattle.pool.proofs.took.Tie as tie
-use Rattle.pool.proofs.took.Reads as reads
-use Rattle.pool.proofs.took.Lts as lts
-use Rattle.pool.proofs.put.Reads as put-reads
+use Rattle.pool.proofs.changes.took.Statement.{statement}
+use Rattle.pool.proofs.changes.took.Tie as tie
+use Rattle.pool.proofs.changes.took.Reads as reads
+use Rattle.pool.proofs.changes.took.Lts as lts
+use Rattle.pool.proofs.changes.put.Reads as put-reads
 use Rattle.pool.proofs.sound.Reads as sound-reads
 use Rattle.pool.proofs.spot.Reads as spot-reads
 
@@ -33,7 +33,14 @@ same-length c = search needs
 
 returns-2 : tie.Need-returns-2
 unfolding tookWrites headAt freeAt
-returns-2 c = simp (le-leb _ _ (c .before .before .before .before .before .before .before .before .before .before .before .before .before .before .if1 .left), sym (c .before .before .before .before .before .before .before .before .before .before .before .before .before .sound .ensures) ∙ c .before .before .before .before .before .before .before .before .before .before .before .before .if2 .taken) (rw (← c .before .before .before .before .before .before .before .before .before .spot .ensures) (wrote-then _ _ _ _ _ _ _ _ _ (c .before .before .before .before .before .before .before .before .put .ensures) (c .before .before .put2 .ensures)))
+returns-2 c =
+    simp (
+      le-leb _ _ (c .before .before .before .before .before .before .before .before .before .before .before .before .before .before .if1 .left),
+      sym (c .before .before .before .before .before .before .before .before .before .before .before .before .before .sound .ensures)
+          ∙ c .before .before .before .before .before .before .before .before .before .before .before .before .if2 .taken,
+    ) (rw
+    (← c .before .before .before .before .before .before .before .before .before .spot .ensures) (wrote-then _ _ _ _ _ _ _ _ _
+    (c .before .before .before .before .before .before .before .before .put .ensures) (c .before .before .put2 .ensures)))
 
 returns-3 : tie.Need-returns-3
 unfolding tookWrites

@@ -3,10 +3,10 @@ use native.Mathlib.Omega.{arith}
 use Rattle.word.proofs.Budget.{wrote-same}
 use Rattle.pool.proofs.Far.{written-far}
 use borrow.Author.Needs.{needs}
-use Rattle.pool.proofs.put.Statement.{statement}
-use Rattle.pool.proofs.put.Tie as tie
-use Rattle.pool.proofs.put.Reads as reads
-use Rattle.pool.proofs.put.Lts as lts
+use Rattle.pool.proofs.changes.put.Statement.{statement}
+use Rattle.pool.proofs.changes.put.Tie as tie
+use Rattle.pool.proofs.changes.put.Reads as reads
+use Rattle.pool.proofs.changes.put.Lts as lts
 use Rattle.word.proofs.write.Reads as write-reads
 
 write-requires : tie.Need-write-requires

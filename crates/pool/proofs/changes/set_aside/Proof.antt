@@ -6,11 +6,11 @@ use Rattle.word.proofs.Budget.{wrote-none, wrote-then}
 use Rattle.pool.specs.Changes.{asideWrites, asideBook}
 use Rattle.pool.proofs.Counts.{sound-is, spot-in}
 use borrow.Author.Needs.{needs}
-use Rattle.pool.proofs.set_aside.Statement.{statement}
-use Rattle.pool.proofs.set_aside.Tie as tie
-use Rattle.pool.proofs.set_aside.Reads as reads
-use Rattle.pool.proofs.set_aside.Lts as lts
-use Rattle.pool.proofs.put.Reads as put-reads
+use Rattle.pool.proofs.changes.set_aside.Statement.{statement}
+use Rattle.pool.proofs.changes.set_aside.Tie as tie
+use Rattle.pool.proofs.changes.set_aside.Reads as reads
+use Rattle.pool.proofs.changes.set_aside.Lts as lts
+use Rattle.pool.proofs.changes.put.Reads as put-reads
 use Rattle.pool.proofs.sound.Reads as sound-reads
 use Rattle.pool.proofs.spot.Reads as spot-reads
 
@@ -24,13 +24,18 @@ spot-requires : tie.Need-spot-requires
 spot-requires c κs = search needs
 
 add-put : tie.Need-add-put
-add-put c = let s = sound-is _ _ (sym (c .before .before .before .before .before .sound .ensures) ∙ c .before .before .before .before .if1 .taken) in omega (arith, s .small, c .before .before .spot .ensures, spot-in _ _ (c .before .before .before .before .before .before .before .args .book .free + c .before .before .before .before .before .before .before .args .book .aside) (s .head-in) (omega (arith, s .room)))
+add-put c =
+    let s = sound-is _ _ (sym (c .before .before .before .before .before .sound .ensures) ∙ c .before .before .before .before .if1 .taken) in
+    let b = c .before .before .before .before .before .before .before .args .book in
+    omega (arith, s .small, c .before .before .spot .ensures, spot-in _ _ (b .free + b .aside) (s .head-in) (omega (arith, s .room)))
 
 put-requires : tie.Need-put-requires
 put-requires c κs = search needs
 
 add-put-2 : tie.Need-add-put-2
-add-put-2 c = let s = sound-is _ _ (sym (c .before .before .before .before .before .before .before .before .before .before .before .sound .ensures) ∙ c .before .before .before .before .before .before .before .before .before .before .if1 .taken) in omega (arith, s .small, s .room)
+add-put-2 c =
+    let s = sound-is _ _ (sym (c .before .before .before .before .before .before .before .before .before .before .before .sound .ensures) ∙ c .before .before .before .before .before .before .before .before .before .before .if1 .taken) in
+    omega (arith, s .small, s .room)
 
 put-requires-2 : tie.Need-put-requires-2
 put-requires-2 c κs = search needs
@@ -43,7 +48,10 @@ same-length c = search needs
 
 returns : tie.Need-returns
 unfolding asideWrites asideBook asideAt slotAt
-returns c = let e = sym (c .before .before .before .before .before .before .before .before .before .before .before .before .before .before .before .sound .ensures) ∙ c .before .before .before .before .before .before .before .before .before .before .before .before .before .before .if1 .taken in (rw e, simp e (rw (← c .before .before .before .before .before .before .before .before .before .before .before .before .spot .ensures) (wrote-then _ _ _ _ _ _ _ _ _ (c .before .before .before .before .before .before .before .before .before .put .ensures) (c .before .before .before .put2 .ensures))))
+returns c =
+    let e = sym (c .before .before .before .before .before .before .before .before .before .before .before .before .before .before .before .sound .ensures) ∙ c .before .before .before .before .before .before .before .before .before .before .before .before .before .before .if1 .taken in
+    let both = wrote-then _ _ _ _ _ _ _ _ _ (c .before .before .before .before .before .before .before .before .before .put .ensures) (c .before .before .before .put2 .ensures) in
+    (rw e, simp e (rw (← c .before .before .before .before .before .before .before .before .before .before .before .before .spot .ensures) both))
 
 returns-2 : tie.Need-returns-2
 unfolding asideWrites asideBook
