@@ -16,7 +16,7 @@ use Rattle.walk.proofs.Digits.{index-lt, size-up, div-up}
 use Rattle.tables.specs.Roles.{Setting, Role, entryAt, Built}
 use Rattle.tables.proofs.Near.{pick, pick-near, pick-index}
 use Rattle.tables.specs.Way.{Comes, begin, onto}
-use Rattle.tables.proofs.Way.{comes-near, comes-small, comes-top}
+use Rattle.tables.proofs.Way.{comes-near, comes-top}
 use Rattle.tables.specs.Meaning.{meaning}
 use Rattle.tables.proofs.Meaning.{comes-root, mean-page, Ends, too-high, at-nothing, at-page, ends, never-outside}
 use Rattle.tables.proofs.Overlap.{aligned-base}
