@@ -2,6 +2,7 @@
 use Prim.Native.Nat.{ℕ, _+_, _*_, _/_, _%_, _^_, _<_}
 use mathlib.Core.Path.{_≡_}
 use lib.Dec.{eqb}
+use Rattle.word.specs.Memory.{pageCount}
 use Rattle.entry.specs.Words.{flag}
 use Rattle.entry.specs.declared.Rights.{Rights}
 use Rattle.walk.specs.declared.Found.{Found}
@@ -70,7 +71,7 @@ reasonOf plan.BadList = 11
 
 -- a root in a page whose number has 40 bits
 abbrev pub Low : ofPool.Created → Type 0
-Low c = (p : ℕ) → c ≡ create.Root p → p < 2 ^ 40
+Low c = (p : ℕ) → c ≡ create.Root p → p < pageCount
 
 -- the root's physical address
 unfoldable pub created : ofPool.Created → Created

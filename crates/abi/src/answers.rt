@@ -142,7 +142,7 @@ pub fn of_create(c: pool::Created) -> Created
             root: 0,
         },
         pool::Created::Root(p) => {
-            if 1099511627776 <= p {
+            if word::PAGE_COUNT <= p {
                 return Created { reason: 0, root: 0 };
             }
             Created {

@@ -4,7 +4,7 @@ use mathlib.Core.Bool.{Bool}
 use mathlib.Core.Path.{_≡_}
 use Rattle.word.specs.Writes.{after}
 use Rattle.word.proofs.Writes.{Every}
-use Rattle.entry.specs.Entry.{sizeOf}
+use Rattle.entry.specs.Entry.{sizeOf, frameEnd}
 use Rattle.entry.specs.declared.Entry.the-variants.{Nothing}
 use Rattle.walk.specs.Walk.{indexOf}
 use Rattle.walk.specs.declared.Found.the-variants as found
@@ -27,7 +27,7 @@ pub record Fitted (l : ℕ) (q : Asked) : Type 0 where
   pub base-aligned : q .base % q .size ≡ 0
   pub frame-aligned : q .frame % q .size ≡ 0
   pub base-fits : q .base + q .size ≤ 2 ^ 48
-  pub frame-fits : q .frame + q .size ≤ 2 ^ 52
+  pub frame-fits : q .frame + q .size ≤ frameEnd
 
 -- n tables are missing on the way of va to level l: it stops n levels above, where nothing is
 pub record Misses (σ : Setting) (m : ℕ → ℕ) (va l n : ℕ) : Type 0 where

@@ -3,7 +3,7 @@ use Prim.Native.Nat.{ℕ, _+_, _*_, _%_, _^_, _≤_, _<_}
 use mathlib.Core.Bool.{Bool}
 use mathlib.Core.Logic.{_≢_}
 use mathlib.Core.Path.{_≡_}
-use Rattle.entry.specs.Entry.{sizeOf}
+use Rattle.entry.specs.Entry.{sizeOf, frameEnd}
 use Rattle.tables.specs.Roles.{Apart}
 use Rattle.tables.specs.Overlap.{MappedIn}
 use Rattle.pool.specs.Book.{bookOf}
@@ -35,7 +35,7 @@ pub data Cause (h : ℕ → Bool) (sp : Space) (m : ℕ → ℕ) (q : Asked) : R
   base-unaligned : (l : ℕ) → OfLevel l q → q .base % q .size ≢ 0 → Cause h sp m q BaseUnaligned
   frame-unaligned : (l : ℕ) → OfLevel l q → q .base % q .size ≡ 0 → q .frame % q .size ≢ 0 → Cause h sp m q FrameUnaligned
   base-high : (l : ℕ) → OfLevel l q → q .base % q .size ≡ 0 → q .frame % q .size ≡ 0 → 2 ^ 48 < q .base + q .size → Cause h sp m q BaseRange
-  frame-high : (l : ℕ) → OfLevel l q → q .base % q .size ≡ 0 → q .frame % q .size ≡ 0 → q .base + q .size ≤ 2 ^ 48 → 2 ^ 52 < q .frame + q .size
+  frame-high : (l : ℕ) → OfLevel l q → q .base % q .size ≡ 0 → q .frame % q .size ≡ 0 → q .base + q .size ≤ 2 ^ 48 → frameEnd < q .frame + q .size
       → Cause h sp m q FrameRange
   frame-in-pool : (l : ℕ) → Fitted l q → Meets sp q → Cause h sp m q FrameInPool
   mapped : (l : ℕ) → Fitted l q → FrameApart h sp q → Mapped h sp m q → Cause h sp m q Overlap

@@ -3,7 +3,7 @@ ghost use mathlib.Core.Path.{_≡_};
 ghost use Prim.Native.Nat.{_+_, _-_, _^_, _<_, _≤_};
 ghost use Rattle.word.specs.Memory.{memory, holds};
 ghost use Rattle.entry.specs.declared.Made.the-variants.{Word};
-ghost use Rattle.entry.specs.Entry.{sizeOf};
+ghost use Rattle.entry.specs.Entry.{sizeOf, frameEnd};
 ghost use Rattle.entry.specs.Words as made;
 ghost use Rattle.plan.specs.declared.descent.Way.{Way};
 ghost use Rattle.plan.specs.Descend.{stopAt};
@@ -85,7 +85,7 @@ fn tested(n: u64, size: u64, base: u64, frame: u64) -> Shape
     if 281474976710656 - size < base {
         return Shape::Bad(Reason::BaseRange);
     }
-    if 4503599627370496 - size < frame {
+    if entry::FRAME_END - size < frame {
         return Shape::Bad(Reason::FrameRange);
     }
     Shape::Level(n)
@@ -99,7 +99,7 @@ pub fn fits(n: u64, size: u64, base: u64, frame: u64) -> Shape
     if base % size == 0 {
         if base < 281474976710656 {
             if frame % size == 0 {
-                if frame < 4503599627370496 {
+                if frame < entry::FRAME_END {
                     return Shape::Level(n);
                 }
             }
@@ -125,9 +125,9 @@ pub fn shaped(size: u64, base: u64, frame: u64) -> Shape
 
 // Do the frame and the pool share a byte?
 pub fn meets(space: Space, frame: u64, size: u64) -> bool
-    ensures { λ r. ⌜ (frame + size ≤ 2 ^ 52 → space .pages ≤ 2 ^ 32 → r ≡ the.meetsOf space frame size) ⌝ }
+    ensures { λ r. ⌜ (frame + size ≤ frameEnd → space .pages ≤ 2 ^ 32 → r ≡ the.meetsOf space frame size) ⌝ }
 {
-    if 1099511627776 < space.first {
+    if word::PAGE_COUNT < space.first {
         return false;
     }
     if 4294967296 < space.pages {
