@@ -17,7 +17,8 @@ use Rattle.entry.specs.declared.Entry.the-variants.{Nothing, Page, Table}
 use Rattle.entry.proofs.Fields.{says-absent}
 use Rattle.entry.proofs.Clean.{page-clean}
 use Rattle.entry.proofs.Written.{Fits, table-word-says, page-word-says}
-use Rattle.walk.specs.Walk.{indexOf, baseOf, entered, stepOf, run, start, foundOf, walk}
+use Rattle.walk.specs.Walk.{canonical, indexOf, baseOf, entered, stepOf, run, start, foundOf, walk}
+use Rattle.walk.proofs.Addresses.{in-lower}
 use Rattle.walk.specs.declared.Found.the-variants as found
 use Rattle.tables.specs.Roles.{Setting, Role, foreign, free, aside, book, root, table, Home, Sound, Zero}
 use Rattle.tables.specs.Way.{onto}
@@ -145,7 +146,7 @@ r₃ = set r₂ 20 (table 1 19 3)
 with-small : Sound setting m₄ r₃
 unfolding set ℕ-discrete indexOf sizeOf tableOf roles₀
 with-small =
-    let d₀ = down-start {va = small} at-first (comes-root (omega arith)) in
+    let d₀ = down-start {va = small} at-first (comes-root (in-lower small (omega arith))) in
     let d₁ = down-link (tableWord 18) 18 d₀ (nothing-says 3) (table-says 3 18 (omega arith) (omega arith)) refl (λ j u. refl) in
     let z₁ = zero-still memory₀ 17 1 (tableWord 18) 19 (omega arith) (omega arith) (λ j u. refl) in
     let d₂ = down-link (tableWord 19) 19 d₁ (nothing-says 2) (table-says 2 19 (omega arith) (omega arith)) refl z₁ in
@@ -190,7 +191,7 @@ gone-page = page-word-says 0 413696 everything gone-fits
 with-gone : Sound setting m₆ r₄
 unfolding set ℕ-discrete indexOf sizeOf tableOf roles₀
 with-gone =
-    let d₀ = down-start {va = gone} with-small (comes-root (omega arith)) in
+    let d₀ = down-start {va = gone} with-small (comes-root (in-lower gone (omega arith))) in
     let d₁ = down-step 18 everything d₀ (table-says 3 18 (omega arith) (omega arith)) in
     let d₂ = down-step 19 everything d₁ (table-says 2 19 (omega arith) (omega arith)) in
     let d₃ = down-link (tableWord 21) 21 d₂ (nothing-says 1) (table-says 1 21 (omega arith) (omega arith)) refl zero-21 in
@@ -199,7 +200,7 @@ with-gone =
 with-aside : Sound setting m₈ r₅
 unfolding set ℕ-discrete indexOf sizeOf tableOf roles₀
 with-aside =
-    let c₃ = onto 17 everything (comes-root {σ = setting} {m = m₆} {va = gone} (omega arith)) (table-says 3 18 (omega arith) (omega arith)) in
+    let c₃ = onto 17 everything (comes-root {σ = setting} {m = m₆} {va = gone} (in-lower gone (omega arith))) (table-says 3 18 (omega arith) (omega arith)) in
     let c₂ = onto 18 everything c₃ (table-says 2 19 (omega arith) (omega arith)) in
     let c₁ = onto 19 everything c₂ (table-says 1 21 (omega arith) (omega arith)) in
     let u₀ = up-start 413696 everything with-gone c₁ gone-page in
@@ -231,7 +232,7 @@ roles = r₅
 with-middle : Sound setting m₉ r₅
 unfolding set ℕ-discrete indexOf sizeOf tableOf roles₀
 with-middle =
-    let d₀ = down-start {va = middle} with-aside (comes-root (omega arith)) in
+    let d₀ = down-start {va = middle} with-aside (comes-root (in-lower middle (omega arith))) in
     let d₁ = down-step 18 everything d₀ (table-says 3 18 (omega arith) (omega arith)) in
     let d₂ = down-step 19 everything d₁ (table-says 2 19 (omega arith) (omega arith)) in
     changed-sound (map-done (pageWord 1 2097152 readOnly) 2097152 readOnly d₂ (nothing-says 1)
@@ -240,7 +241,7 @@ with-middle =
 pub witness : Sound setting memory roles
 unfolding set ℕ-discrete indexOf sizeOf tableOf roles₀
 witness =
-    let d₀ = down-start {va = large} with-middle (comes-root (omega arith)) in
+    let d₀ = down-start {va = large} with-middle (comes-root (in-lower large (omega arith))) in
     let d₁ = down-step 18 everything d₀ (table-says 3 18 (omega arith) (omega arith)) in
     changed-sound (map-done (pageWord 2 1073741824 everything) 1073741824 everything d₁ (nothing-says 2)
     (page-word-says 2 1073741824 everything large-fits) (inr (omega arith)) (page-clean 2 1073741824 everything large-fits))
@@ -253,6 +254,6 @@ witness-roles = (refl, refl, refl, refl, refl, refl, refl, refl, refl, refl)
 
 pub witness-means : (meaning setting memory (small + 17) ≡ found.Page small 4096 409600 everything) × (meaning setting memory gone ≡ found.Nothing)
     × (meaning setting memory (middle + 4097) ≡ found.Page middle 2097152 2097152 readOnly) × (meaning setting memory (large + 2 ^ 29) ≡ found.Page large 1073741824 1073741824 everything)
-    × (meaning setting memory (2 ^ 48 + small) ≡ found.Nothing)
-unfolding walk start run stepOf entered foundOf baseOf indexOf says presentOf largeOf padded frameOf rightsOf tableOf bit both sizeOf pageWord tableWord flag largeFlag set ℕ-discrete
+    × (meaning setting memory (2 ^ 47 + small) ≡ found.NoAddress)
+unfolding walk start canonical run stepOf entered foundOf baseOf indexOf says presentOf largeOf padded frameOf rightsOf tableOf bit both sizeOf pageWord tableWord flag largeFlag set ℕ-discrete
 witness-means = (refl, refl, refl, refl, refl)
