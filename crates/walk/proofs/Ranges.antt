@@ -1,6 +1,8 @@
--- Pages and their ranges, whatever the bytes are: an address lies in its page, every address there gets that page, and so two pages' ranges never overlap.
+-- Pages and their ranges, whatever the bytes are: an address lies in its page, every address there gets that page, and so two pages' ranges never overlap; and
+-- what is said of numbers that are no addresses.
 use Prim.Native.Nat.{ℕ, zero, suc, _+_, _/_, _<_, _≤_}
-use mathlib.Core.Bool.{Bool, true, false, cond}
+use mathlib.Core.Bool.{Bool, true, false, cond, true≢false}
+use mathlib.Core.Logic.{_↔_, _≢_}
 use mathlib.Core.Path.{_≡_, refl, sym, ap, _∙_}
 use native.Mathlib.Omega.{arith}
 use Rattle.entry.specs.Entry.{sizeOf, says, both, tableOf, everything}
@@ -63,6 +65,7 @@ module _ (h : ℕ → Bool) (m : ℕ → ℕ) (va : ℕ) where
 
 -- what a walk that ends in a page shows
 pub record Covers (h : ℕ → Bool) (m : ℕ → ℕ) (root va b s f : ℕ) (r : Rights) : Type 0 where
+  pub address : canonical va ≡ true
   pub level : ℕ
   pub low : level < 4
   pub base : b ≡ baseOf level va
@@ -80,6 +83,7 @@ page-covers h m root va b s f r e = go (canonical va) refl e
         → ((vb : ℕ) → vb / sizeOf k ≡ va / sizeOf k → foundOf (run h m 4 vb (Going (tableOf root) everything)) ≡ Page b s f r)
         → Covers h m root va b s f r
     covered u k low base size shared = record {
+      address = u;
       level = k;
       low = low;
       base = base;
@@ -98,6 +102,31 @@ page-covers h m root va b s f r e = go (canonical va) refl e
     go true u k =
         let o = ends h m va 4 (tableOf root) everything b s f r k in
         covered u (o .level) (o .low) (o .base) (o .size) (o .shared)
+
+-- a walk that starts says of no number that it is no address
+going-some : (h : ℕ → Bool) (m : ℕ → ℕ) (va n t : ℕ) (q : Rights) → foundOf (run h m n va (Going t q)) ≢ NoAddress
+unfolding run stepOf foundOf entered
+going-some h m va zero t q = λ e. let z : _≡_ {A = ℕ} 0 1 = cc in omega arith
+going-some h m va (suc n) t q = go (h t) (says n (m (entryOf n va t))) (λ u g. going-some h m va n u g)
+  where
+    ended : (f : Found) → f ≢ NoAddress → foundOf (run h m n va (Ended f)) ≢ NoAddress
+    ended f d e = d (sym (ap foundOf (run-ended h m n va f)) ∙ e)
+
+    go : (x : Bool) (w : Entry) → ((u : ℕ) (g : Rights) → foundOf (run h m n va (Going u g)) ≢ NoAddress)
+        → foundOf (run h m n va (cond x (entered n va q w) (Ended Outside))) ≢ NoAddress
+    go false w ih = ended Outside (λ e. let z : _≡_ {A = ℕ} 0 1 = cc in omega arith)
+    go true entry.Nothing ih = ended Nothing (λ e. let z : _≡_ {A = ℕ} 0 1 = cc in omega arith)
+    go true (entry.Page d g) ih = ended (Page (baseOf n va) (sizeOf n) d (both q g)) (λ e. let z : _≡_ {A = ℕ} 0 1 = cc in omega arith)
+    go true (entry.Table u g) ih = ih u (both q g)
+
+-- NO ADDRESS IS SAID exactly of a number that is not canonical, whatever the bytes are.
+pub no-address-only : (h : ℕ → Bool) (m : ℕ → ℕ) (root va : ℕ) → (walk h m root va ≡ NoAddress) ↔ (canonical va ≡ false)
+unfolding walk start foundOf
+no-address-only h m root va = go (canonical va)
+  where
+    go : (b : Bool) → (foundOf (run h m 4 va (cond b (Going (tableOf root) everything) (Ended NoAddress))) ≡ NoAddress) ↔ (b ≡ false)
+    go true = (λ e. absurd (going-some h m va 4 (tableOf root) everything e), λ e. absurd (true≢false e))
+    go false = (λ e. refl, λ e. ap foundOf (run-ended h m 4 va NoAddress))
 
 -- TWO PAGES' RANGES NEVER OVERLAP: pages that share an address are one page
 pub pages-apart : (h : ℕ → Bool) (m : ℕ → ℕ) (root va vb b s f b′ s′ f′ : ℕ) (r r′ : Rights)
