@@ -1,5 +1,5 @@
 -- Map: the decision, a function of the memory and what is asked, and the writes of its plan.
-use Prim.Native.Nat.{ℕ, _+_, _-_, _*_, _%_, _^_, _≤_, _<_}
+use Prim.Native.Nat.{ℕ, _+_, _-_, _*_, _%_, _≤_, _<_}
 use mathlib.Core.Bool.{Bool, true, false, cond, _&&_}
 use mathlib.Core.List.{List, [], _∷_, _++_}
 use lib.Dec.{eqb, leb, ltb}
@@ -9,7 +9,7 @@ use Rattle.entry.specs.Entry.{frameEnd}
 use Rattle.entry.specs.Words.{tableWord, madePage}
 use Rattle.entry.specs.declared.Made.{Made}
 use Rattle.entry.specs.declared.Made.the-variants as made
-use Rattle.walk.specs.Walk.{indexOf}
+use Rattle.walk.specs.Walk.{canonical, indexOf}
 use Rattle.pool.specs.Book.{namesOf, openedOf, listedOf}
 use Rattle.pool.specs.Changes.{tookWrites}
 use Rattle.pool.specs.declared.Space.{Space}
@@ -46,7 +46,7 @@ unfoldable pub fitsOf : ℕ → ℕ → ℕ → ℕ → Shape
 fitsOf n size base frame =
     cond (eqb (base % size) 0)
     (cond (eqb (frame % size) 0)
-    (cond (leb base (2 ^ 48 - size)) (cond (leb frame (frameEnd - size)) (Level n) (Bad FrameRange)) (Bad BaseRange))
+    (cond (canonical base) (cond (leb frame (frameEnd - size)) (Level n) (Bad FrameRange)) (Bad BaseRange))
     (Bad FrameUnaligned))
     (Bad BaseUnaligned)
 

@@ -82,22 +82,24 @@ fn tested(n: u64, size: u64, base: u64, frame: u64) -> Shape
     if frame % size != 0 {
         return Shape::Bad(Reason::FrameUnaligned);
     }
-    if 281474976710656 - size < base {
-        return Shape::Bad(Reason::BaseRange);
+    if walk::canonical(base) {
+        if entry::FRAME_END - size < frame {
+            return Shape::Bad(Reason::FrameRange);
+        }
+        return Shape::Level(n);
     }
-    if entry::FRAME_END - size < frame {
-        return Shape::Bad(Reason::FrameRange);
-    }
-    Shape::Level(n)
+    Shape::Bad(Reason::BaseRange)
 }
 
-// What fits is found first, in a form in which alignment and range are one test to the compiler.
+// What fits is found first, in a form in which alignment and range are one test to the compiler: half of all addresses further on, an address
+// is aligned as before, and lies below twice as many. Where a page ends is not computed, since the last one ends at 2^64.
 pub fn fits(n: u64, size: u64, base: u64, frame: u64) -> Shape
     requires { ⌜ (n ≤ 2) × (size ≡ sizeOf n) ⌝ }
     ensures { λ r. ⌜ r ≡ the.fitsOf n size base frame ⌝ }
 {
-    if base % size == 0 {
-        if base < 281474976710656 {
+    let on = std::num::wrapping_add_u64(base, walk::HALF);
+    if on % size == 0 {
+        if on < 2 * walk::HALF {
             if frame % size == 0 {
                 if frame < entry::FRAME_END {
                     return Shape::Level(n);

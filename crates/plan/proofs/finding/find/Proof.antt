@@ -2,7 +2,6 @@ use Rattle.pool.proofs.Opening.{names-stands}
 use Rattle.plan.proofs.Ways.{way-paged}
 use Rattle.plan.specs.Find.{foundOf, soughtOf}
 use mathlib.Core.Path.{_≡_, sym, _∙_}
-use borrow.Author.Tests.{lt-ltb, le-ltb}
 use borrow.Author.Needs.{needs}
 use Rattle.plan.proofs.finding.find.Statement.{statement}
 use Rattle.plan.proofs.finding.find.Tie as tie
@@ -11,41 +10,46 @@ use Rattle.plan.proofs.finding.find.Lts as lts
 use Rattle.plan.proofs.descent.descend.Reads as descend-reads
 use Rattle.plan.proofs.finding.stopped.Reads as stopped-reads
 use Rattle.pool.proofs.names.Reads as names-reads
+use Rattle.walk.proofs.canonical.Reads as canonical-reads
 
--- src/finding.rt:72:9
+-- src/finding.rt:68:9
 names-requires : tie.Need-names-requires
 names-requires c κs = search needs
 
--- src/finding.rt:74:22
+-- src/finding.rt:70:22
 enum-known-fit : tie.Need-enum-known-fit
 enum-known-fit c = search needs
 
--- src/finding.rt:76:16
+-- src/finding.rt:72:16
 enum-told : tie.Need-enum-told
 enum-told c = search needs
 
--- src/finding.rt:77:17
-returns : tie.Need-returns
-unfolding foundOf soughtOf
-returns c = simp (sym (c .before .before .before .names .ensures) ∙ c .before .enum-told .given .1, le-ltb _ _ (c .if1 .taken))
+-- src/finding.rt:72:16
+canonical-requires : tie.Need-canonical-requires
+canonical-requires c κs = search needs
 
--- src/finding.rt:79:25
+-- src/finding.rt:73:36
 descend-requires : tie.Need-descend-requires
-descend-requires c κs = names-stands _ _ _ (sym (c .before .before .before .names .ensures) ∙ c .before .enum-told .given .1)
+descend-requires c κs = names-stands _ _ _ (sym (c .before .before .before .before .names .ensures) ∙ c .before .before .enum-told .given .1)
 
--- src/finding.rt:79:13
+-- src/finding.rt:73:17
 stopped-requires : tie.Need-stopped-requires
 stopped-requires c κs = search needs
 
--- src/finding.rt:69:1
+-- src/finding.rt:73:17
+returns : tie.Need-returns
+unfolding foundOf soughtOf
+returns c = simp (sym (c .before .before .before .before .before .before .names .ensures) ∙ c .before .before .before .before .enum-told .given .1, sym (c .before .before .before .canonical .ensures) ∙ c .before .before .if1 .taken, c .stopped .ensures _ (way-paged _ _ _ _ _) (c .before .descend .ensures))
+
+-- src/finding.rt:65:1
 returns-2 : tie.Need-returns-2
 unfolding foundOf soughtOf
 returns-2 c = simp (sym (c .before .before .before .names .ensures) ∙ c .before .fit .given .1)
 
--- src/finding.rt:69:1
+-- src/finding.rt:65:1
 returns-3 : tie.Need-returns-3
 unfolding foundOf soughtOf
-returns-3 c = simp (sym (c .before .before .before .before .before .names .ensures) ∙ c .before .before .before .enum-told .given .1, lt-ltb _ _ (c .before .before .if1 .left), c .stopped .ensures _ (way-paged _ _ _ _ _) (c .before .descend .ensures))
+returns-3 c = simp (sym (c .before .before .before .before .names .ensures) ∙ c .before .before .enum-told .given .1, sym (c .before .canonical .ensures) ∙ c .if1 .left)
 
 pub find-spec : {M : Type 1} → statement M
 find-spec =
@@ -54,8 +58,9 @@ find-spec =
     names-requires
     enum-known-fit
     enum-told
-    returns
+    canonical-requires
     descend-requires
     stopped-requires
+    returns
     returns-2
     returns-3)
