@@ -12,7 +12,7 @@ use Rattle.entry.specs.declared.Rights.{Rights}
 use Rattle.entry.specs.declared.Entry.{Entry}
 use Rattle.entry.specs.declared.Entry.the-variants as entry
 use Rattle.entry.proofs.Fields.{last-no-table}
-use Rattle.walk.specs.Walk.{indexOf, entryOf}
+use Rattle.walk.specs.Walk.{canonical, indexOf, entryOf}
 use Rattle.tables.specs.Roles.{Setting, Role, book, left, entryAt, Built}
 use Rattle.tables.specs.Way.{Comes, onto, comes-left, onto-role}
 use Rattle.tables.specs.Meaning.{comes-root}
@@ -136,7 +136,7 @@ module _ {h : ℕ → Bool} {sp : Space} {m : ℕ → ℕ} {role : ℕ → Role}
         (λ s r e d. trace-from l s (pushOf w t) (omega arith) (onto t r c e) (pushed (suc l) t s w r c o e) (further (suc l) d g l refl)))
 
     -- THE WAY IN TABLES THAT WE BUILT
-    pub traced : va < 2 ^ 48 → sp .root < 2 ^ 40 → (target ≤ 3) ⊎ (4 ≤ target) → Traced (settingOf h sp) m va target (wayOf h m sp va target)
+    pub traced : canonical va ≡ true → sp .root < 2 ^ 40 → (target ≤ 3) ⊎ (4 ≤ target) → Traced (settingOf h sp) m va target (wayOf h m sp va target)
     unfolding wayOf
     traced u v g =
         trace-from 3 (sp .root) noWay (omega arith) (subst (Comes (settingOf h sp) m va 4) (root-page (sp .root) v) (comes-root u))
