@@ -23,12 +23,11 @@ use Rattle.pool.specs.declared.Created.the-variants as created
 use Rattle.pool.specs.declared.Reason.{Reason as PoolReason}
 use Rattle.pool.specs.declared.Reason.the-variants.{OriginUnaligned, LengthUnaligned, PoolLarge, PoolSmall, PoolOutside}
 use Rattle.plan.specs.declared.Reason.{Reason}
-use Rattle.plan.specs.declared.Reason.the-variants.{NothingStarts}
 use Rattle.plan.specs.declared.maps.Asked.{Asked}
 use Rattle.effect.specs.Whole.{Whole}
 use Rattle.effect.specs.MapDone.{Fitted, Misses}
 use Rattle.effect.specs.MapRefused.{Cause}
-use Rattle.effect.specs.StartsAt.{StartsAt}
+use Rattle.effect.specs.StartsAt.{StartsAt, NotThere}
 use Rattle.tablepath.specs.declared.Mapped.the-variants as mapped
 use Rattle.tablepath.specs.declared.Gone.{Gone}
 use Rattle.tablepath.specs.declared.Unmapped.the-variants as unmapped
@@ -97,8 +96,8 @@ pub record UnmapGone (h : ℕ → Bool) (sp : Space) (m : ℕ → ℕ) (role : �
   pub releases : (toldAnswer h (afterUnmap h m sp va) sp (g .ticket) ≡ told.Released (bookOf (afterUnmap h m sp va) sp .aside)) ↔ (g .ticket ≤ 2 ^ 62)
 
 pub record UnmapSays (h : ℕ → Bool) (sp : Space) (m : ℕ → ℕ) (role : ℕ → Role) (va : ℕ) : Type 0 where
-  -- it refuses exactly where no page starts, and for no other reason
-  pub refused : (y : Reason) → (unmapAnswer h m sp va ≡ unmapped.Refused y) ↔ ((y ≡ NothingStarts) × ¬ StartsAt (settingOf h sp) m va)
+  -- it refuses exactly where no page is found: va is no address, or none starts there
+  pub refused : (y : Reason) → (unmapAnswer h m sp va ≡ unmapped.Refused y) ↔ NotThere (settingOf h sp) m va y
   -- it is done exactly where one starts
   pub done : ((g : Gone) × (unmapAnswer h m sp va ≡ unmapped.Done g)) ↔ StartsAt (settingOf h sp) m va
   -- and what it answers then is so
@@ -111,8 +110,8 @@ abbrev pub afterProtect : (ℕ → Bool) → (ℕ → ℕ) → Space → ℕ →
 afterProtect h m sp va rights = after m (protectWrites h m sp va rights)
 
 pub record ProtectSays (h : ℕ → Bool) (sp : Space) (m : ℕ → ℕ) (role : ℕ → Role) (va : ℕ) (rights : Rights) : Type 0 where
-  -- as unmap: it refuses exactly where no page starts, and for no other reason
-  pub refused : (y : Reason) → (protectAnswer h m sp va rights ≡ protected.Refused y) ↔ ((y ≡ NothingStarts) × ¬ StartsAt (settingOf h sp) m va)
+  -- as unmap: it refuses exactly where no page is found
+  pub refused : (y : Reason) → (protectAnswer h m sp va rights ≡ protected.Refused y) ↔ NotThere (settingOf h sp) m va y
   -- it is done exactly where one starts
   pub done : ((g : Same) × (protectAnswer h m sp va rights ≡ protected.Done g)) ↔ StartsAt (settingOf h sp) m va
   -- the page that was there, with some rights, had the frame and the size that it answers
