@@ -6,7 +6,7 @@ use Rattle.word.specs.Memory.{pageCount}
 use Rattle.entry.specs.Words.{flag}
 use Rattle.entry.specs.declared.Rights.{Rights}
 use Rattle.walk.specs.declared.Found.{Found}
-use Rattle.walk.specs.declared.Found.the-variants.{Page, Nothing, Outside}
+use Rattle.walk.specs.declared.Found.the-variants.{Page, Nothing, Outside, NoAddress}
 use Rattle.pool.specs.declared.Reason as inPool
 use Rattle.pool.specs.declared.Reason.the-variants as pool
 use Rattle.pool.specs.declared.Created as ofPool
@@ -107,3 +107,4 @@ unfoldable pub lookedUp : Found → LookedUp
 lookedUp (Page b s f r) = record { kind = 1; base = b; size = s; frame = f; rights = rightsWord r }
 lookedUp Nothing = record { kind = 0; base = 0; size = 0; frame = 0; rights = 0 }
 lookedUp Outside = record { kind = 2; base = 0; size = 0; frame = 0; rights = 0 }
+lookedUp NoAddress = record { kind = 5; base = 0; size = 0; frame = 0; rights = 0 }

@@ -291,5 +291,12 @@ pub fn of_look_up(f: Found) -> LookedUp
             frame: 0,
             rights: 0,
         },
+        Found::NoAddress => LookedUp {
+            kind: 5,
+            base: 0,
+            size: 0,
+            frame: 0,
+            rights: 0,
+        },
     }
 }
