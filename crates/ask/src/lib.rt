@@ -157,7 +157,7 @@ fn meaning(f: Found) {
 pub fn look_up(mem: &[u8], space: Space, va: u64) {
     say::with_hex(b"  look up ", va);
     say::line();
-    if 1099511627776 <= space.root {
+    if word::PAGE_COUNT <= space.root {
         return;
     }
     meaning(tablepath::look_up(mem, space.origin, space.root * 4096, va));

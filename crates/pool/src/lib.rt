@@ -169,7 +169,7 @@ fn spot(pages: u64, head: u64, k: u64) -> u64
 fn named(mem: &[u8], space: Space, k: u64) -> Listed
     ensures { λ r. ⌜ r ≡ the.namedOf (holds (now (mem .entry)) (space .origin)) (memory (now (mem .entry)) (space .origin)) space k ⌝ }
 {
-    if 1099511627776 <= space.first {
+    if word::PAGE_COUNT <= space.first {
         return Listed::Bad;
     }
     let c = word::read(mem, space.origin, space.first + k / 512, k % 512);
@@ -241,8 +241,8 @@ pub fn due_by(book: Book, ticket: u64) -> Due
 fn put(mem: &mut [u8], left: &mut u64, space: Space, k: u64, w: u64)
     ensures { λ _. ⌜ Wrote (space .origin) (to.put space k w ∷ []) (now (left .entry)) (now (left .exit)) (now (mem .entry)) (now (mem .exit)) ⌝ }
 {
-    if 1099511627776 <= space.first {
-        word::write(mem, left, space.origin, 1099511627776, k % 512, w);
+    if word::PAGE_COUNT <= space.first {
+        word::write(mem, left, space.origin, word::PAGE_COUNT, k % 512, w);
         return;
     }
     word::write(mem, left, space.origin, space.first + k / 512, k % 512, w)
