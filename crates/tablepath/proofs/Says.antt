@@ -11,7 +11,7 @@ use Rattle.word.proofs.Set.{set-at, set-other}
 use Rattle.entry.specs.Kept.{Kept}
 use Rattle.entry.specs.declared.Rights.{Rights}
 use Rattle.walk.specs.Walk.{baseOf}
-use Rattle.walk.proofs.Ranges.{page-covers}
+use Rattle.walk.proofs.Ranges.{no-address-only, page-covers}
 use Rattle.tables.specs.Roles.{Role}
 use Rattle.tables.proofs.Edits.{turns-inside, turns-outside}
 use Rattle.tables.proofs.Meaning.{never-outside, never-in-pool}
@@ -254,6 +254,7 @@ module _ {h : ℕ → Bool} {sp : Space} {m : ℕ → ℕ} {role : ℕ → Role}
 -- WHAT LOOK-UP ANSWERS
 pub look-up-says : {h : ℕ → Bool} {sp : Space} {m : ℕ → ℕ} {role : ℕ → Role} → Whole h sp m role → (va : ℕ) → LookUpSays h sp va (means h sp m va)
 look-up-says {h} {sp} {m} w va = record {
+  no-address = no-address-only h m (4096 * sp .root) va;
   never = never-outside (w .sound .built) va;
   page = λ base size frame rights e.
       let c = page-covers h m (4096 * sp .root) va base size frame rights e in
