@@ -8,7 +8,7 @@ pub fn refused(r: Reason) {
         Reason::Size => size(),
         Reason::BaseUnaligned => because(b"the base is no multiple of the size"),
         Reason::FrameUnaligned => because(b"the frame is no multiple of the size"),
-        Reason::BaseRange => because(b"the range does not end at 2^48 or below"),
+        Reason::BaseRange => because(b"the base is no address: it is not canonical"),
         Reason::FrameRange => because(b"the frame does not end at 2^52 or below"),
         Reason::FrameInPool => because(b"the frame overlaps the pool, where the tables are"),
         Reason::Overlap => because(b"some address of the range is mapped already"),
