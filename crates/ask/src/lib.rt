@@ -149,6 +149,7 @@ fn meaning(f: Found) {
         } => say::page(b, s, a, r),
         Found::Nothing => say::text(b"nothing is mapped there"),
         Found::Outside => say::text(b"outside, the way leaves the window"),
+        Found::NoAddress => say::text(b"that is no address"),
     }
     say::line();
 }

@@ -126,10 +126,14 @@ module _ (h : ℕ → Bool) (sp : Space) where
             go (inr e) = inl (stays (λ z. live (ap left e ∙ z)))
             go (inl e) = elim (fate p (λ z. live (ap left e ∙ z))) [
               | inl f ↦ inl (stays (λ z. live (ap left e ∙ sym (ap left f) ∙ z)))
-              | inr f ↦ inr (va, f .1, record {
-                above = one-way (w .sound .built) (table-stays (t .built) (w .sound .built) to-begin come (λ z. live (ap left e ∙ z))) (f .2) .1 (cut-low (k .turns .built) come (f .0));
-                alike = comes-address come ∙ sym (comes-address (f .2));
-              })
+              | inr f ↦ inr (
+                va,
+                f .1,
+                record {
+                  above = one-way (w .sound .built) (table-stays (t .built) (w .sound .built) to-begin come (λ z. live (ap left e ∙ z))) (f .2) .1 (cut-low (k .turns .built) come (f .0));
+                  alike = comes-address come ∙ sym (comes-address (f .2));
+                },
+              )
             ]
 
     map-ways : (q : Asked) (x : Placed) → map.decideOf h m sp q ≡ x → All m (eventsOf (map.didOf sp x)) (WaysTo (calls.map q) m (after m (eventsOf (map.didOf sp x))))
