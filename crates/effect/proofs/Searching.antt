@@ -15,7 +15,7 @@ use Rattle.tables.specs.Meaning.{meaning}
 use Rattle.tables.proofs.Meaning.{mean-nothing, mean-page}
 use Rattle.tables.proofs.Overlap.{starts-once}
 use Rattle.tables.proofs.Way.{comes-address}
-use Rattle.tables.specs.Meaning as none
+use Rattle.tables.proofs.Meaning as none
 use Rattle.pool.specs.Booked.{settingOf}
 use Rattle.pool.specs.declared.Space.{Space}
 use Rattle.plan.specs.declared.Reason.{Reason}

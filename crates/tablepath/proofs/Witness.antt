@@ -44,6 +44,7 @@ use Rattle.effect.proofs.MapDone.{mapped-inside}
 use Rattle.effect.proofs.MapRefused.{map-succeeds}
 use Rattle.tablepath.specs.Looks.{WholeBytes}
 use Rattle.tablepath.proofs.Wholes.{create-whole}
+use Rattle.tablepath.proofs.Means.{map-means}
 use Rattle.tablepath.specs.Witness.{five, pageOn, page, bytes, Mappable}
 
 -- a new pool has no role but these
@@ -138,8 +139,9 @@ module _ (s : List ℕ) (e : length s ≡ 20480) where
   -- a page can be mapped at every aligned address
   mappable : (va : ℕ) → va % 4096 ≡ 0 → canonical va ≡ true → Mappable s va
   mappable va a h =
-      let g = map-succeeds start (pageOn va) .1 (fine va a h) in
-      (g .0, g .1, mapped-inside start (pageOn va) (g .0) (g .2) va (omega arith) (omega arith))
+      let says = map-means (bytes s) five (pageOn va) .says (newRole five) start in
+      let done = says .done .1 (fine va a h) in
+      (done, says .made (done .0) (done .1) .turned .inside va (omega arith, omega arith))
 
   -- THE EDGES: the last page of the lower half, the first of the upper one, and the last of all, which ends at 2 ^ 64
   pub edge-pages : Mappable s (2 ^ 47 - 4096) × Mappable s (2 ^ 64 - 2 ^ 47) × Mappable s (2 ^ 64 - 4096)

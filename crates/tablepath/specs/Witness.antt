@@ -2,18 +2,15 @@
 use Prim.Native.Nat.{ℕ}
 use mathlib.Core.List.{List}
 use mathlib.Core.Path.{_≡_}
-use lib.ListN.{length}
-use Rattle.word.specs.Memory.{memory, holds}
-use Rattle.word.specs.Writes.{after, carried}
+use Rattle.word.specs.Writes.{carried}
 use Rattle.entry.specs.Entry.{everything}
-use Rattle.walk.specs.declared.Found.the-variants as found
-use Rattle.tables.specs.Meaning.{meaning}
-use Rattle.pool.specs.Booked.{settingOf}
-use Rattle.pool.specs.Create.{newSpace, createWrites}
+use Rattle.walk.specs.declared.Found.the-variants.{Page}
+use Rattle.pool.specs.Create.{newSpace}
 use Rattle.pool.specs.declared.Space.{Space}
-use Rattle.plan.specs.Map as map
 use Rattle.plan.specs.declared.maps.Asked.{Asked}
-use Rattle.plan.specs.declared.maps.Mapping.{Mapping}
+use Rattle.tablepath.specs.declared.Mapped.the-variants.{Done}
+use Rattle.tablepath.specs.Answers.{createWrites, mapAnswer}
+use Rattle.tablepath.specs.Looks.{inWindow, lookUp, withPage}
 
 -- Five pages at address 0 ----------------------------------------------------------------------------------------------------------------
 
@@ -29,9 +26,9 @@ page = pageOn 0
 
 -- the bytes that create leaves
 abbrev pub bytes : List ℕ → List ℕ
-bytes s = carried s 0 (createWrites (length s) (holds s 0) 0 0 5)
+bytes s = carried s 0 (createWrites s 0 0 5)
 
--- such a page can be mapped there, and then the address means it
+-- map of such a page is done, and then look-up answers it
 abbrev pub Mappable : List ℕ → ℕ → Type 0
-Mappable s va = (p : Mapping) × (map.decideOf (holds (bytes s) 0) (memory (bytes s) 0) five (pageOn va) ≡ map.Go p)
-    × (meaning (settingOf (holds (bytes s) 0) five) (after (memory (bytes s) 0) (map.writesOf five p)) va ≡ found.Page va 4096 1048576 everything)
+Mappable s va = ((k : ℕ) × (inWindow (bytes s) 0 mapAnswer five (pageOn va) ≡ Done k))
+    × (lookUp (withPage (bytes s) five (pageOn va)) five va ≡ Page va 4096 1048576 everything)
