@@ -81,12 +81,12 @@ enum tp_reason {
     TP_SIZE = 1,               /* the size is none of the three */
     TP_BASE_UNALIGNED = 2,     /* the base is no multiple of the size */
     TP_FRAME_UNALIGNED = 3,    /* the frame is no multiple of the size */
-    TP_BASE_RANGE = 4,         /* the range ends beyond 2^48 */
+    TP_BASE_RANGE = 4,         /* the base is no address: it is not canonical */
     TP_FRAME_RANGE = 5,        /* the frame ends beyond 2^52 */
     TP_FRAME_IN_POOL = 6,      /* the frame and the pool share a byte */
     TP_OVERLAP = 7,            /* some address of the range is mapped */
     TP_NO_ROOM = 8,            /* fewer free pages than tables that are missing */
-    /* unmap and protect */
+    /* unmap and protect; TP_BASE_RANGE before it */
     TP_NOTHING_STARTS = 9,     /* no page starts at the base */
     /* tables or a book that were damaged */
     TP_STRAY = 10,             /* the way leads to a table that is not of the pool */
@@ -269,7 +269,7 @@ static inline const char *tp_reason_text(uint64_t reason) {
     case TP_SIZE: return "the size is none of the three";
     case TP_BASE_UNALIGNED: return "the base is no multiple of the size";
     case TP_FRAME_UNALIGNED: return "the frame is no multiple of the size";
-    case TP_BASE_RANGE: return "the range ends beyond 2^48";
+    case TP_BASE_RANGE: return "the base is no address: it is not canonical";
     case TP_FRAME_RANGE: return "the frame ends beyond 2^52";
     case TP_FRAME_IN_POOL: return "the frame and the pool share a byte";
     case TP_OVERLAP: return "some address of the range is mapped";

@@ -1,5 +1,6 @@
 -- EACH REASON EXACTLY WHEN ITS CAUSE HOLDS, by its number, in a space that is whole; and numbers that name no space, for any bytes.
 use Prim.Native.Nat.{ℕ, _<_, _≤_}
+use mathlib.Core.Bool.{true, false}
 use mathlib.Core.List.{List}
 use mathlib.Core.Logic.{_↔_, _⊎_, inl, inr, _≢_}
 use mathlib.Core.Path.{_≡_, refl, sym, ap, _∙_}
@@ -7,17 +8,18 @@ use native.Mathlib.Omega.{arith}
 use lib.ListN.{length}
 use borrow.Author.Tests.{eq-eqb, ne-eqb}
 use Rattle.word.specs.Memory.{memory, holds}
+use Rattle.walk.specs.Walk.{canonical}
+use Rattle.tables.specs.Roles.{Setting}
 use Rattle.pool.specs.Book.{bookOf, dueOf}
 use Rattle.pool.specs.Booked.{settingOf}
 use Rattle.pool.specs.declared.Due.{Due}
 use Rattle.pool.specs.declared.Due.the-variants as due
-use Rattle.pool.specs.declared.Space.{Space}
 use Rattle.pool.specs.declared.Book.{Book}
 use Rattle.plan.specs.Map as map
 use Rattle.plan.specs.Map.{Placed, shapeOf}
 use Rattle.plan.specs.Protect as protect
 use Rattle.plan.specs.declared.Reason.{Reason}
-use Rattle.plan.specs.declared.Reason.the-variants.{NothingStarts}
+use Rattle.plan.specs.declared.Reason.the-variants.{BaseRange, NothingStarts}
 use Rattle.plan.specs.declared.protects.Change.{Change}
 use Rattle.plan.specs.declared.maps.Shape.the-variants.{Bad}
 use Rattle.plan.specs.declared.unmaps.Removal.{Removal}
@@ -26,7 +28,7 @@ use Rattle.plan.specs.declared.unmaps.Removing.the-variants as removing
 use Rattle.plan.specs.declared.protects.Changing.{Changing}
 use Rattle.plan.specs.declared.protects.Changing.the-variants as changing
 use Rattle.effect.specs.MapRefused.{Cause}
-use Rattle.effect.specs.StartsAt.{StartsAt}
+use Rattle.effect.specs.StartsAt.{StartsAt, NotThere, no-address, none-starts}
 use Rattle.effect.proofs.MapRefused.{map-refused}
 use Rattle.effect.proofs.Exactly.{unmap-exactly, protect-exactly, told-exactly}
 use Rattle.effect.proofs.Wholes.{book-opens}
@@ -34,7 +36,7 @@ use Rattle.tablepath.specs.Answers as the
 use Rattle.abi.specs.ReasonNumbers as why
 use Rattle.abi.specs.ReasonNumbers.{reasonOf, numberOf}
 use Rattle.abi.specs.Answers.{rightsIn, mapped, unmapped, protected, told}
-use Rattle.abi.specs.Calls.{siteOf, askedSite, shapedSite, mapSite, protectSite, ask, createAnswer, mapAnswer, unmapAnswer, protectAnswer, toldAnswer}
+use Rattle.abi.specs.Calls.{siteOf, askedSite, shapedSite, mapSite, ask, createAnswer, mapAnswer, unmapAnswer, protectAnswer, toldAnswer}
 use Rattle.abi.specs.Relied as c
 use Rattle.abi.specs.Relied.{Numbers, spaceOf, asked, granted, WholeAt, Call, Meant, reason, tpCreate, tpMap, tpUnmap, tpProtect, tpTold}
 use Rattle.abi.specs.Reasons.{MapReasons, StartReasons, ProtectReasons, ToldReasons, Shaped, SiteReasons, CreateReasons}
@@ -73,6 +75,21 @@ protect-zero (changing.Refused x) = (λ e. absurd (never-done x e), λ k. let z 
 -- two equivalences, one after the other
 along : {A B D : Type 0} → A ↔ B → B ↔ D → A ↔ D
 along f g = (λ a. g .0 (f .0 a), λ d. f .1 (g .1 d))
+
+-- why no page is found, as two equivalences
+no-address-is : {σ : Setting} {m : ℕ → ℕ} {va : ℕ} → NotThere σ m va BaseRange ↔ (canonical va ≡ false)
+no-address-is {σ} {m} {va} = (λ k. go BaseRange k refl, no-address)
+  where
+    go : (y : Reason) → NotThere σ m va y → y ≡ BaseRange → canonical va ≡ false
+    go y (no-address u) e = u
+    go y (none-starts u n) e = let z : _≡_ {A = ℕ} 0 1 = cc in absurd (omega arith)
+
+none-starts-is : {σ : Setting} {m : ℕ → ℕ} {va : ℕ} → NotThere σ m va NothingStarts ↔ ((canonical va ≡ true) × (¬ StartsAt σ m va))
+none-starts-is {σ} {m} {va} = (λ k. go NothingStarts k refl, λ k. none-starts (k .0) (k .1))
+  where
+    go : (y : Reason) → NotThere σ m va y → y ≡ NothingStarts → (canonical va ≡ true) × (¬ StartsAt σ m va)
+    go y (none-starts u n) e = (u, n)
+    go y (no-address u) e = let z : _≡_ {A = ℕ} 0 1 = cc in absurd (omega arith)
 
 -- In a space that is whole ---------------------------------------------------------------------------------------------------------------
 
@@ -114,24 +131,26 @@ module _ (s : List ℕ) (n : Numbers) (w : WholeAt s n) where
         go e (inr l) = l
 
   -- UNMAP
-  pub unmap-causes : (base : ℕ) → StartReasons (tpUnmap s n base .reason) (StartsAt (settingOf (holds s (n .origin)) (spaceOf n)) (memory s (n .origin)) base)
+  pub unmap-causes : (base : ℕ) → StartReasons (tpUnmap s n base .reason) base (StartsAt (settingOf (holds s (n .origin)) (spaceOf n)) (memory s (n .origin)) base)
   unfolding the.unmapAnswer
   unmap-causes base =
       let k = unmap-exactly (w .whole) base in
       rw (unmap-answers n (w .aligned) s base) (record {
         done = along (unmap-zero (bookOf (memory s (n .origin)) (spaceOf n)) _) (k .succeeds);
-        nothing-starts = along (unmap-number (bookOf (memory s (n .origin)) (spaceOf n)) _ NothingStarts) (k .refused);
+        base-range = along (unmap-number (bookOf (memory s (n .origin)) (spaceOf n)) _ BaseRange) (along (k .refused BaseRange) no-address-is);
+        nothing-starts = along (unmap-number (bookOf (memory s (n .origin)) (spaceOf n)) _ NothingStarts) (along (k .refused NothingStarts) none-starts-is);
       })
 
   -- PROTECT
   module _ (base rights : ℕ) where
-    starts-by : rights < 8 → StartReasons (tpProtect s n base rights .reason) (StartsAt (settingOf (holds s (n .origin)) (spaceOf n)) (memory s (n .origin)) base)
+    starts-by : rights < 8 → StartReasons (tpProtect s n base rights .reason) base (StartsAt (settingOf (holds s (n .origin)) (spaceOf n)) (memory s (n .origin)) base)
     unfolding the.protectAnswer
     starts-by l =
         let k = protect-exactly (w .whole) base (granted rights) in
         rw (protect-answers n (w .aligned) s base rights l) (record {
           done = along (protect-zero _) (k .succeeds);
-          nothing-starts = along (protect-number _ NothingStarts) (k .refused);
+          base-range = along (protect-number _ BaseRange) (along (k .refused BaseRange) no-address-is);
+          nothing-starts = along (protect-number _ NothingStarts) (along (k .refused NothingStarts) none-starts-is);
         })
 
     not-rights : rights < 8 → tpProtect s n base rights .reason ≢ numberOf why.rights
@@ -142,11 +161,12 @@ module _ (s : List ℕ) (n : Numbers) (w : WholeAt s n) where
         go (changing.Go p) e = omega (arith, e)
         go (changing.Refused y) e = never-rights y e
 
-    pub protect-causes : ProtectReasons (tpProtect s n base rights .reason) rights (StartsAt (settingOf (holds s (n .origin)) (spaceOf n)) (memory s (n .origin)) base)
+    pub protect-causes : ProtectReasons (tpProtect s n base rights .reason) rights base (StartsAt (settingOf (holds s (n .origin)) (spaceOf n)) (memory s (n .origin)) base)
     unfolding reason
     protect-causes = record {
       rights-mean = (λ e. go e (below-8 rights), λ l. rights-causes s n (c.protect base rights) (omega (arith, l)));
       done = (λ e. let l = protect-given s n base rights 0 e (omega arith) in (l, starts-by l .done .0 e), λ k. starts-by (k .0) .done .1 (k .1));
+      base-range = (λ e. let l = protect-given s n base rights (reasonOf BaseRange) e (never-rights BaseRange) in (l, starts-by l .base-range .0 e), λ k. starts-by (k .0) .base-range .1 (k .1));
       nothing-starts = (λ e. let l = protect-given s n base rights (reasonOf NothingStarts) e (never-rights NothingStarts) in (l, starts-by l .nothing-starts .0 e), λ k. starts-by (k .0) .nothing-starts .1 (k .1));
     }
       where

@@ -9,6 +9,7 @@ use lib.ListN.{length}
 use borrow.Author.Tests.{eq-eqb, eqb-true}
 use Rattle.word.specs.Memory.{holds}
 use Rattle.word.specs.Writes.{carried}
+use Rattle.walk.specs.Walk.{canonical}
 use Rattle.pool.specs.Layout.{bookPages}
 use Rattle.pool.proofs.Words.{book-some}
 use Rattle.pool.specs.Book.{roomOf}
@@ -101,7 +102,7 @@ module _ (s : List ℕ) (origin pool pages : ℕ) where
       whole : WholeAt (createLeaves s origin pool pages) (newNumbers s origin pool pages)
       whole = record { aligned = record { pool = a; root = at-page }; role = newRole (newSpace origin (pool / 4096) pages); whole = rw root-is (k .1) }
 
-      empty : (va : ℕ) → tpLookUp (createLeaves s origin pool pages) (newNumbers s origin pool pages) va ≡ nothing
-      empty va =
+      empty : (va : ℕ) → canonical va ≡ true → tpLookUp (createLeaves s origin pool pages) (newNumbers s origin pool pages) va ≡ nothing
+      empty va u =
           looks (newNumbers s origin pool pages) (whole .aligned) (createLeaves s origin pool pages) va
-          ∙ ap lookedUp (rw root-is (nothing-yet (k .1) va)) ∙ nothing-is
+          ∙ ap lookedUp (rw root-is (nothing-yet (k .1) va u)) ∙ nothing-is

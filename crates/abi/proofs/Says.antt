@@ -1,13 +1,15 @@
 -- THE ANSWER TELLS THE OPERATION'S: from the numbers that C gets, field by field, what the operation answered is known again, for any bytes.
 use Prim.Native.Nat.{ℕ, _<_}
 use mathlib.Core.List.{List}
-use mathlib.Core.Logic.{inl, inr}
+use mathlib.Core.Bool.{false}
+use mathlib.Core.Logic.{inl, inr, _↔_}
 use mathlib.Core.Path.{_≡_, refl, sym, ap, _∙_}
 use native.Mathlib.Omega.{arith}
 use Rattle.word.specs.Memory.{memory, holds}
-use Rattle.walk.specs.Walk.{walk}
+use Rattle.walk.specs.Walk.{canonical, walk}
 use Rattle.walk.specs.declared.Found.{Found}
 use Rattle.walk.specs.declared.Found.the-variants as found
+use Rattle.walk.proofs.Ranges.{no-address-only}
 use Rattle.pool.specs.declared.Reason as inPool
 use Rattle.pool.specs.declared.Created as ofPool
 use Rattle.pool.specs.declared.Created.the-variants as create
@@ -113,21 +115,32 @@ looked-up-says (found.Page b s f r) = record {
   nothing = λ e. absurd (omega arith);
   page = λ e. ap (found.Page b s f) (sym (rights-told r) ∙ rights-granted (rightsWord r));
   outside = λ e. absurd (omega arith);
-  known = omega arith;
+  no-address = λ e. absurd (omega arith);
+  known = inl (omega arith);
   bare = λ k. absurd (k refl);
 }
 looked-up-says found.Nothing = record {
   nothing = λ e. refl;
   page = λ e. absurd (omega arith);
   outside = λ e. absurd (omega arith);
-  known = omega arith;
+  no-address = λ e. absurd (omega arith);
+  known = inl (omega arith);
   bare = λ k. (refl, refl, refl, refl);
 }
 looked-up-says found.Outside = record {
   nothing = λ e. absurd (omega arith);
   page = λ e. absurd (omega arith);
   outside = λ e. refl;
-  known = omega arith;
+  no-address = λ e. absurd (omega arith);
+  known = inl (omega arith);
+  bare = λ k. (refl, refl, refl, refl);
+}
+looked-up-says found.NoAddress = record {
+  nothing = λ e. absurd (omega arith);
+  page = λ e. absurd (omega arith);
+  outside = λ e. absurd (omega arith);
+  no-address = λ e. refl;
+  known = inr refl;
   bare = λ k. (refl, refl, refl, refl);
 }
 
@@ -137,6 +150,13 @@ module _ (s : List ℕ) where
   -- LOOK-UP: what the walk finds
   pub look-up-says : (n : Numbers) (va : ℕ) → LookUpSays (tpLookUp s n va) (walk (holds s (n .origin)) (memory s (n .origin)) (n .root) va)
   look-up-says n va = looked-up-says _
+
+  -- NO ADDRESS is answered exactly for a number that is not canonical
+  pub look-up-address : (n : Numbers) (va : ℕ) → (tpLookUp s n va .kind ≡ 5) ↔ (canonical va ≡ false)
+  unfolding lookedUp
+  look-up-address n va =
+      let k = no-address-only (holds s (n .origin)) (memory s (n .origin)) (n .root) va in
+      (λ e. k .0 (look-up-says n va .no-address e), λ e. ap (λ f. lookedUp f .kind) (k .1 e))
 
   module _ (n : Numbers) (a : Aligned n) where
     pub map-says : (base frame size rights : ℕ) → rights < 8 → MapSays (tpMap s n base frame size rights)

@@ -1,11 +1,12 @@
 -- The answers as the numbers that C gets: each field is a function of what tablepath answers, and 0 where that is refused.
-use Prim.Native.Nat.{ℕ, _+_, _*_, _/_, _%_, _^_, _<_}
+use Prim.Native.Nat.{ℕ, _+_, _*_, _/_, _%_, _<_}
 use mathlib.Core.Path.{_≡_}
 use lib.Dec.{eqb}
+use Rattle.word.specs.Memory.{pageCount}
 use Rattle.entry.specs.Words.{flag}
 use Rattle.entry.specs.declared.Rights.{Rights}
 use Rattle.walk.specs.declared.Found.{Found}
-use Rattle.walk.specs.declared.Found.the-variants.{Page, Nothing, Outside}
+use Rattle.walk.specs.declared.Found.the-variants.{Page, Nothing, Outside, NoAddress}
 use Rattle.pool.specs.declared.Created as ofPool
 use Rattle.pool.specs.declared.Created.the-variants as create
 use Rattle.pool.specs.declared.moment.Stated.{Stated}
@@ -40,7 +41,7 @@ rightsIn w = record { writable = eqb (w % 2) 1; user = eqb (w / 2 % 2) 1; noexec
 
 -- a root in a page whose number has 40 bits
 abbrev pub Low : ofPool.Created → Type 0
-Low c = (p : ℕ) → c ≡ create.Root p → p < 2 ^ 40
+Low c = (p : ℕ) → c ≡ create.Root p → p < pageCount
 
 -- the root's physical address
 unfoldable pub created : ofPool.Created → Created
@@ -76,3 +77,4 @@ unfoldable pub lookedUp : Found → LookedUp
 lookedUp (Page b s f r) = record { kind = 1; base = b; size = s; frame = f; rights = rightsWord r }
 lookedUp Nothing = record { kind = 0; base = 0; size = 0; frame = 0; rights = 0 }
 lookedUp Outside = record { kind = 2; base = 0; size = 0; frame = 0; rights = 0 }
+lookedUp NoAddress = record { kind = 5; base = 0; size = 0; frame = 0; rights = 0 }

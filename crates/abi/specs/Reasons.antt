@@ -1,8 +1,10 @@
 -- WHAT C'S NUMBERS SAY: what each answer says of the operation's, and when each reason is given. The numbers are in ReasonNumbers; the laws are
 -- in proofs/Reasons.antt, proofs/Says.antt and proofs/Causes.antt.
 use Prim.Native.Nat.{ℕ, _/_, _%_, _^_, _<_, _≤_}
+use mathlib.Core.Bool.{true, false}
 use mathlib.Core.Logic.{_↔_, _⊎_, _≢_}
 use mathlib.Core.Path.{_≡_}
+use Rattle.walk.specs.Walk.{canonical}
 use Rattle.walk.specs.declared.Found.{Found}
 use Rattle.walk.specs.declared.Found.the-variants as found
 use Rattle.tables.specs.Roles.{Role}
@@ -16,7 +18,7 @@ use Rattle.pool.specs.declared.moment.Stated.the-variants as state
 use Rattle.pool.specs.declared.Created as ofPool
 use Rattle.pool.specs.declared.Created.the-variants as create
 use Rattle.plan.specs.declared.Reason.{Reason}
-use Rattle.plan.specs.declared.Reason.the-variants.{NothingStarts}
+use Rattle.plan.specs.declared.Reason.the-variants.{BaseRange, NothingStarts}
 use Rattle.plan.specs.Map.{shapeOf}
 use Rattle.plan.specs.declared.maps.Shape.the-variants.{Level}
 use Rattle.tablepath.specs.declared.Mapped as ofMap
@@ -77,7 +79,8 @@ pub record LookUpSays (x : LookedUp) (a : Found) : Type 0 where
   pub nothing : x .kind ≡ 0 → a ≡ found.Nothing
   pub page : x .kind ≡ 1 → a ≡ found.Page (x .base) (x .size) (x .frame) (granted (x .rights))
   pub outside : x .kind ≡ 2 → a ≡ found.Outside
-  pub known : x .kind ≤ 2
+  pub no-address : x .kind ≡ 5 → a ≡ found.NoAddress
+  pub known : (x .kind ≤ 2) ⊎ (x .kind ≡ 5)
   pub bare : x .kind ≢ 1 → (x .base ≡ 0) × (x .size ≡ 0) × (x .frame ≡ 0) × (x .rights ≡ 0)
 
 -- When each number is given, in a space that is whole -----------------------------------------------------------------------------------
@@ -88,16 +91,18 @@ pub record MapReasons (n rights : ℕ) (cause : Reason → Type 0) : Type 0 wher
   pub refused : (y : Reason) → (n ≡ reasonOf y) ↔ ((rights < 8) × cause y)
   pub known : rights < 8 → (n ≡ 0) ⊎ ((y : Reason) × (n ≡ reasonOf y))
 
--- by unmap: whether a page starts at the base
-pub record StartReasons (n : ℕ) (starts : Type 0) : Type 0 where
+-- by unmap: whether the base is an address, and whether a page starts there
+pub record StartReasons (n base : ℕ) (starts : Type 0) : Type 0 where
   pub done : (n ≡ 0) ↔ starts
-  pub nothing-starts : (n ≡ reasonOf NothingStarts) ↔ (¬ starts)
+  pub base-range : (n ≡ reasonOf BaseRange) ↔ (canonical base ≡ false)
+  pub nothing-starts : (n ≡ reasonOf NothingStarts) ↔ ((canonical base ≡ true) × (¬ starts))
 
 -- by protect: the rights, then the same
-pub record ProtectReasons (n rights : ℕ) (starts : Type 0) : Type 0 where
+pub record ProtectReasons (n rights base : ℕ) (starts : Type 0) : Type 0 where
   pub rights-mean : (n ≡ numberOf why.rights) ↔ (8 ≤ rights)
   pub done : (n ≡ 0) ↔ ((rights < 8) × starts)
-  pub nothing-starts : (n ≡ reasonOf NothingStarts) ↔ ((rights < 8) × (¬ starts))
+  pub base-range : (n ≡ reasonOf BaseRange) ↔ ((rights < 8) × (canonical base ≡ false))
+  pub nothing-starts : (n ≡ reasonOf NothingStarts) ↔ ((rights < 8) × ((canonical base ≡ true) × (¬ starts)))
 
 -- by told, with this book: whether the ticket was handed out, and whether it is one of the first 2^62
 pub record ToldReasons (n : ℕ) (b : Book) (ticket : ℕ) : Type 0 where

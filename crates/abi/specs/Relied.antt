@@ -1,11 +1,13 @@
 -- WHAT A CALLER IN C RELIES ON: statements over the functions' own answers and bytes, for plain numbers as C gives them. The laws are in
 -- proofs/Created.antt, proofs/RoundTrips.antt and proofs/Refusals.antt; what the numbers of the answers say is in Reasons.antt.
 use Prim.Native.Nat.{ℕ, _+_, _*_, _/_, _%_, _<_, _≤_}
+use mathlib.Core.Bool.{true}
 use mathlib.Core.List.{List, [], _∷_}
 use mathlib.Core.Path.{_≡_}
 use lib.ListN.{length, replicate}
 use Rattle.entry.specs.Entry.{bit}
 use Rattle.entry.specs.declared.Rights.{Rights}
+use Rattle.walk.specs.Walk.{canonical}
 use Rattle.tables.specs.Roles.{Role}
 use Rattle.pool.specs.declared.Space.{Space}
 use Rattle.plan.specs.declared.maps.Asked.{Asked}
@@ -145,12 +147,12 @@ pub record Now (s s' : List ℕ) (n : Numbers) (base size : ℕ) (x : LookedUp) 
 abbrev pub newNumbers : List ℕ → ℕ → ℕ → ℕ → Numbers
 newNumbers s origin pool pages = record { origin = origin; pool = pool; pages = pages; root = tpCreate s origin pool pages .root }
 
--- a whole space for the next calls; its root is a page of the pool; and no address is mapped
+-- a whole space for the next calls; its root is a page of the pool; and no address is mapped, of all that there are
 pub record CreateDone (s : List ℕ) (origin pool pages : ℕ) : Type 0 where
   pub whole : WholeAt (createLeaves s origin pool pages) (newNumbers s origin pool pages)
   pub behind : pool < tpCreate s origin pool pages .root
   pub before-end : tpCreate s origin pool pages .root + 4096 ≤ pool + 4096 * pages
-  pub empty : (va : ℕ) → tpLookUp (createLeaves s origin pool pages) (newNumbers s origin pool pages) va ≡ nothing
+  pub empty : (va : ℕ) → canonical va ≡ true → tpLookUp (createLeaves s origin pool pages) (newNumbers s origin pool pages) va ≡ nothing
 
 -- the page that started at base was this one, and look-up answers x there now
 pub record Swapped (s s' : List ℕ) (n : Numbers) (base size frame : ℕ) (x : LookedUp) : Type 0 where

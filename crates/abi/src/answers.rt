@@ -105,7 +105,7 @@ pub fn of_create(c: pool::Created) -> Created
             root: 0,
         },
         pool::Created::Root(p) => {
-            if 1099511627776 <= p {
+            if word::PAGE_COUNT <= p {
                 return Created { reason: 0, root: 0 };
             }
             Created {
@@ -249,6 +249,13 @@ pub fn of_look_up(f: Found) -> LookedUp
         },
         Found::Outside => LookedUp {
             kind: 2,
+            base: 0,
+            size: 0,
+            frame: 0,
+            rights: 0,
+        },
+        Found::NoAddress => LookedUp {
+            kind: 5,
             base: 0,
             size: 0,
             frame: 0,

@@ -149,6 +149,7 @@ fn meaning(f: Found) {
         } => say::page(b, s, a, r),
         Found::Nothing => say::text(b"nothing is mapped there"),
         Found::Outside => say::text(b"outside, the way leaves the window"),
+        Found::NoAddress => say::text(b"that is no address"),
     }
     say::line();
 }
@@ -157,7 +158,7 @@ fn meaning(f: Found) {
 pub fn look_up(mem: &[u8], space: Space, va: u64) {
     say::with_hex(b"  look up ", va);
     say::line();
-    if 1099511627776 <= space.root {
+    if word::PAGE_COUNT <= space.root {
         return;
     }
     meaning(tablepath::look_up(mem, space.origin, space.root * 4096, va));

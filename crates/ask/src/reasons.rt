@@ -10,7 +10,7 @@ pub fn refused(r: Reason) {
         Reason::Size => because(b"the size is none of the three"),
         Reason::BaseUnaligned => because(b"the base is no multiple of the size"),
         Reason::FrameUnaligned => because(b"the frame is no multiple of the size"),
-        Reason::BaseRange => because(b"the range ends beyond 2^48"),
+        Reason::BaseRange => because(b"the base is no address: it is not canonical"),
         Reason::FrameRange => because(b"the frame ends beyond 2^52"),
         Reason::FrameInPool => because(b"the frame and the pool share a byte"),
         Reason::Overlap => because(b"some address of the range is mapped"),

@@ -2,8 +2,8 @@
 use crate::usual;
 use ask::BYTES;
 
-// The last page of the address space: it ends at 2^48.
-const LAST: u64 = 0xffff_ffff_f000;
+// The last page of the address space: it ends at 2^64.
+const LAST: u64 = 0xffff_ffff_ffff_f000;
 
 fn begin(mem: &mut [u8]) {
     usual::create(mem);
@@ -33,7 +33,7 @@ fn go_on(mem: &mut [u8]) {
     usual::map(mem, 0x1000, 0x30_0000, LAST);
     usual::told(mem, 3);
     usual::map(mem, 0x1000, 0x30_0000, LAST);
-    usual::look_up(mem, 0xffff_ffff_ffff);
+    usual::look_up(mem, 0xffff_ffff_ffff_ffff);
 }
 
 pub fn act() {

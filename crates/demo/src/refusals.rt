@@ -18,8 +18,11 @@ fn shapes(mem: &mut [u8]) {
 }
 
 fn ranges(mem: &mut [u8]) {
-    say::text(b" one page past the end of the virtual, and of the physical, addresses\n");
-    usual::map(mem, 0x1000, 0x20_0000, 0x1_0000_0000_0000);
+    say::text(
+        b" between the two halves of the virtual addresses, one page past the end of the physical ones\n",
+    );
+    usual::map(mem, 0x1000, 0x20_0000, 0x8000_0000_0000);
+    usual::map(mem, 0x1000, 0x20_0000, 0xffff_7fff_ffff_f000);
     usual::map(mem, 0x1000, 0x10_0000_0000_0000, 0x20_0000);
 }
 
@@ -44,12 +47,11 @@ fn no_room(mem: &mut [u8]) {
 }
 
 fn nothing_starts(mem: &mut [u8]) {
-    say::text(
-        b" inside the page, beside it, and from 2^48 on (addresses have 48 bits here, without their sign)\n",
-    );
+    say::text(b" inside the page, beside it, in the upper half; and where there is no address\n");
     usual::unmap(mem, HERE + 8);
     usual::read_only(mem, HERE + 0x1000);
     usual::unmap(mem, 0xffff_8000_0000_0000);
+    usual::unmap(mem, 0x8000_0000_0000);
 }
 
 fn first_half(mem: &mut [u8]) {

@@ -1,18 +1,18 @@
--- Unmap and protect are refused exactly where no page starts, and succeed exactly where one does; and which tickets are refused.
+-- Unmap and protect are refused exactly where no page is found, and succeed exactly where one does; and which tickets are refused.
 use Prim.Native.Nat.{ℕ, _-_, _^_, _<_, _≤_}
 use mathlib.Core.Bool.{Bool}
-use mathlib.Core.Path.{_≡_, sym, _∙_}
+use mathlib.Core.Path.{_≡_, sym, ap, _∙_, subst}
 use native.Mathlib.Decide.{decLe}
 use native.Mathlib.Omega.{arith}
 use borrow.Author.Tests.{le-leb, lt-leb}
 use Rattle.entry.specs.declared.Rights.{Rights}
 use Rattle.tables.specs.Roles.{Role}
 use Rattle.pool.specs.Book.{Sound, bookOf, ticketOf, ticketIn, dueOf}
+use Rattle.pool.specs.Booked.{settingOf}
 use Rattle.pool.specs.declared.Book.{Book}
 use Rattle.pool.specs.declared.Due.the-variants as due
 use Rattle.pool.specs.declared.Space.{Space}
 use Rattle.plan.specs.declared.Reason.{Reason}
-use Rattle.plan.specs.declared.Reason.the-variants.{NothingStarts}
 use Rattle.plan.specs.declared.finding.Spot.{Spot}
 use Rattle.plan.specs.declared.finding.Sought.the-variants as sought
 use Rattle.plan.specs.declared.protects.Change.{Change}
@@ -22,10 +22,11 @@ use Rattle.plan.specs.declared.unmaps.Removing.the-variants as removing
 use Rattle.plan.specs.Find.{foundOf}
 use Rattle.plan.specs.Protect as protect
 use Rattle.effect.specs.Exactly.{UnmapExactly, ProtectExactly, ToldExactly}
+use Rattle.effect.specs.StartsAt.{NotThere}
 use Rattle.effect.specs.Whole.{Whole}
 use Rattle.plan.proofs.Found.{found-at}
 use Rattle.effect.proofs.Located.{located}
-use Rattle.effect.proofs.Searching.{Verdict, there, missing, verdict}
+use Rattle.effect.proofs.Searching.{nowhere, not-there-once, Verdict, there, missing, verdict}
 use Rattle.effect.proofs.UnmapDone.{refused-so, unmap-decided}
 
 -- a decision to go on, and a refusal, are two things; and of each there is one
@@ -60,16 +61,17 @@ module _ {h : ℕ → Bool} {sp : Space} {m : ℕ → ℕ} {role : ℕ → Role}
       go (there s f a) =
           let d = unmap-decided w va s (located w (found-at h m sp va s f)) f in
           record {
-            refused = (λ e. absurd (go-no _ _ (sym d ∙ e)), λ n. absurd (n a));
-            only = λ y e. absurd (go-no _ _ (sym d ∙ e));
+            refused = λ y. (λ e. absurd (go-no _ _ (sym d ∙ e)), λ n. absurd (nowhere (settingOf h sp) m va y n a));
             succeeds = (λ r. a, λ x. (_, d));
           }
-      go (missing f n) =
-          let d = refused-so h m sp va NothingStarts f in
+      go (missing y f n) =
+          let d = refused-so h m sp va y f in
           record {
-            refused = (λ e. n, λ x. d);
-            only = λ y e. one-reason NothingStarts y (sym d ∙ e);
-            succeeds = (λ r. absurd (go-no (r .0) NothingStarts (sym (r .1) ∙ d)), λ a. absurd (n a));
+            refused = λ x. (
+              λ e. subst (NotThere (settingOf h sp) m va) (sym (one-reason y x (sym d ∙ e))) n,
+              λ k. d ∙ ap removing.Refused (not-there-once (settingOf h sp) m va y x n k),
+            );
+            succeeds = (λ r. absurd (go-no (r .0) y (sym (r .1) ∙ d)), λ a. absurd (nowhere (settingOf h sp) m va y n a));
           }
 
   -- PROTECT
@@ -80,16 +82,17 @@ module _ {h : ℕ → Bool} {sp : Space} {m : ℕ → ℕ} {role : ℕ → Role}
       go (there s f a) =
           let d = changes h m sp va rights s f in
           record {
-            refused = (λ e. absurd (change-no _ _ (sym d ∙ e)), λ n. absurd (n a));
-            only = λ y e. absurd (change-no _ _ (sym d ∙ e));
+            refused = λ y. (λ e. absurd (change-no _ _ (sym d ∙ e)), λ n. absurd (nowhere (settingOf h sp) m va y n a));
             succeeds = (λ c. a, λ x. (_, d));
           }
-      go (missing f n) =
-          let d = changes-not h m sp va rights NothingStarts f in
+      go (missing y f n) =
+          let d = changes-not h m sp va rights y f in
           record {
-            refused = (λ e. n, λ x. d);
-            only = λ y e. one-cause NothingStarts y (sym d ∙ e);
-            succeeds = (λ c. absurd (change-no (c .0) NothingStarts (sym (c .1) ∙ d)), λ a. absurd (n a));
+            refused = λ x. (
+              λ e. subst (NotThere (settingOf h sp) m va) (sym (one-cause y x (sym d ∙ e))) n,
+              λ k. d ∙ ap changing.Refused (not-there-once (settingOf h sp) m va y x n k),
+            );
+            succeeds = (λ c. absurd (change-no (c .0) y (sym (c .1) ∙ d)), λ a. absurd (nowhere (settingOf h sp) m va y n a));
           }
 
 -- TOLD, by the three tests of a ticket

@@ -19,7 +19,6 @@ use Rattle.pool.specs.Book.{bookOf, pageAt, listedOf}
 use Rattle.pool.specs.Booked.{settingOf}
 use Rattle.pool.specs.declared.Space.{Space}
 use Rattle.pool.specs.declared.Listed.the-variants as listed
-use Rattle.pool.specs.declared.Opened.the-variants as opened
 use Rattle.pool.proofs.Listing.{listed-free}
 use Rattle.plan.specs.declared.Reason.the-variants.{Size, FrameInPool, NoRoom}
 use Rattle.plan.specs.declared.descent.Way.{Way}
@@ -65,7 +64,7 @@ unfolding fitsOf
 shape-fits l q f =
     let s = size-small l (q .size) (f .level) (f .size-is) in
     shape-of-level l q (f .level, f .size-is)
-    ∙ rw (eq-eqb (q .base % q .size) 0 (f .base-aligned), eq-eqb (q .frame % q .size) 0 (f .frame-aligned), le-leb (q .base) (2 ^ 48 - q .size) (omega (arith, f .base-fits)), le-leb (q .frame) (2 ^ 52 - q .size) (omega (arith, f .frame-fits)))
+    ∙ rw (eq-eqb (q .base % q .size) 0 (f .base-aligned), eq-eqb (q .frame % q .size) 0 (f .frame-aligned), f .base-fits, le-leb (q .frame) (2 ^ 52 - q .size) (omega (arith, f .frame-fits)))
 
 -- the frame and the pool
 pub meets-true : (sp : Space) (q : Asked) → Meets sp q → meetsOf sp (q .frame) (q .size) ≡ true
@@ -209,8 +208,7 @@ module _ {h : ℕ → Bool} {sp : Space} {m : ℕ → ℕ} {role : ℕ → Role}
       -- the way of the base
       pub base-traced : Traced (settingOf h sp) m (q .base) l (wayOf h m sp (q .base) l)
       base-traced =
-          traced (w .sound .built) (w .booked) (q .base) l
-          (omega (arith, f .base-fits, size-small l (q .size) (f .level) (f .size-is) .0)) (root-low w) (inl (omega (arith, f .level)))
+          traced (w .sound .built) (w .booked) (q .base) l (f .base-fits) (root-low w) (inl (omega (arith, f .level)))
 
       -- it stops where nothing is, and there are pages for the tables that are missing
       pub room-decides : (x : Way) → Traced (settingOf h sp) m (q .base) l x → l ≤ x .level

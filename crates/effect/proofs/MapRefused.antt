@@ -9,11 +9,9 @@ use Rattle.pool.specs.declared.Space.{Space}
 use Rattle.plan.specs.declared.Reason.{Reason}
 use Rattle.plan.specs.declared.maps.Asked.{Asked}
 use Rattle.plan.specs.declared.maps.Mapping.{Mapping}
-use Rattle.plan.specs.Map.{Placed}
-use Rattle.plan.specs.Map.{Go, Refused}
-use Rattle.plan.specs.Map.{decideOf}
+use Rattle.plan.specs.Map.{Placed, Go, Refused, decideOf}
 use Rattle.effect.specs.MapDone.{MapDone}
-use Rattle.effect.specs.MapRefused.{Cause, Given, no-size, base-unaligned, frame-unaligned, base-high, frame-high, frame-in-pool, mapped, no-room}
+use Rattle.effect.specs.MapRefused.{Cause, Given, no-size, base-unaligned, frame-unaligned, base-range, frame-high, frame-in-pool, mapped, no-room}
 use Rattle.effect.specs.Whole.{Whole}
 use Rattle.effect.proofs.MapDone.{decided-done}
 use Rattle.effect.proofs.MapVerdict.{Verdict, refuses, goes, verdict, cause-refuses}
@@ -22,7 +20,7 @@ cause-given : {h : ℕ → Bool} {sp : Space} {m : ℕ → ℕ} {q : Asked} (r :
 cause-given r (no-size n) = tt
 cause-given r (base-unaligned l o a) = tt
 cause-given r (frame-unaligned l o a b) = tt
-cause-given r (base-high l o a b u) = tt
+cause-given r (base-range l o a b u) = tt
 cause-given r (frame-high l o a b u v) = tt
 cause-given r (frame-in-pool l f k) = tt
 cause-given r (mapped l f c k) = tt

@@ -1,14 +1,14 @@
 -- Each cause makes map refuse with its reason; and where there is no cause there is a plan.
 use Prim.Native.Nat.{ℕ, zero, suc, _+_, _-_, _*_, _%_, _^_, _<_, _≤_}
-use mathlib.Core.Bool.{Bool}
+use mathlib.Core.Bool.{Bool, true, false}
 use mathlib.Core.Logic.{_⊎_, inl, inr, _≢_}
 use mathlib.Core.Path.{_≡_, refl, sym, ap, _∙_, subst}
 use native.Mathlib.Decide.{ℕ-discrete, decLe, decLt}
 use native.Mathlib.Omega.{arith}
-use borrow.Author.Tests.{le-leb, lt-leb, eq-eqb, ne-eqb}
+use borrow.Author.Tests.{lt-leb, eq-eqb, ne-eqb}
 use Rattle.entry.specs.Entry.{sizeOf, says}
 use Rattle.entry.specs.declared.Entry.the-variants.{Nothing, Table}
-use Rattle.walk.specs.Walk.{indexOf}
+use Rattle.walk.specs.Walk.{canonical, indexOf}
 use Rattle.tables.specs.Roles.{Setting, Role, entryAt}
 use Rattle.tables.specs.Way.{Comes, begin, onto}
 use Rattle.tables.proofs.Way.{comes-top, comes-same}
@@ -27,7 +27,7 @@ use Rattle.plan.specs.declared.maps.Mapping.{Mapping}
 use Rattle.plan.specs.Map.{Placed, Go, Refused, fitsOf, supplyOf, sparedOf, placeOf, becauseOf, stoppedOf, shapedOf, decideOf}
 use Rattle.plan.specs.Descend.{wayOf}
 use Rattle.effect.specs.MapDone.{Fitted, Misses}
-use Rattle.effect.specs.MapRefused.{OfLevel, Meets, FrameApart, Mapped, Cause, no-size, base-unaligned, frame-unaligned, base-high, frame-high, frame-in-pool, mapped, no-room}
+use Rattle.effect.specs.MapRefused.{OfLevel, Meets, FrameApart, Mapped, Cause, no-size, base-unaligned, frame-unaligned, base-range, frame-high, frame-in-pool, mapped, no-room}
 use Rattle.effect.specs.Whole.{Whole}
 use Rattle.effect.proofs.MapPlan.{shape-of-level, shape-of-none, size-small, Planned, supplies, lacks, meets-decides, apart-decides, base-traced, room-decides}
 use Rattle.effect.proofs.Trace.{Because, at-nothing, at-page, at-table, Traced}
@@ -172,12 +172,11 @@ module _ {h : ℕ → Bool} {sp : Space} {m : ℕ → ℕ} {role : ℕ → Role}
   cause-refuses r (no-size n) = rw (shape-of-none q n)
   cause-refuses r (base-unaligned l o a) = rw (shape-of-level l q o, ne-eqb (q .base % q .size) 0 a)
   cause-refuses r (frame-unaligned l o a b) = rw (shape-of-level l q o, eq-eqb (q .base % q .size) 0 a, ne-eqb (q .frame % q .size) 0 b)
-  cause-refuses r (base-high l o a b u) =
-      let s = size-small l (q .size) (o .0) (o .1) in
-      rw (shape-of-level l q o, eq-eqb (q .base % q .size) 0 a, eq-eqb (q .frame % q .size) 0 b, lt-leb (q .base) (2 ^ 48 - q .size) (omega arith))
+  cause-refuses r (base-range l o a b u) =
+      rw (shape-of-level l q o, eq-eqb (q .base % q .size) 0 a, eq-eqb (q .frame % q .size) 0 b, u)
   cause-refuses r (frame-high l o a b u v) =
       let s = size-small l (q .size) (o .0) (o .1) in
-      rw (shape-of-level l q o, eq-eqb (q .base % q .size) 0 a, eq-eqb (q .frame % q .size) 0 b, le-leb (q .base) (2 ^ 48 - q .size) (omega arith), lt-leb (q .frame) (2 ^ 52 - q .size) (omega arith))
+      rw (shape-of-level l q o, eq-eqb (q .base % q .size) 0 a, eq-eqb (q .frame % q .size) 0 b, u, lt-leb (q .frame) (2 ^ 52 - q .size) (omega arith))
   cause-refuses r (frame-in-pool l f k) = meets-decides w q l f k
   cause-refuses r (mapped l f c k) = overlap-refuses l f c k
   cause-refuses r (no-room l n f c none k u) = room-refuses l f c n none k u
@@ -193,16 +192,16 @@ module _ {h : ℕ → Bool} {sp : Space} {m : ℕ → ℕ} {role : ℕ → Role}
       fitted-go l f (inl c) = fitted-verdict l f c
       fitted-go l f (inr k) = because FrameInPool (frame-in-pool l f k)
 
-      level-go : (l : ℕ) → OfLevel l q → Dec (q .base % q .size ≡ 0) → Dec (q .frame % q .size ≡ 0) → Dec (q .base + q .size ≤ 2 ^ 48) → Dec (q .frame + q .size ≤ 2 ^ 52)
+      level-go : (l : ℕ) → OfLevel l q → Dec (q .base % q .size ≡ 0) → Dec (q .frame % q .size ≡ 0) → (c : Bool) → canonical (q .base) ≡ c → Dec (q .frame + q .size ≤ 2 ^ 52)
           → Verdict h sp m q (decideOf h m sp q)
-      level-go l o (no a) b c d = because BaseUnaligned (base-unaligned l o a)
-      level-go l o (yes a) (no b) c d = because FrameUnaligned (frame-unaligned l o a b)
-      level-go l o (yes a) (yes b) (no c) d = because BaseRange (base-high l o a b (omega arith))
-      level-go l o (yes a) (yes b) (yes c) (no d) = because FrameRange (frame-high l o a b c (omega arith))
-      level-go l o (yes a) (yes b) (yes c) (yes d) =
-          fitted-go l (record { level = o .0; size-is = o .1; base-aligned = a; frame-aligned = b; base-fits = c; frame-fits = d }) (apart-or-meets h sp q)
+      level-go l o (no a) b c e d = because BaseUnaligned (base-unaligned l o a)
+      level-go l o (yes a) (no b) c e d = because FrameUnaligned (frame-unaligned l o a b)
+      level-go l o (yes a) (yes b) false e d = because BaseRange (base-range l o a b e)
+      level-go l o (yes a) (yes b) true e (no d) = because FrameRange (frame-high l o a b e (omega arith))
+      level-go l o (yes a) (yes b) true e (yes d) =
+          fitted-go l (record { level = o .0; size-is = o .1; base-aligned = a; frame-aligned = b; base-fits = e; frame-fits = d }) (apart-or-meets h sp q)
 
       size-go : ((l : ℕ) × OfLevel l q) ⊎ ((l : ℕ) → l ≤ 2 → q .size ≢ sizeOf l) → Verdict h sp m q (decideOf h m sp q)
       size-go (inr n) = because Size (no-size n)
       size-go (inl k) =
-          level-go (k .0) (k .1) (ℕ-discrete (q .base % q .size) 0) (ℕ-discrete (q .frame % q .size) 0) (decLe (q .base + q .size) (2 ^ 48)) (decLe (q .frame + q .size) (2 ^ 52))
+          level-go (k .0) (k .1) (ℕ-discrete (q .base % q .size) 0) (ℕ-discrete (q .frame % q .size) 0) (canonical (q .base)) refl (decLe (q .frame + q .size) (2 ^ 52))

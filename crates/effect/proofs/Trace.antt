@@ -1,8 +1,8 @@
 -- The way in tables that we built: it stops where the walk of the address comes to, through the tables that name each other.
-use Prim.Native.Nat.{ℕ, zero, suc, _+_, _*_, _^_, _<_, _≤_}
-use mathlib.Core.Bool.{Bool, true, false, cond}
+use Prim.Native.Nat.{ℕ, zero, suc, _+_, _^_, _<_, _≤_}
+use mathlib.Core.Bool.{Bool, true, cond}
 use mathlib.Core.Logic.{_⊎_, inl, inr, _≢_}
-use mathlib.Core.Path.{_≡_, refl, sym, ap, _∙_, subst}
+use mathlib.Core.Path.{_≡_, refl, ap, _∙_, subst}
 use native.Mathlib.Decide.{decLt, ℕ-discrete}
 use native.Mathlib.Omega.{arith}
 use borrow.Author.Tests.{eq-eqb, ne-eqb}
@@ -12,7 +12,7 @@ use Rattle.entry.specs.declared.Rights.{Rights}
 use Rattle.entry.specs.declared.Entry.{Entry}
 use Rattle.entry.specs.declared.Entry.the-variants as entry
 use Rattle.entry.proofs.Fields.{last-no-table}
-use Rattle.walk.specs.Walk.{indexOf, entryOf}
+use Rattle.walk.specs.Walk.{canonical, indexOf, entryOf}
 use Rattle.tables.specs.Roles.{Setting, Role, book, left, entryAt, Built}
 use Rattle.tables.specs.Way.{Comes, onto}
 use Rattle.tables.proofs.Way.{comes-left, onto-role}
@@ -26,7 +26,7 @@ use Rattle.pool.proofs.Pages.{root-page}
 use Rattle.plan.specs.declared.descent.Way.{Way}
 use Rattle.plan.specs.declared.descent.Why.{Why}
 use Rattle.plan.specs.declared.descent.Why.the-variants as why
-use Rattle.plan.specs.Descend.{Trail, At, Stopped, pushOf, stopOf, toldOf, arriveOf, stepOf, downOf, endOf, noWay, wayOf}
+use Rattle.plan.specs.Descend.{At, Stopped, pushOf, stopOf, toldOf, arriveOf, stepOf, downOf, endOf, noWay, wayOf}
 
 -- entry i of level l of page q names the table t, and the walk of va comes to q
 pub record Names (σ : Setting) (m : ℕ → ℕ) (va l q t : ℕ) : Type 0 where
@@ -136,7 +136,7 @@ module _ {h : ℕ → Bool} {sp : Space} {m : ℕ → ℕ} {role : ℕ → Role}
         (λ s r e d. trace-from l s (pushOf w t) (omega arith) (onto t r c e) (pushed (suc l) t s w r c o e) (further (suc l) d g l refl)))
 
     -- THE WAY IN TABLES THAT WE BUILT
-    pub traced : va < 2 ^ 48 → sp .root < 2 ^ 40 → (target ≤ 3) ⊎ (4 ≤ target) → Traced (settingOf h sp) m va target (wayOf h m sp va target)
+    pub traced : canonical va ≡ true → sp .root < 2 ^ 40 → (target ≤ 3) ⊎ (4 ≤ target) → Traced (settingOf h sp) m va target (wayOf h m sp va target)
     unfolding wayOf
     traced u v g =
         trace-from 3 (sp .root) noWay (omega arith) (subst (Comes (settingOf h sp) m va 4) (root-page (sp .root) v) (comes-root u))

@@ -7,6 +7,7 @@ use mathlib.Core.Path.{_≡_}
 use native.Mathlib.Omega.{arith}
 use Rattle.word.specs.Writes.{Write, Every}
 use Rattle.word.proofs.Writes.{every-map}
+use Rattle.walk.specs.Walk.{canonical}
 use Rattle.tables.specs.Roles.{Role, left}
 use Rattle.tables.proofs.Clearing.{Spare, book-spare}
 use Rattle.pool.specs.Book.{bookOf, namesOf, openedOf}
@@ -33,7 +34,7 @@ module _ {h : ℕ → Bool} {sp : Space} {m : ℕ → ℕ} {role : ℕ → Role}
   root-low = omega (arith, w .small, root-in .before-end)
 
   -- the way to a page, in a space that is whole
-  pub way-traced : (va : ℕ) → va < 2 ^ 48 → Traced (settingOf h sp) m va 4 (wayOf h m sp va 4)
+  pub way-traced : (va : ℕ) → canonical va ≡ true → Traced (settingOf h sp) m va 4 (wayOf h m sp va 4)
   way-traced va u = traced (w .sound .built) (w .booked) va 4 u root-low (inr (omega arith))
 
   pub owned : Owned sp role

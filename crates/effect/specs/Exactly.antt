@@ -1,4 +1,5 @@
--- REFUSED EXACTLY: unmap and protect have one reason to refuse, that no page starts at va, and refuse exactly then; and what told refuses.
+-- REFUSED EXACTLY: unmap and protect have two reasons to refuse, that va is no address and that no page starts there, and refuse exactly then;
+-- and what told refuses.
 use Prim.Native.Nat.{ℕ, _^_, _<_, _≤_}
 use mathlib.Core.Bool.{Bool}
 use mathlib.Core.Logic.{_↔_}
@@ -10,24 +11,21 @@ use Rattle.pool.specs.declared.Book.{Book}
 use Rattle.pool.specs.declared.Due.the-variants as due
 use Rattle.pool.specs.declared.Space.{Space}
 use Rattle.plan.specs.declared.Reason.{Reason}
-use Rattle.plan.specs.declared.Reason.the-variants.{NothingStarts}
 use Rattle.plan.specs.declared.protects.Change.{Change}
 use Rattle.plan.specs.declared.protects.Changing.the-variants as changing
 use Rattle.plan.specs.declared.unmaps.Removal.{Removal}
 use Rattle.plan.specs.declared.unmaps.Removing.the-variants as removing
 use Rattle.plan.specs.Protect as protect
-use Rattle.effect.specs.StartsAt.{StartsAt}
+use Rattle.effect.specs.StartsAt.{StartsAt, NotThere}
 use Rattle.plan.specs.Unmap as unmap
 
--- refused: it refuses for want of a page exactly where none starts; only: for no other reason; succeeds: it is done exactly where one starts
+-- refused: it refuses exactly where no page is found, for the reason that there is; succeeds: it is done exactly where a page starts
 pub record UnmapExactly (h : ℕ → Bool) (sp : Space) (m : ℕ → ℕ) (va : ℕ) : Type 0 where
-  pub refused : (unmap.decideOf h m sp va ≡ removing.Refused NothingStarts) ↔ (¬ StartsAt (settingOf h sp) m va)
-  pub only : (y : Reason) → unmap.decideOf h m sp va ≡ removing.Refused y → y ≡ NothingStarts
+  pub refused : (y : Reason) → (unmap.decideOf h m sp va ≡ removing.Refused y) ↔ NotThere (settingOf h sp) m va y
   pub succeeds : ((r : Removal) × (unmap.decideOf h m sp va ≡ removing.Go r)) ↔ StartsAt (settingOf h sp) m va
 
 pub record ProtectExactly (h : ℕ → Bool) (sp : Space) (m : ℕ → ℕ) (va : ℕ) (rights : Rights) : Type 0 where
-  pub refused : (protect.decideOf h m sp va rights ≡ changing.Refused NothingStarts) ↔ (¬ StartsAt (settingOf h sp) m va)
-  pub only : (y : Reason) → protect.decideOf h m sp va rights ≡ changing.Refused y → y ≡ NothingStarts
+  pub refused : (y : Reason) → (protect.decideOf h m sp va rights ≡ changing.Refused y) ↔ NotThere (settingOf h sp) m va y
   pub succeeds : ((c : Change) × (protect.decideOf h m sp va rights ≡ changing.Go c)) ↔ StartsAt (settingOf h sp) m va
 
 -- TOLD: a ticket above the present one is unknown; one with which the numbers would run out is spent; any other is done.

@@ -1,11 +1,11 @@
 -- WHAT IS SO WHEN MAP HAS DONE IT, in a space that is whole: exactly what was asked has changed, by one write, and the space is whole.
-use Prim.Native.Nat.{ℕ, suc, _+_, _%_, _^_, _≤_}
-use mathlib.Core.Bool.{Bool}
+use Prim.Native.Nat.{ℕ, suc, _+_, _%_, _≤_}
+use mathlib.Core.Bool.{Bool, true}
 use mathlib.Core.Path.{_≡_}
 use Rattle.word.specs.Writes.{after, Every}
-use Rattle.entry.specs.Entry.{sizeOf}
+use Rattle.entry.specs.Entry.{sizeOf, frameEnd}
 use Rattle.entry.specs.declared.Entry.the-variants.{Nothing}
-use Rattle.walk.specs.Walk.{indexOf}
+use Rattle.walk.specs.Walk.{canonical, indexOf}
 use Rattle.walk.specs.declared.Found.the-variants as found
 use Rattle.tables.specs.Roles.{Setting, Role, Home, entryAt}
 use Rattle.tables.specs.Way.{Comes}
@@ -19,14 +19,14 @@ use Rattle.plan.specs.Map.{writesOf}
 use Rattle.effect.specs.Whole.{Whole}
 use Rattle.effect.specs.Numbers.{KeepsNumbers}
 
--- what is asked is a page of level l, aligned, and in range
+-- what is asked is a page of level l, aligned, at an address and in range; so it lies in one half of the addresses (`page-in-half`)
 pub record Fitted (l : ℕ) (q : Asked) : Type 0 where
   pub level : l ≤ 2
   pub size-is : q .size ≡ sizeOf l
   pub base-aligned : q .base % q .size ≡ 0
   pub frame-aligned : q .frame % q .size ≡ 0
-  pub base-fits : q .base + q .size ≤ 2 ^ 48
-  pub frame-fits : q .frame + q .size ≤ 2 ^ 52
+  pub base-fits : canonical (q .base) ≡ true
+  pub frame-fits : q .frame + q .size ≤ frameEnd
 
 -- n tables are missing on the way of va to level l: it stops n levels above, where nothing is
 pub record Misses (σ : Setting) (m : ℕ → ℕ) (va l n : ℕ) : Type 0 where

@@ -1,9 +1,10 @@
 -- WHY MAP REFUSES, in a space that is whole: one cause for each reason, in the order of the tests.
-use Prim.Native.Nat.{ℕ, _+_, _*_, _%_, _^_, _≤_, _<_}
-use mathlib.Core.Bool.{Bool}
+use Prim.Native.Nat.{ℕ, _+_, _*_, _%_, _≤_, _<_}
+use mathlib.Core.Bool.{Bool, true, false}
 use mathlib.Core.Logic.{_≢_}
 use mathlib.Core.Path.{_≡_}
-use Rattle.entry.specs.Entry.{sizeOf}
+use Rattle.entry.specs.Entry.{sizeOf, frameEnd}
+use Rattle.walk.specs.Walk.{canonical}
 use Rattle.tables.specs.Roles.{Apart}
 use Rattle.tables.specs.Overlap.{MappedIn}
 use Rattle.pool.specs.Book.{bookOf}
@@ -34,8 +35,8 @@ pub data Cause (h : ℕ → Bool) (sp : Space) (m : ℕ → ℕ) (q : Asked) : R
   no-size : ((l : ℕ) → l ≤ 2 → q .size ≢ sizeOf l) → Cause h sp m q Size
   base-unaligned : (l : ℕ) → OfLevel l q → q .base % q .size ≢ 0 → Cause h sp m q BaseUnaligned
   frame-unaligned : (l : ℕ) → OfLevel l q → q .base % q .size ≡ 0 → q .frame % q .size ≢ 0 → Cause h sp m q FrameUnaligned
-  base-high : (l : ℕ) → OfLevel l q → q .base % q .size ≡ 0 → q .frame % q .size ≡ 0 → 2 ^ 48 < q .base + q .size → Cause h sp m q BaseRange
-  frame-high : (l : ℕ) → OfLevel l q → q .base % q .size ≡ 0 → q .frame % q .size ≡ 0 → q .base + q .size ≤ 2 ^ 48 → 2 ^ 52 < q .frame + q .size
+  base-range : (l : ℕ) → OfLevel l q → q .base % q .size ≡ 0 → q .frame % q .size ≡ 0 → canonical (q .base) ≡ false → Cause h sp m q BaseRange
+  frame-high : (l : ℕ) → OfLevel l q → q .base % q .size ≡ 0 → q .frame % q .size ≡ 0 → canonical (q .base) ≡ true → frameEnd < q .frame + q .size
       → Cause h sp m q FrameRange
   frame-in-pool : (l : ℕ) → Fitted l q → Meets sp q → Cause h sp m q FrameInPool
   mapped : (l : ℕ) → Fitted l q → FrameApart h sp q → Mapped h sp m q → Cause h sp m q Overlap

@@ -3,9 +3,14 @@
 use Prim.Native.Nat.{ℕ, zero, suc, _*_, _/_, _%_, _^_}
 use mathlib.Core.Bool.{Bool, true, false, cond, _&&_, _||_}
 use lib.Dec.{eqb, leb}
+use Rattle.word.specs.Memory.{pageCount}
 use Rattle.entry.specs.declared.Rights.{Rights}
 use Rattle.entry.specs.declared.Entry.{Entry}
 use Rattle.entry.specs.declared.Entry.the-variants.{Nothing, Page, Table}
+
+-- Frames end here: physical addresses have 52 bits.
+abbrev pub frameEnd : ℕ
+frameEnd = 2 ^ 52
 
 -- what one entry covers: 4 KiB, 2 MiB, 1 GiB, 512 GiB
 unfoldable pub sizeOf : ℕ → ℕ
@@ -21,11 +26,11 @@ rightsOf w = record { writable = bit 1 w; user = bit 2 w; noexec = bit 63 w }
 
 -- the address bits of a page: from the size's own up to bit 51
 unfoldable pub frameOf : ℕ → ℕ → ℕ
-frameOf n w = w / sizeOf n % (2 ^ 52 / sizeOf n) * sizeOf n
+frameOf n w = w / sizeOf n % (frameEnd / sizeOf n) * sizeOf n
 
 -- the number of the page that holds the table: bits 12 to 51
 unfoldable pub tableOf : ℕ → ℕ
-tableOf w = w / 4096 % 2 ^ 40
+tableOf w = w / 4096 % pageCount
 
 -- of a large page, the bits between bit 12, which is a memory type's, and its address are reserved: a walk faults where one is 1
 unfoldable pub padded : ℕ → ℕ → Bool

@@ -2,7 +2,8 @@
 use Prim.Native.Nat.{ℕ, zero, suc, _+_, _*_, _/_, _%_, _^_}
 use mathlib.Core.Bool.{Bool, cond, _&&_}
 use lib.Dec.{eqb, leb, ltb}
-use Rattle.entry.specs.Entry.{sizeOf}
+use Rattle.word.specs.Memory.{pageCount}
+use Rattle.entry.specs.Entry.{sizeOf, frameEnd}
 use Rattle.entry.specs.declared.Rights.{Rights}
 use Rattle.entry.specs.declared.Made.{Made}
 use Rattle.entry.specs.declared.Made.the-variants.{Word, Refused}
@@ -21,7 +22,7 @@ pageWord n frame r = 1 + 2 * flag (r .writable) + 4 * flag (r .user) + largeFlag
 
 -- a frame that a page of level n can have
 unfoldable pub fits : ℕ → ℕ → Bool
-fits n frame = leb n 2 && (eqb (frame % sizeOf n) 0 && ltb frame (2 ^ 52))
+fits n frame = leb n 2 && (eqb (frame % sizeOf n) 0 && ltb frame frameEnd)
 
 unfoldable pub madePage : ℕ → ℕ → Rights → Made
 madePage n frame r = cond (fits n frame) (Word (pageWord n frame r)) Refused
@@ -31,7 +32,7 @@ unfoldable pub tableWord : ℕ → ℕ
 tableWord p = 4096 * p + 7
 
 unfoldable pub madeTable : ℕ → Made
-madeTable p = cond (ltb p (2 ^ 40)) (Word (tableWord p)) Refused
+madeTable p = cond (ltb p pageCount) (Word (tableWord p)) Refused
 
 -- the word with other rights: bits 1, 2 and 63 are new, and every other is as it was
 unfoldable pub withRights : ℕ → Rights → ℕ

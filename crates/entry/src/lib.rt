@@ -4,6 +4,9 @@ ghost use Prim.Native.Nat.{_<_, _≤_};
 ghost use Rattle.entry.specs.Entry as the;
 ghost use Rattle.entry.specs.Words as made;
 
+// Frames end here: physical addresses have 52 bits.
+pub const FRAME_END: u64 = 4503599627370496;
+
 pub struct Rights {
     pub writable: bool,
     pub user: bool,
@@ -43,7 +46,7 @@ pub fn size(n: u64) -> u64
 pub fn table(w: u64) -> u64
     ensures { λ r. ⌜ r ≡ the.tableOf w ⌝ }
 {
-    w / 4096 % 1099511627776
+    w / 4096 % word::PAGE_COUNT
 }
 
 pub fn granted(w: u64) -> Rights
@@ -72,7 +75,7 @@ fn frame(n: u64, w: u64) -> u64
     ensures { λ r. ⌜ r ≡ the.frameOf n w ⌝ }
 {
     let s = size(n);
-    w / s % (4503599627370496 / s) * s
+    w / s % (FRAME_END / s) * s
 }
 
 // A present word above the last table whose bit 7 is 1.
@@ -134,7 +137,7 @@ pub fn page_word(n: u64, frame: u64, r: Rights) -> Made
     if frame % size(n) != 0 {
         return Made::Refused;
     }
-    if 4503599627370496 <= frame {
+    if FRAME_END <= frame {
         return Made::Refused;
     }
     Made::Word(
@@ -151,7 +154,7 @@ pub fn page_word(n: u64, frame: u64, r: Rights) -> Made
 pub fn table_word(p: u64) -> Made
     ensures { λ m. ⌜ m ≡ made.madeTable p ⌝ }
 {
-    if 1099511627776 <= p {
+    if word::PAGE_COUNT <= p {
         return Made::Refused;
     }
     Made::Word(4096 * p + 7)

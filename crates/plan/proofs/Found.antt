@@ -1,15 +1,15 @@
 -- What it shows that a page was found: the way to it, its level, and what its entry says.
-use Prim.Native.Nat.{ℕ, _+_, _%_, _^_, _<_, _≤_}
+use Prim.Native.Nat.{ℕ, _%_, _<_}
 use mathlib.Core.Bool.{Bool, true, false, cond}
 use mathlib.Core.Path.{_≡_, refl, subst}
 use native.Mathlib.Omega.{arith}
-use borrow.Author.Tests.{leb-true, ltb-true, eqb-true}
-use lib.Dec.{leb, ltb, eqb}
+use borrow.Author.Tests.{leb-true, eqb-true}
+use lib.Dec.{leb}
 use Rattle.entry.specs.Entry.{sizeOf, says}
 use Rattle.entry.specs.declared.Rights.{Rights}
 use Rattle.entry.specs.declared.Entry.{Entry}
 use Rattle.entry.specs.declared.Entry.the-variants as entry
-use Rattle.walk.specs.Walk.{indexOf}
+use Rattle.walk.specs.Walk.{canonical, indexOf}
 use Rattle.pool.specs.Book.{namesOf}
 use Rattle.pool.specs.declared.Space.{Space}
 use Rattle.pool.specs.declared.Fit.{Fit}
@@ -18,15 +18,14 @@ use Rattle.plan.specs.declared.descent.Way.{Way}
 use Rattle.plan.specs.declared.descent.Why.{Why}
 use Rattle.plan.specs.declared.descent.Why.the-variants as why
 use Rattle.plan.specs.declared.finding.Spot.{Spot}
-use Rattle.plan.specs.declared.finding.Sought.{Sought}
 use Rattle.plan.specs.declared.finding.Sought.the-variants.{Found, Refused}
-use Rattle.plan.specs.declared.Reason.the-variants.{NothingStarts, Stray}
+use Rattle.plan.specs.declared.Reason.the-variants.{BaseRange, NothingStarts, Stray}
 use Rattle.plan.specs.Descend.{wayOf}
 use Rattle.plan.specs.Find.{startsOf, spotOf, becauseOf, stoppedOf, soughtOf, foundOf}
 
 pub record FoundAt (h : ℕ → Bool) (m : ℕ → ℕ) (sp : Space) (va : ℕ) (s : Spot) : Type 0 where
   pub names : namesOf h m sp ≡ fit.Fits
-  pub address : va < 2 ^ 48
+  pub address : canonical va ≡ true
   pub way : wayOf h m sp va 4 ≡ s .way
   pub low : s .way .level < 4
   pub page : s .way .why ≡ why.Page
@@ -40,7 +39,7 @@ module _ (h : ℕ → Bool) (m : ℕ → ℕ) (sp : Space) (va : ℕ) (s : Spot)
   clash : _≡_ {A = ℕ} 0 1 → FoundAt h m sp va s
   clash z = absurd (omega arith)
 
-  module _ (w : Way) (st : namesOf h m sp ≡ fit.Fits) (u : va < 2 ^ 48) (ew : wayOf h m sp va 4 ≡ w) where
+  module _ (w : Way) (st : namesOf h m sp ≡ fit.Fits) (u : canonical va ≡ true) (ew : wayOf h m sp va 4 ≡ w) where
     spotted : w .level < 4 → w .why ≡ why.Page → va % sizeOf (w .level) ≡ 0 → (x : Entry) → says (w .level) (w .word) ≡ x → spotOf va w x ≡ Found s
         → FoundAt h m sp va s
     unfolding spotOf
@@ -66,15 +65,15 @@ module _ (h : ℕ → Bool) (m : ℕ → ℕ) (sp : Space) (va : ℕ) (s : Spot)
     stopping true e k = because (omega (arith, leb-true (w .level) 3 e)) (w .why) refl k
     stopping false e k = clash cc
 
-  sought : (b : Bool) → namesOf h m sp ≡ fit.Fits → ltb va (2 ^ 48) ≡ b → cond b (stoppedOf va (wayOf h m sp va 4)) (Refused NothingStarts) ≡ Found s
+  sought : (b : Bool) → namesOf h m sp ≡ fit.Fits → canonical va ≡ b → cond b (stoppedOf va (wayOf h m sp va 4)) (Refused BaseRange) ≡ Found s
       → FoundAt h m sp va s
   unfolding stoppedOf
-  sought true st e k = let w : Way = wayOf h m sp va 4 in stopping w st (ltb-true va (2 ^ 48) e) refl (leb (w .level) 3) refl k
+  sought true st e k = let w : Way = wayOf h m sp va 4 in stopping w st e refl (leb (w .level) 3) refl k
   sought false st e k = clash cc
 
   standing : (x : Fit) → namesOf h m sp ≡ x → soughtOf h m sp va x ≡ Found s → FoundAt h m sp va s
   unfolding soughtOf
-  standing fit.Fits st k = sought (ltb va (2 ^ 48)) st refl k
+  standing fit.Fits st k = sought (canonical va) st refl k
   standing (fit.Refused r) st k = clash cc
 
   pub found-at : foundOf h m sp va ≡ Found s → FoundAt h m sp va s

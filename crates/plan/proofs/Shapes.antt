@@ -1,13 +1,14 @@
 -- What it shows that sizes, alignment and range are right.
-use Prim.Native.Nat.{ℕ, zero, suc, _+_, _-_, _%_, _^_, _<_, _≤_}
+use Prim.Native.Nat.{ℕ, zero, suc, _+_, _-_, _*_, _%_, _^_, _<_, _≤_}
 use mathlib.Core.Bool.{Bool, true, false, cond}
-use mathlib.Core.Path.{_≡_, refl, subst}
+use mathlib.Core.Path.{_≡_, refl, sym, _∙_, subst}
 use native.Mathlib.Omega.{arith}
-use borrow.Author.Tests.{leb-true, eqb-true}
+use borrow.Author.Tests.{leb-true, eqb-true, lt-ltb}
 use lib.Dec.{leb, eqb}
 use Rattle.entry.specs.Entry.{sizeOf}
+use Rattle.walk.specs.Walk.{half, canonical}
+use Rattle.walk.proofs.Addresses.{by-wrapping}
 use Rattle.plan.specs.declared.Reason.the-variants.{Size, BaseUnaligned, FrameUnaligned, BaseRange, FrameRange}
-use Rattle.plan.specs.declared.maps.Shape.{Shape}
 use Rattle.plan.specs.declared.maps.Shape.the-variants.{Level, Bad}
 use Rattle.plan.specs.Map.{fitsOf, shapeOf}
 
@@ -17,7 +18,7 @@ pub record Shaped (n size base frame : ℕ) : Type 0 where
   pub size-is : size ≡ sizeOf n
   pub base-aligned : base % size ≡ 0
   pub frame-aligned : frame % size ≡ 0
-  pub base-fits : base + size ≤ 2 ^ 48
+  pub base-fits : canonical base ≡ true
   pub frame-fits : frame + size ≤ 2 ^ 52
 
 -- the three sizes
@@ -28,14 +29,19 @@ size-small (suc zero) size u e = (omega arith, omega arith)
 size-small (suc (suc zero)) size u e = (omega arith, omega arith)
 size-small (suc (suc (suc n))) size u e = absurd (omega arith)
 
--- what is aligned and begins below 2 ^ 48 or 2 ^ 52 also ends there
-pub base-ends : (n size base : ℕ) → n ≤ 2 → size ≡ sizeOf n → base % size ≡ 0 → base < 2 ^ 48 → base ≤ 2 ^ 48 - size
+-- half of all addresses further on an address is aligned as before
+pub on-aligned : (n size base on : ℕ) → n ≤ 2 → size ≡ sizeOf n → base < 2 ^ 64 → on ≡ (base + half) % 2 ^ 64 → on % size ≡ 0 → base % size ≡ 0
 unfolding sizeOf
-base-ends zero size base u e a b = let k : base % 4096 ≡ 0 = rw (← e) a in omega arith
-base-ends (suc zero) size base u e a b = let k : base % 2097152 ≡ 0 = rw (← e) a in omega arith
-base-ends (suc (suc zero)) size base u e a b = let k : base % 1073741824 ≡ 0 = rw (← e) a in omega arith
-base-ends (suc (suc (suc n))) size base u e a b = absurd (omega arith)
+on-aligned zero size base on u e b o a = let k : on % 4096 ≡ 0 = rw (← e) a in let g : base % 4096 ≡ 0 = omega arith in rw e g
+on-aligned (suc zero) size base on u e b o a = let k : on % 2097152 ≡ 0 = rw (← e) a in let g : base % 2097152 ≡ 0 = omega arith in rw e g
+on-aligned (suc (suc zero)) size base on u e b o a = let k : on % 1073741824 ≡ 0 = rw (← e) a in let g : base % 1073741824 ≡ 0 = omega arith in rw e g
+on-aligned (suc (suc (suc n))) size base on u e b o a = absurd (omega arith)
 
+-- and it is an address where it lies below twice as many
+pub on-address : (base on : ℕ) → base < 2 ^ 64 → on ≡ (base + half) % 2 ^ 64 → on < 2 * half → canonical base ≡ true
+on-address base on b o u = sym (by-wrapping base on b o) ∙ lt-ltb on (2 * half) u
+
+-- a frame that is aligned and begins below 2 ^ 52 also ends there
 pub frame-ends : (n size frame : ℕ) → n ≤ 2 → size ≡ sizeOf n → frame % size ≡ 0 → frame < 2 ^ 52 → frame ≤ 2 ^ 52 - size
 unfolding sizeOf
 frame-ends zero size frame u e a b = let k : frame % 4096 ≡ 0 = rw (← e) a in omega arith
@@ -54,7 +60,7 @@ shape-fits (suc (suc (suc n))) size base frame u e = absurd (omega arith)
 -- what fits has the level that was asked about
 pub fits-level : (n k size base frame : ℕ) → fitsOf n size base frame ≡ Level k → k ≡ n
 unfolding fitsOf
-fits-level n k size base frame e = go (eqb (base % size) 0) (eqb (frame % size) 0) (leb base (2 ^ 48 - size)) (leb frame (2 ^ 52 - size)) e
+fits-level n k size base frame e = go (eqb (base % size) 0) (eqb (frame % size) 0) (canonical base) (leb frame (2 ^ 52 - size)) e
   where
     go : (a b c d : Bool) → cond a (cond b (cond c (cond d (Level n) (Bad FrameRange)) (Bad BaseRange)) (Bad FrameUnaligned)) (Bad BaseUnaligned) ≡ Level k → k ≡ n
     go true true true true e = cc
@@ -65,7 +71,7 @@ fits-level n k size base frame e = go (eqb (base % size) 0) (eqb (frame % size) 
 
 module _ (base frame n : ℕ) where
   fitted : (k size : ℕ) → k ≤ 2 → size ≡ sizeOf k → size ≤ 1073741824 → (a b c d : Bool) → eqb (base % size) 0 ≡ a → eqb (frame % size) 0 ≡ b
-      → leb base (2 ^ 48 - size) ≡ c → leb frame (2 ^ 52 - size) ≡ d
+      → canonical base ≡ c → leb frame (2 ^ 52 - size) ≡ d
       → cond a (cond b (cond c (cond d (Level k) (Bad FrameRange)) (Bad BaseRange)) (Bad FrameUnaligned)) (Bad BaseUnaligned) ≡ Level n
       → Shaped n size base frame
   fitted k size u es v true true true true ea eb ec ed e =
@@ -75,7 +81,7 @@ module _ (base frame n : ℕ) where
         size-is = es;
         base-aligned = eqb-true _ 0 ea;
         frame-aligned = eqb-true _ 0 eb;
-        base-fits = omega (arith, leb-true base (2 ^ 48 - size) ec);
+        base-fits = ec;
         frame-fits = omega (arith, leb-true frame (2 ^ 52 - size) ed);
       })
   fitted k size u es v true true true false ea eb ec ed e = let z : _≡_ {A = ℕ} 0 1 = cc in absurd (omega arith)

@@ -1,21 +1,19 @@
 -- The page that starts exactly at a base: where its entry is and what it says, or why there is none.
-use Prim.Native.Nat.{ℕ, _%_, _^_}
+use Prim.Native.Nat.{ℕ, _%_}
 use mathlib.Core.Bool.{Bool, cond}
-use lib.Dec.{eqb, leb, ltb}
+use lib.Dec.{eqb, leb}
 use Rattle.entry.specs.Entry.{sizeOf, says}
 use Rattle.entry.specs.declared.Entry.{Entry}
 use Rattle.entry.specs.declared.Entry.the-variants as entry
-use Rattle.walk.specs.Walk.{indexOf}
+use Rattle.walk.specs.Walk.{canonical, indexOf}
 use Rattle.pool.specs.Book.{namesOf}
 use Rattle.pool.specs.declared.Space.{Space}
 use Rattle.pool.specs.declared.Fit.{Fit}
 use Rattle.pool.specs.declared.Fit.the-variants as fit
-use Rattle.plan.specs.declared.Reason.{Reason}
-use Rattle.plan.specs.declared.Reason.the-variants.{NothingStarts, Stray, Pool}
+use Rattle.plan.specs.declared.Reason.the-variants.{BaseRange, NothingStarts, Stray, Pool}
 use Rattle.plan.specs.declared.descent.Why.{Why}
 use Rattle.plan.specs.declared.descent.Why.the-variants as why
 use Rattle.plan.specs.declared.descent.Way.{Way}
-use Rattle.plan.specs.declared.finding.Spot.{Spot}
 use Rattle.plan.specs.declared.finding.Sought.{Sought}
 use Rattle.plan.specs.declared.finding.Sought.the-variants.{Found, Refused}
 use Rattle.plan.specs.Descend.{wayOf}
@@ -40,7 +38,7 @@ unfoldable pub stoppedOf : ℕ → Way → Sought
 stoppedOf va w = cond (leb (w .level) 3) (becauseOf va w (w .why)) (Refused Stray)
 
 unfoldable pub soughtOf : (ℕ → Bool) → (ℕ → ℕ) → Space → ℕ → Fit → Sought
-soughtOf h m sp va fit.Fits = cond (ltb va (2 ^ 48)) (stoppedOf va (wayOf h m sp va 4)) (Refused NothingStarts)
+soughtOf h m sp va fit.Fits = cond (canonical va) (stoppedOf va (wayOf h m sp va 4)) (Refused BaseRange)
 soughtOf h m sp va (fit.Refused r) = Refused (Pool r)
 
 -- WHAT IS FOUND

@@ -1,13 +1,15 @@
 -- Map: the decision, a function of the memory and what is asked, and the writes of its plan.
-use Prim.Native.Nat.{ℕ, _+_, _-_, _*_, _%_, _^_, _≤_, _<_}
+use Prim.Native.Nat.{ℕ, _+_, _-_, _*_, _%_, _≤_, _<_}
 use mathlib.Core.Bool.{Bool, true, false, cond, _&&_}
 use mathlib.Core.List.{List, [], _∷_, _++_}
 use lib.Dec.{eqb, leb, ltb}
+use Rattle.word.specs.Memory.{pageCount}
 use Rattle.word.specs.Writes.{Write, write, zeros}
+use Rattle.entry.specs.Entry.{frameEnd}
 use Rattle.entry.specs.Words.{tableWord, madePage}
 use Rattle.entry.specs.declared.Made.{Made}
 use Rattle.entry.specs.declared.Made.the-variants as made
-use Rattle.walk.specs.Walk.{indexOf}
+use Rattle.walk.specs.Walk.{canonical, indexOf}
 use Rattle.pool.specs.Book.{namesOf, openedOf, listedOf}
 use Rattle.pool.specs.Changes.{tookWrites}
 use Rattle.pool.specs.declared.Space.{Space}
@@ -44,7 +46,7 @@ unfoldable pub fitsOf : ℕ → ℕ → ℕ → ℕ → Shape
 fitsOf n size base frame =
     cond (eqb (base % size) 0)
     (cond (eqb (frame % size) 0)
-    (cond (leb base (2 ^ 48 - size)) (cond (leb frame (2 ^ 52 - size)) (Level n) (Bad FrameRange)) (Bad BaseRange))
+    (cond (canonical base) (cond (leb frame (frameEnd - size)) (Level n) (Bad FrameRange)) (Bad BaseRange))
     (Bad FrameUnaligned))
     (Bad BaseUnaligned)
 
@@ -54,9 +56,9 @@ shapeOf size base frame =
     (fitsOf 0 4096 base frame)
     (cond (eqb size 2097152) (fitsOf 1 2097152 base frame) (cond (eqb size 1073741824) (fitsOf 2 1073741824 base frame) (Bad Size)))
 
--- what is asked ends at 2 ^ 52 or below
+-- what is asked ends where frames do, or below
 abbrev pub Sized : Asked → Type 0
-Sized q = q .frame + q .size ≤ 2 ^ 52
+Sized q = q .frame + q .size ≤ frameEnd
 
 -- the frame and the pool share a byte
 unfoldable pub meetsOf : Space → ℕ → ℕ → Bool
@@ -156,9 +158,9 @@ decideOf h m sp q = shapedOf h m sp q (shapeOf (q .size) (q .base) (q .frame))
 
 -- pages whose numbers have 40 bits
 pub record Low (f : Fresh) : Type 0 where
-  pub a : f .a < 2 ^ 40
-  pub b : f .b < 2 ^ 40
-  pub c : f .c < 2 ^ 40
+  pub a : f .a < pageCount
+  pub b : f .b < pageCount
+  pub c : f .c < pageCount
 
 -- what is built: at a level, of such pages
 pub record Buildable (p : Mapping) : Type 0 where
@@ -168,7 +170,7 @@ pub record Buildable (p : Mapping) : Type 0 where
 -- The plan ---------------------------------------------------------------------------------------------------------------------------
 
 unfoldable pub linkOf : ℕ → ℕ
-linkOf p = cond (ltb p (2 ^ 40)) (tableWord p) 0
+linkOf p = cond (ltb p pageCount) (tableWord p) 0
 
 unfoldable pub nextOf : ℕ → ℕ → Reached → Reached
 nextOf target p s = cond (leb (s .level) target) s (record { level = s .level - 1; table = p })

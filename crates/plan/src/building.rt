@@ -1,7 +1,7 @@
 // Map: what was decided is carried out. For each missing level, from the top, a page is cleared and then linked; the page's own entry is written last.
 ghost use mathlib.Core.Path.{_≡_};
-ghost use Prim.Native.Nat.{_^_, _<_};
-ghost use Rattle.word.specs.Memory.{memory, holds};
+ghost use Prim.Native.Nat.{_<_};
+ghost use Rattle.word.specs.Memory.{pageCount, memory, holds};
 ghost use Rattle.word.specs.Writes.{Wrote};
 ghost use Rattle.plan.specs.Map as the;
 use crate::Reason;
@@ -25,7 +25,7 @@ pub struct Reached {
 
 // The word that names the table in page p.
 fn link(p: u64) -> u64
-    requires { ⌜ p < 2 ^ 40 ⌝ }
+    requires { ⌜ p < pageCount ⌝ }
     ensures { λ r. ⌜ r ≡ the.linkOf p ⌝ }
 {
     4096 * p + 7
@@ -41,7 +41,7 @@ fn grow(
     p: u64,
     s: Reached,
 ) -> Reached
-    requires { ⌜ (s .level < 4) × (p < 2 ^ 40) ⌝ }
+    requires { ⌜ (s .level < 4) × (p < pageCount) ⌝ }
     ensures { λ r. ⌜ r ≡ the.nextOf target p s ⌝ }
     ensures { λ _. ⌜ Wrote origin (the.growOf va target p s) (now (left .entry)) (now (left .exit)) (now (mem .entry)) (now (mem .exit)) ⌝ }
 {

@@ -69,10 +69,10 @@ pub fn find(mem: &[u8], space: Space, va: u64) -> Sought
     match fit {
         Fit::Refused(r) => Sought::Refused(Reason::Pool(r)),
         Fit::Fits => {
-            if 281474976710656 <= va {
-                return Sought::Refused(Reason::NothingStarts);
+            if walk::canonical(va) {
+                return stopped(va, descend(mem, space, va, 4));
             }
-            stopped(va, descend(mem, space, va, 4))
+            Sought::Refused(Reason::BaseRange)
         }
     }
 }

@@ -30,7 +30,7 @@ pub enum Reason {
     Size,
     BaseUnaligned,
     FrameUnaligned,
-    // the range does not end at 2^48 or below
+    // the base is no address: it is not canonical
     BaseRange,
     // the frame does not end at 2^52 or below
     FrameRange,
@@ -41,7 +41,7 @@ pub enum Reason {
     Overlap,
     // fewer free pages than missing tables
     NoRoom,
-    // no page has that base
+    // the base is an address, and no page starts there
     NothingStarts,
     // the tables are damaged: the way leads through a page that is no table's
     Stray,

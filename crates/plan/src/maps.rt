@@ -3,7 +3,7 @@ ghost use mathlib.Core.Path.{_≡_};
 ghost use Prim.Native.Nat.{_+_, _-_, _^_, _<_, _≤_};
 ghost use Rattle.word.specs.Memory.{memory, holds};
 ghost use Rattle.entry.specs.declared.Made.the-variants.{Word};
-ghost use Rattle.entry.specs.Entry.{sizeOf};
+ghost use Rattle.entry.specs.Entry.{sizeOf, frameEnd};
 ghost use Rattle.entry.specs.Words as made;
 ghost use Rattle.plan.specs.declared.descent.Way.{Way};
 ghost use Rattle.plan.specs.Descend.{stopAt};
@@ -82,24 +82,26 @@ fn tested(n: u64, size: u64, base: u64, frame: u64) -> Shape
     if frame % size != 0 {
         return Shape::Bad(Reason::FrameUnaligned);
     }
-    if 281474976710656 - size < base {
-        return Shape::Bad(Reason::BaseRange);
+    if walk::canonical(base) {
+        if entry::FRAME_END - size < frame {
+            return Shape::Bad(Reason::FrameRange);
+        }
+        return Shape::Level(n);
     }
-    if 4503599627370496 - size < frame {
-        return Shape::Bad(Reason::FrameRange);
-    }
-    Shape::Level(n)
+    Shape::Bad(Reason::BaseRange)
 }
 
-// What fits is found first, in a form in which alignment and range are one test to the compiler.
+// What fits is found first, in a form in which alignment and range are one test to the compiler: half of all addresses further on, an address
+// is aligned as before, and lies below twice as many. Where a page ends is not computed, since the last one ends at 2^64.
 pub fn fits(n: u64, size: u64, base: u64, frame: u64) -> Shape
     requires { ⌜ (n ≤ 2) × (size ≡ sizeOf n) ⌝ }
     ensures { λ r. ⌜ r ≡ the.fitsOf n size base frame ⌝ }
 {
-    if base % size == 0 {
-        if base < 281474976710656 {
+    let on = std::num::wrapping_add_u64(base, walk::HALF);
+    if on % size == 0 {
+        if on < 2 * walk::HALF {
             if frame % size == 0 {
-                if frame < 4503599627370496 {
+                if frame < entry::FRAME_END {
                     return Shape::Level(n);
                 }
             }
@@ -125,9 +127,9 @@ pub fn shaped(size: u64, base: u64, frame: u64) -> Shape
 
 // Do the frame and the pool share a byte?
 pub fn meets(space: Space, frame: u64, size: u64) -> bool
-    ensures { λ r. ⌜ (frame + size ≤ 2 ^ 52 → space .pages ≤ 2 ^ 32 → r ≡ the.meetsOf space frame size) ⌝ }
+    ensures { λ r. ⌜ (frame + size ≤ frameEnd → space .pages ≤ 2 ^ 32 → r ≡ the.meetsOf space frame size) ⌝ }
 {
-    if 1099511627776 < space.first {
+    if word::PAGE_COUNT < space.first {
         return false;
     }
     if 4294967296 < space.pages {

@@ -3,6 +3,7 @@ use Prim.Native.Nat.{ℕ, _+_, _^_, _<_, _≤_}
 use mathlib.Core.Bool.{Bool, cond, _&&_}
 use mathlib.Core.List.{List, []}
 use lib.Dec.{leb}
+use Rattle.word.specs.Memory.{pageCount}
 use Rattle.word.specs.Runs.{amongOf, amongWrites}
 use Rattle.word.specs.Writes.{Write}
 use Rattle.word.specs.declared.Cell.{Cell}
@@ -31,6 +32,6 @@ takesOf sp b n = soundOf (sp .pages) b && leb (b .free + b .aside + n + bookPage
 
 -- the numbers of a pool that lies in a window
 pub record Counted (sp : Space) : Type 0 where
-  pub low : sp .first < 2 ^ 40
+  pub low : sp .first < pageCount
   pub small : sp .pages ≤ 2 ^ 32
   pub enough : bookPages (sp .pages) ≤ sp .pages

@@ -59,7 +59,7 @@ pub fn in_pool(space: Space, p: u64) -> bool
     if space.pages < book_of(space.pages) + 2 {
         return among(space, p);
     }
-    if 1099511627776 - space.pages < space.first {
+    if word::PAGE_COUNT - space.pages < space.first {
         return among(space, p);
     }
     lies(space, p)

@@ -19,8 +19,8 @@ use crate::spot;
 pub fn put(mem: &mut [u8], left: &mut u64, space: Space, k: u64, w: u64)
     ensures { λ _. ⌜ Wrote (space .origin) (to.put space k w ∷ []) (now (left .entry)) (now (left .exit)) (now (mem .entry)) (now (mem .exit)) ⌝ }
 {
-    if 1099511627776 <= space.first {
-        word::write(mem, left, space.origin, 1099511627776, k % 512, w);
+    if word::PAGE_COUNT <= space.first {
+        word::write(mem, left, space.origin, word::PAGE_COUNT, k % 512, w);
         return;
     }
     word::write(mem, left, space.origin, space.first + k / 512, k % 512, w)

@@ -169,7 +169,7 @@ fn spot(pages: u64, head: u64, k: u64) -> u64
 fn named(mem: &[u8], space: Space, k: u64) -> Listed
     ensures { λ r. ⌜ r ≡ the.namedOf (holds (now (mem .entry)) (space .origin)) (memory (now (mem .entry)) (space .origin)) space k ⌝ }
 {
-    if 1099511627776 <= space.first {
+    if word::PAGE_COUNT <= space.first {
         return Listed::Bad;
     }
     let c = word::read(mem, space.origin, space.first + k / 512, k % 512);

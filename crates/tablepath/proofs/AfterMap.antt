@@ -1,6 +1,6 @@
 -- AFTER MAP. Once its writes have reached memory the address means the page, and a walk that begins then finds it. What goes on from a cache may find
 -- nothing still, and nothing else; after a shootdown that begins then it finds the page too. Statements: specs/Shown.antt.
-use Prim.Native.Nat.{ℕ, _+_, _%_, _<_, _≤_}
+use Prim.Native.Nat.{ℕ, _+_, _*_, _%_, _<_, _≤_}
 use mathlib.Core.Bool.{Bool}
 use mathlib.Core.List.{List, [], _∷_, _++_}
 use mathlib.Core.Logic.{_⊎_, inl, inr}
@@ -9,9 +9,10 @@ use native.Mathlib.Omega.{arith}
 use Rattle.word.specs.Writes as word
 use Rattle.walk.specs.Walk.{baseOf}
 use Rattle.walk.specs.declared.Found.{Found}
-use Rattle.walk.specs.declared.Found.the-variants.{Page, Nothing, Outside}
+use Rattle.walk.specs.declared.Found.the-variants.{Page, Nothing, Outside, NoAddress}
 use Rattle.world.specs.Events.{Event, after, All}
 use Rattle.world.proofs.Events.{after-append, among-all, all-map, all-both, all-append, all-last}
+use Rattle.walk.proofs.Ranges.{no-address-only}
 use Rattle.world.specs.Reports.{now}
 use Rattle.world.proofs.Reports.{last-ends}
 use Rattle.tables.specs.Roles.{Role}
@@ -128,14 +129,15 @@ module _ (h : ℕ → Bool) (sp : Space) where
       moment y (inl q) k = go (a .call) (subst IsPage (q va) k) (s .did va)
       moment y (inr q) k = inl (subst IsPage (q va) k)
 
-  -- an address that means no page means nothing
-  nothing-else : (x : ℕ → ℕ) (va : ℕ) → IsBuilt h sp x → ¬ IsPage (means h sp x va) → means h sp x va ≡ Nothing
+  -- an address that means no page means nothing; and what means nothing once is an address
+  nothing-else : (x y : ℕ → ℕ) (va : ℕ) → IsBuilt h sp x → means h sp y va ≡ Nothing → ¬ IsPage (means h sp x va) → means h sp x va ≡ Nothing
   unfolding IsPage
-  nothing-else x va b none = go (means h sp x va) refl none
+  nothing-else x y va b once none = go (means h sp x va) refl none
     where
       go : (o : Found) → means h sp x va ≡ o → ¬ IsPage o → o ≡ Nothing
       go Nothing e k = refl
       go Outside e k = absurd (never-outside (b .1) va e)
+      go NoAddress e k = let z : _≡_ {A = ℕ} 0 1 = cc (once, no-address-only h y (4096 * sp .root) va .1 (no-address-only h x (4096 * sp .root) va .0 e)) in absurd (omega arith)
       go (Page base size frame r) e k = absurd (k tt)
 
   -- the page, or nothing yet
@@ -148,7 +150,7 @@ module _ (h : ℕ → Bool) (sp : Space) where
   around-map n m role bs cs a w u r t q va k before behind =
       subst (λ l. All m l (PageOrNothing q va)) (sym (wrote-append h sp bs (a ∷ cs)))
       (all-append (wrote h sp bs) (wrote h sp (a ∷ cs)) m (PageOrNothing q va)
-      (all-map (wrote h sp bs) m _ _ (λ x y. inl (nothing-else x va (y .0) (λ z. elim (y .1 z) [ inl c ↦ unfold IsPage in subst IsPage (turns .0) c | inr c ↦ before c ])))
+      (all-map (wrote h sp bs) m _ _ (λ x y. inl (nothing-else x next va (y .0) (turns .0) (λ z. elim (y .1 z) [ inl c ↦ unfold IsPage in subst IsPage (turns .0) c | inr c ↦ before c ])))
       (all-both (wrote h sp bs) m (IsBuilt h sp) _ (ran .built) (run-lasts h sp n _ _ (page-stays n va) m role bs w u (runs-front h sp bs (a ∷ cs) m r) (upto-front n bs (a ∷ cs) t)))) rest)
     where
       ran : Ran h sp n m bs

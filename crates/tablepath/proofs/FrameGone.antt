@@ -11,7 +11,7 @@ use Rattle.word.specs.Writes as word
 use Rattle.entry.specs.declared.Rights.{Rights}
 use Rattle.walk.specs.Walk.{baseOf}
 use Rattle.walk.specs.declared.Found.{Found}
-use Rattle.walk.specs.declared.Found.the-variants.{Page, Nothing, Outside}
+use Rattle.walk.specs.declared.Found.the-variants.{Page, Nothing, Outside, NoAddress}
 use Rattle.walk.proofs.Ranges.{page-covers}
 use Rattle.world.specs.Events.{Event, after, All}
 use Rattle.world.proofs.Events.{after-append, all-map, all-both, all-append, all-last, among-all}
@@ -23,12 +23,14 @@ use Rattle.tables.proofs.Overlap.{aligned-base}
 use Rattle.tables.specs.Clearing.{eventsOf}
 use Rattle.tables.proofs.Clearing.{events-after}
 use Rattle.pool.specs.Book.{bookOf, ticketOf}
+use Rattle.pool.specs.Booked.{settingOf}
 use Rattle.pool.specs.declared.Space.{Space}
 use Rattle.plan.specs.Unmap as unmap
 use Rattle.plan.specs.declared.unmaps.Removing.{Removing}
 use Rattle.plan.specs.declared.unmaps.Removing.the-variants as removing
 use Rattle.effect.specs.Whole.{Whole}
 use Rattle.effect.proofs.UnmapDone.{unmapped}
+use Rattle.effect.proofs.Searching.{nowhere}
 use Rattle.effect.proofs.Exactly.{unmap-exactly}
 use Rattle.tablepath.specs.Answers.{unmapWrites}
 use Rattle.tablepath.specs.Calls.{means, Call, Within, callWrites, Saw, Act, actWrites, wrote, Runs, UpTo, Reached}
@@ -50,8 +52,7 @@ module _ (h : ℕ → Bool) (sp : Space) where
       → (va size frame : ℕ) (r : Rights) → ¬ (means h sp (word.after m (unmap.didOf sp b x)) va ≡ Page b size frame r)
   unfolding unmap.didOf word.after
   unmap-clears m role w b (removing.Refused y) e va size frame r k =
-      let x = unmap-exactly w b in
-      x .refused .0 (rw (x .only y e) at e) (record { address = va; size = size; frame = frame; rights = r; means = k })
+      nowhere (settingOf h sp) m b y (unmap-exactly w b .refused y .0 e) (record { address = va; size = size; frame = frame; rights = r; means = k })
   unmap-clears m role w b (removing.Go g) e va size frame r k =
       let d = unmapped w b g e in
       let far : ¬ Near (g .spot .way .level) b va = λ n. let z : _≡_ {A = ℕ} 0 1 = cc (d .changed .turns .in-range va n) in omega arith in
@@ -194,8 +195,10 @@ module _ (h : ℕ → Bool) (sp : Space) where
         elim (k base size frame r refl) [ inl u ↦ inl (omega arith) | inr u ↦ inr (omega arith) ]
     but-avoids Nothing (Page base' size' frame' r') e k b z g q i = let x : _≡_ {A = ℕ} 0 1 = cc in absurd (omega arith)
     but-avoids Outside (Page base' size' frame' r') e k b z g q i = let x : _≡_ {A = ℕ} 0 1 = cc in absurd (omega arith)
+    but-avoids NoAddress (Page base' size' frame' r') e k b z g q i = let x : _≡_ {A = ℕ} 0 1 = cc in absurd (omega arith)
     but-avoids o Nothing e k b z g q i = let x : _≡_ {A = ℕ} 0 1 = cc in absurd (omega arith)
     but-avoids o Outside e k b z g q i = let x : _≡_ {A = ℕ} 0 1 = cc in absurd (omega arith)
+    but-avoids o NoAddress e k b z g q i = let x : _≡_ {A = ℕ} 0 1 = cc in absurd (omega arith)
 
     gone-now : (N : Night) → Honest h sp untoldKept N → Complete h sp N
         → ((b : ℕ) → ¬ Mapped h sp f s (MappedAt h sp f s (dawn N)) (covered N) b) → ((b : ℕ) → ¬ Some (Maps h sp f s b) (uncovered N))

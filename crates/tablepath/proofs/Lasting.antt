@@ -8,11 +8,11 @@ use mathlib.Core.Path.{_≡_, refl, sym, ap, _∙_, subst}
 use native.Mathlib.Omega.{arith}
 use Rattle.entry.specs.declared.Rights.{Rights}
 use Rattle.walk.specs.declared.Found.{Found}
-use Rattle.walk.specs.declared.Found.the-variants.{Page, Nothing, Outside}
+use Rattle.walk.specs.declared.Found.the-variants.{Page, Nothing, Outside, NoAddress}
 use Rattle.world.specs.Events.{after, All}
 use Rattle.world.proofs.Events.{after-append, all-first, all-map, all-append}
+use Rattle.tables.specs.Walks.{SamePrefix}
 use Rattle.tables.specs.Roles.{Role}
-use Rattle.tables.specs.Near.{Near}
 use Rattle.tables.specs.Way.{Comes}
 use Rattle.pool.specs.Book.{bookOf, ticketOf}
 use Rattle.pool.specs.Booked.{settingOf}
@@ -73,6 +73,7 @@ module _ (h : ℕ → Bool) (sp : Space) where
       no-page (Page base size frame r) page e = let z : _≡_ {A = ℕ} 0 1 = unfold butRights in cc in omega arith
       no-page Nothing page e = unfold IsPage in page
       no-page Outside page e = unfold IsPage in page
+      no-page NoAddress page e = unfold IsPage in page
 
   -- THE PAGE THAT AN ADDRESS HAS, it has on, or a call touched it.
   module _ (kind : Found → Found) (H : Call → (ℕ → ℕ) → ℕ → Type 0) (tracks : Tracks kind H) where
@@ -104,7 +105,7 @@ module _ (h : ℕ → Bool) (sp : Space) where
   pub way-lasts : (n va j t : ℕ) → Lasts n (λ x. Comes (settingOf h sp) x va j t) (λ a. Beneath h sp (a .call) (a .saw) j va)
   way-lasts n va j t m role w u a saw within = all-map (actWrites h sp a) m _ _ (λ y f c. f va j t c) (act-ways h sp n m role w u a saw within)
 
-  pub some-beneath : (cs : List Act) (j va : ℕ) → Some (λ a. Beneath h sp (a .call) (a .saw) j va) cs → (vb : ℕ) × Hits h sp (Unmaps h sp) cs vb × Near j va vb
+  pub some-beneath : (cs : List Act) (j va : ℕ) → Some (λ a. Beneath h sp (a .call) (a .saw) j va) cs → (vb : ℕ) × Hits h sp (Unmaps h sp) cs vb × SamePrefix j va vb
   unfolding Some
   some-beneath [] j va s = absurd s
   some-beneath (a ∷ cs) j va (inl b) = (b .0, inl (b .1), b .2)

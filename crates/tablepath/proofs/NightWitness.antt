@@ -1,7 +1,7 @@
 -- A WITNESS of honest and complete nights, with tables in it: of any five pages a pool is made, a page is mapped, which takes three tables, and
 -- unmapped, which sets them aside; a shootdown tells its addresses, and the ticket is reported.
-use Prim.Native.Nat.{ℕ, _%_, _<_}
-use mathlib.Core.Bool.{Bool}
+use Prim.Native.Nat.{ℕ, _%_, _<_, _*_}
+use mathlib.Core.Bool.{Bool, true}
 use mathlib.Core.List.{List, [], _∷_, _++_, append-nil}
 use mathlib.Core.Logic.{inl, inr}
 use mathlib.Core.Path.{_≡_, refl, sym, ap, _∙_, subst}
@@ -13,8 +13,9 @@ use Rattle.word.specs.Writes.{Write}
 use Rattle.word.specs.Writes as word
 use Rattle.entry.specs.Entry.{sizeOf, everything}
 use Rattle.entry.specs.declared.Entry.the-variants.{Table}
-use Rattle.walk.specs.Walk.{baseOf}
+use Rattle.walk.specs.Walk.{canonical, baseOf}
 use Rattle.walk.specs.declared.Found.the-variants as found
+use Rattle.walk.proofs.Ranges.{page-covers}
 use Rattle.world.specs.Events.{Event, write, happen, after}
 use Rattle.world.specs.Reports.{fromNow, eachLonger, now, last, underway, oldest, Caches}
 use Rattle.tables.specs.Walks.{At}
@@ -51,7 +52,7 @@ use Rattle.tablepath.proofs.Says.{unmap-says}
 use Rattle.tablepath.proofs.Nights.{exact-complete}
 use Rattle.tablepath.proofs.FrameGone.{frame-gone}
 use Rattle.tablepath.specs.Witness.{five, page}
-use Rattle.tablepath.proofs.Witness.{nothing-yet, goes, five-pages, start}
+use Rattle.tablepath.proofs.Witness.{nothing-yet, goes, five-pages, start, none-mapped}
 use Rattle.tablepath.specs.NightWitness.{arrive, act, calm, window, contents, mapped, gone, shot, reported}
 
 -- A call whose writes reach memory at once ------------------------------------------------------------------------------------------------
@@ -135,8 +136,8 @@ module _ (s : List ℕ) (e : length s ≡ 20480) where
   long = cc same-page
 
   -- so that nothing is mapped
-  nothing₂ : (va : ℕ) → meaning (settingOf (window s) five) m₂ va ≡ found.Nothing
-  nothing₂ va = go (decLt va 4096)
+  nothing₂ : (va : ℕ) → canonical va ≡ true → meaning (settingOf (window s) five) m₂ va ≡ found.Nothing
+  nothing₂ va a = go (decLt va 4096)
     where
       level : ℕ
       level = removes .0 .spot .way .level
@@ -151,7 +152,7 @@ module _ (s : List ℕ) (e : length s ≡ 20480) where
       go (yes u) = removed .changed .turns .in-range va (near-range level 0 va .1 (omega (arith, base), omega (arith, base, size-is)))
       go (no u) =
           removed .changed .turns .elsewhere va (λ n. let r = near-range level 0 va .0 n in omega (arith, base, size-is, r .1))
-          ∙ mapped-outside (start s e) page (goes s e .0) (goes s e .2) va (λ a b. omega arith) ∙ nothing-yet (start s e) va
+          ∙ mapped-outside (start s e) page (goes s e .0) (goes s e .2) va (λ x y. omega arith) ∙ nothing-yet (start s e) va a
 
   -- and the three tables are set aside
   aside₂ : (j : ℕ) → j < 3 → (k : ℕ) × Numbered m₂ five (pageAt (contents s) five j) k
@@ -169,7 +170,8 @@ module _ (s : List ℕ) (e : length s ≡ 20480) where
           let p = comes-parent b is (c .1) in
           let up = b .up (pageAt (contents s) five j) (was .0) (was .1) (was .2) is in
           let x = table-mapped b (removed .whole .sound .filled) (p .0) (subst (λ i. entryAt m₂ (was .0) (was .1) i ≡ Table (pageAt (contents s) five j) everything) (sym (p .2)) (up .2)) in
-          let z : _≡_ {A = ℕ} 0 1 = cc (nothing₂ (x .address), x .means) in
+          let a = page-covers (window s) m₂ (4096 * five .root) (x .address) (x .start) (x .long) (x .frame) (x .rights) (x .means) .address in
+          let z : _≡_ {A = ℕ} 0 1 = cc (nothing₂ (x .address) a, x .means) in
           omega arith
 
   -- The night ---------------------------------------------------------------------------------------------------------------------------------
@@ -262,7 +264,7 @@ module _ (s : List ℕ) (e : length s ≡ 20480) where
           ∙ ap (λ l. front (l ++ (lately (gone s) ∷ []))) none-due ∙ made
 
       go : Mapped (window s) five 1048576 4096 (MappedAt (window s) five 1048576 4096 (contents s)) acts b → ⊥
-      go (inl (inl at-first, other), last) = let z : _≡_ {A = ℕ} 0 1 = cc (nothing-yet (start s e) (at-first .address), at-first .meant) in omega arith
+      go (inl (inl at-first, other), last) = none-mapped (start s e) (at-first .address) _ _ _ _ (at-first .meant)
       go (inl (inr by-map, other), last) =
           let same : calls.map page ≡ calls.map (by-map .asked) = by-map .is-map in
           let base : 0 ≡ b = cc (same, by-map .at-base) in

@@ -1,7 +1,7 @@
 -- THE WHOLE NIGHT: whatever a walk ends with or a cache gives, at any moment of a night of calls, shootdowns and reports, is what its address
 -- meant at some moment since the shootdown began that was the last to tell it; and where each one tells all that it has to, since the last.
 -- Statements: specs/Shown.antt.
-use Prim.Native.Nat.{ℕ, _+_, _*_}
+use Prim.Native.Nat.{ℕ, _*_}
 use mathlib.Core.Bool.{Bool}
 use mathlib.Core.List.{List, [], _∷_, _++_, append-nil}
 use mathlib.Core.Logic.{_⊎_, inl, inr}
@@ -13,11 +13,10 @@ use Rattle.world.specs.Events.{Event, write, mark, store, happen, Among, All}
 use Rattle.world.proofs.Events.{among-map, all-last}
 use Rattle.world.specs.Marks.{writes}
 use Rattle.world.specs.Walker.{Reads}
-use Rattle.tables.specs.Walks.{At}
+use Rattle.tables.specs.Walks.{At, SamePrefix}
 use Rattle.tables.proofs.Walks.{one-space-meaning, laws-of}
 use Rattle.world.specs.Reports.{fromNow, now, last, next, Caches, NoMore, Held, Keeps, OnWay, Untold, Tells, Fresh, Enough}
 use Rattle.world.proofs.Reports.{last-ends, fresh, reaches-none, half-on, as-if-all, flushed, no-more-held}
-use Rattle.tables.specs.Near.{Near}
 use Rattle.tables.specs.Discipline.{walkerOf}
 use Rattle.pool.specs.Book.{bookOf, ticketOf}
 use Rattle.pool.specs.Booked.{settingOf}
@@ -171,7 +170,7 @@ module _ (h : ℕ → Bool) (sp : Space) where
 
     pub upper-holds : UpperHolds h sp N
     unfolding Among
-    upper-holds empty va p held half none = elim later [ inl b ↦ b | inr c ↦ absurd (none (c .0) (c .2) (c .1)) ]
+    upper-holds empty va p held half none = elim later [ inl b ↦ b | inr c ↦ absurd (none (c .0) (c .2 .above) (c .1)) ]
       where
         f : Facts h sp N
         f = night-facts
@@ -182,7 +181,7 @@ module _ (h : ℕ → Bool) (sp : Space) where
         since : Later h sp (last (history N)) (fromNow (now (history N))) (uncovered N)
         since = record { before = lastSince N; since-is = sym (append-nil (lastSince N)); began-is = sym (last-ends (history N)); all-wrote = all }
 
-        later : OnWay (walkerOf (settingOf h sp)) (fromNow (now (history N))) va p ⊎ ((vb : ℕ) × Hits h sp (Unmaps h sp) (uncovered N) vb × Near (p .levels) va vb)
+        later : OnWay (walkerOf (settingOf h sp)) (fromNow (now (history N))) va p ⊎ ((vb : ℕ) × Hits h sp (Unmaps h sp) (uncovered N) vb × SamePrefix (p .levels) va vb)
         later = half-later h sp (last (history N)) (fromNow (now (history N))) (uncovered N) [] since (f .role) (f .whole)
             (subst (λ l. Reached h sp (ticketOf (bookOf (lastBegan N) sp)) (lastBegan N) l (lastSince N)) (sym (append-nil (uncovered N))) (f .reached .0)) (last-built h sp N f)
             (unfold All in subst (IsBuilt h sp) (last-ends (history N)) (all-last (lastSince N) (lastBegan N) (IsBuilt h sp) (last-built h sp N f))) va p half (half-was-on va p held half)

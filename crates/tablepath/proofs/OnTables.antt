@@ -1,21 +1,18 @@
 -- Half-done walks in tables that we built: a place of a walk on its way is a table that the walk comes to, with all rights; and the other way
 -- round.
-use Prim.Native.Nat.{ℕ, suc, _*_, _^_, _<_, _≤_}
+use Prim.Native.Nat.{ℕ, suc}
 use mathlib.Core.Bool.{Bool, true, false, cond}
 use mathlib.Core.Path.{_≡_, refl, sym, ap, _∙_, subst}
-use native.Mathlib.Decide.{decLt}
 use native.Mathlib.Omega.{arith}
-use borrow.Author.Tests.{lt-ltb, le-ltb}
 use Rattle.entry.specs.Entry.{tableOf, both, everything}
 use Rattle.entry.specs.declared.Rights.{Rights}
 use Rattle.entry.specs.declared.Entry.{Entry}
 use Rattle.entry.specs.declared.Entry.the-variants.{Nothing, Page, Table}
-use Rattle.walk.specs.Walk.{indexOf, entered, stepOf, start}
+use Rattle.walk.specs.Walk.{canonical, indexOf, entered, stepOf, start}
 use Rattle.walk.specs.Reads.{Way, begins, goes}
 use Rattle.walk.specs.declared.Found.the-variants as found
 use Rattle.walk.specs.declared.Place.{Place}
 use Rattle.walk.specs.declared.Place.the-variants.{Going, Ended}
-use Rattle.walk.proofs.Digits.{index-lt}
 use Rattle.world.specs.Walker.{On, here}
 use Rattle.world.proofs.Ways.{on-step}
 use Rattle.tables.specs.Walks.{At, stepAt}
@@ -32,16 +29,11 @@ module _ {σ : Setting} {m : ℕ → ℕ} {role : ℕ → Role} (b : Built σ m 
   -- on a way all rights are granted
   way-everything : {va n : ℕ} {p : Place} (t : ℕ) (r : Rights) → Way (λ x. Unit {0}) (σ .window) m (σ .cr3) va n p → p ≡ Going t r → r ≡ everything
   unfolding start stepOf entered
-  way-everything {va} t r begins e = go (decLt va (2 ^ 48))
+  way-everything {va} t r begins e = go (canonical va) e
     where
-      go : Dec (va < 2 ^ 48) → r ≡ everything
-      go (yes u) =
-          let f : Going (tableOf (σ .cr3)) everything ≡ Going t r = rw (lt-ltb va (2 ^ 48) u) at e in
-          cc
-      go (no u) =
-          let high : 2 ^ 48 ≤ va = omega arith in
-          let f : Ended found.Nothing ≡ Going t r = rw (le-ltb va (2 ^ 48) high) at e in
-          let z : _≡_ {A = ℕ} 0 1 = cc in absurd (omega arith)
+      go : (x : Bool) → cond x (Going (tableOf (σ .cr3)) everything) (Ended found.NoAddress) ≡ Going t r → r ≡ everything
+      go true f = cc
+      go false f = let z : _≡_ {A = ℕ} 0 1 = cc in absurd (omega arith)
   way-everything {va} t r (goes {n = n} {p = q} w k) e = by q e (λ s g f. (way-comes (λ x. Unit {0}) s g w f, way-everything s g w f))
     where
       through : (s : ℕ) (g : Rights) → Comes σ m va (suc n) s → g ≡ everything → (x : Bool) (y : Entry) → entryAt m n s (indexOf n va) ≡ y
@@ -65,7 +57,7 @@ module _ {σ : Setting} {m : ℕ → ℕ} {role : ℕ → Role} (b : Built σ m 
   pub comes-on : {va n t : ℕ} → Comes σ m va n t → On (walkerOf σ) m va (record { levels = n; place = Going t everything }) (walkerOf σ .start va)
   unfolding start stepAt stepOf entered
   comes-on {va} {n} {t} (begin e f u) =
-      subst (λ (q : At). On (walkerOf σ) m va q (walkerOf σ .start va)) (rw (lt-ltb va (2 ^ 48) u, e, f)) here
+      subst (λ (q : At). On (walkerOf σ) m va q (walkerOf σ .start va)) (rw (u, e, f)) here
   comes-on {va} {n} {t} (onto s g c e) =
       subst (λ (q : At). On (walkerOf σ) m va q (walkerOf σ .start va)) step (on-step (walkerOf σ) (laws-of σ) m va _ _ (comes-on c))
     where

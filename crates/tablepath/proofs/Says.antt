@@ -11,14 +11,13 @@ use Rattle.word.proofs.Set.{set-at, set-other}
 use Rattle.entry.specs.Kept.{Kept}
 use Rattle.entry.specs.declared.Rights.{Rights}
 use Rattle.walk.specs.Walk.{baseOf}
-use Rattle.walk.proofs.Ranges.{page-covers}
-use Rattle.walk.specs.declared.Found.the-variants as found
+use Rattle.walk.proofs.Ranges.{no-address-only, page-covers}
 use Rattle.tables.specs.Roles.{Role}
 use Rattle.tables.proofs.Edits.{turns-inside, turns-outside}
 use Rattle.tables.proofs.Meaning.{never-outside, never-in-pool}
 use Rattle.tables.proofs.Overlap.{aligned-base}
 use Rattle.pool.specs.Book.{bookOf, ticketOf, ticketAfter, dueOf}
-use Rattle.pool.specs.Booked.{settingOf, released}
+use Rattle.pool.specs.Booked.{released}
 use Rattle.pool.specs.declared.Space.{Space}
 use Rattle.pool.specs.declared.Book.{Book}
 use Rattle.pool.specs.declared.Due.{Due}
@@ -195,10 +194,8 @@ module _ {h : ℕ → Bool} {sp : Space} {m : ℕ → ℕ} {role : ℕ → Role}
       let x = unmap-exactly w va in
       record {
         refused = λ y. (
-          λ e. let f = unmap-refused-by (bookOf m sp) y (unmap.decideOf h m sp va) e in
-              let same = x .only y f in
-              (same, x .refused .0 (f ∙ ap removing.Refused same)),
-          λ n. rw (x .refused .1 (n .1), n .0),
+          λ e. x .refused y .0 (unmap-refused-by (bookOf m sp) y (unmap.decideOf h m sp va) e),
+          λ n. rw (x .refused y .1 n),
         );
         done = (
           λ g. let f = unmap-done-by (bookOf m sp) (g .0) (unmap.decideOf h m sp va) (g .1) in x .succeeds .0 (f .0, f .1),
@@ -242,10 +239,8 @@ module _ {h : ℕ → Bool} {sp : Space} {m : ℕ → ℕ} {role : ℕ → Role}
       let x = protect-exactly w va rights in
       record {
         refused = λ y. (
-          λ e. let f = protect-refused-by y (protect.decideOf h m sp va rights) e in
-              let same = x .only y f in
-              (same, x .refused .0 (f ∙ ap changing.Refused same)),
-          λ n. rw (x .refused .1 (n .1), n .0),
+          λ e. x .refused y .0 (protect-refused-by y (protect.decideOf h m sp va rights) e),
+          λ n. rw (x .refused y .1 n),
         );
         done = (
           λ g. let f = protect-done-by (g .0) (protect.decideOf h m sp va rights) (g .1) in x .succeeds .0 (f .0, f .1),
@@ -259,6 +254,7 @@ module _ {h : ℕ → Bool} {sp : Space} {m : ℕ → ℕ} {role : ℕ → Role}
 -- WHAT LOOK-UP ANSWERS
 pub look-up-says : {h : ℕ → Bool} {sp : Space} {m : ℕ → ℕ} {role : ℕ → Role} → Whole h sp m role → (va : ℕ) → LookUpSays h sp va (means h sp m va)
 look-up-says {h} {sp} {m} w va = record {
+  no-address = no-address-only h m (4096 * sp .root) va;
   never = never-outside (w .sound .built) va;
   page = λ base size frame rights e.
       let c = page-covers h m (4096 * sp .root) va base size frame rights e in

@@ -1,6 +1,6 @@
 -- WHEN A SHOOTDOWN IS DONE: the last period is built and keeps the discipline, a half-done walk that is left was on its way since the shootdown began,
 -- and so was a page that an address has had, or the address is told.
-use Prim.Native.Nat.{ℕ, _+_, _*_}
+use Prim.Native.Nat.{ℕ, _*_}
 use mathlib.Core.Bool.{Bool}
 use mathlib.Core.List.{List, _∷_, _++_}
 use mathlib.Core.Logic.{_⊎_, inl, inr}
@@ -15,11 +15,10 @@ use Rattle.walk.specs.declared.Place.the-variants.{Going, Ended}
 use Rattle.world.specs.Events.{Among, All}
 use Rattle.world.proofs.Events.{among-map, among-with, among-all}
 use Rattle.world.specs.Walker.{meaning, On}
-use Rattle.tables.specs.Walks.{At}
+use Rattle.tables.specs.Walks.{At, SamePrefix}
 use Rattle.tables.proofs.Walks.{one-space-meaning}
 use Rattle.world.specs.Reports.{Period, last, next, Caches, SafeIn, OnWay, Untold, Meant, MeantLike}
 use Rattle.tables.specs.Roles.{Role, Apart}
-use Rattle.tables.specs.Near.{Near}
 use Rattle.tables.specs.Way.{Comes}
 use Rattle.tables.proofs.Meaning.{never-in-pool}
 use Rattle.tables.specs.Discipline.{walkerOf}
@@ -69,11 +68,11 @@ module _ (h : ℕ → Bool) (sp : Space) where
   pub half-later : (q r : Period ℕ) (cs ds : List Act) (k : Later h sp q r cs) (role : ℕ → Role) (w : Whole h sp (q .began) role)
       (reached : Reached h sp (ticketOf (bookOf (q .began) sp)) (q .began) (cs ++ ds) (q .since)) → All (q .began) (q .since) (IsBuilt h sp) → All (r .began) (r .since) (IsBuilt h sp)
       → (va : ℕ) (p : At) → IsHalf (p .place) → OnWay (walkerOf (settingOf h sp)) q va p
-      → OnWay (walkerOf (settingOf h sp)) r va p ⊎ ((vb : ℕ) × Hits h sp (Unmaps h sp) cs vb × Near (p .levels) va vb)
+      → OnWay (walkerOf (settingOf h sp)) r va p ⊎ ((vb : ℕ) × Hits h sp (Unmaps h sp) cs vb × SamePrefix (p .levels) va vb)
   unfolding IsHalf
   half-later q r cs ds k role w reached built built' va p half a = go (p .place) refl half
     where
-      go : (y : Place) → p .place ≡ y → IsHalf y → OnWay (walkerOf (settingOf h sp)) r va p ⊎ ((vb : ℕ) × Hits h sp (Unmaps h sp) cs vb × Near (p .levels) va vb)
+      go : (y : Place) → p .place ≡ y → IsHalf y → OnWay (walkerOf (settingOf h sp)) r va p ⊎ ((vb : ℕ) × Hits h sp (Unmaps h sp) cs vb × SamePrefix (p .levels) va vb)
       go (Ended x) i j = absurd j
       go (Going t g) i j = elim way [
         | inl b ↦ inl (among-map (r .since) (r .began) _ _
@@ -110,7 +109,7 @@ module _ (h : ℕ → Bool) (sp : Space) where
     unfolding history last
     half-told told va p half untold a = elim later [ inl b ↦ b | inr c ↦ absurd (untold (c .0) (told-of (Unmaps h sp) told (c .0) (c .1)) (refl, c .2)) ]
       where
-        later : OnWay (walkerOf (settingOf h sp)) (next (history N)) va p ⊎ ((vb : ℕ) × Hits h sp (Unmaps h sp) D vb × Near (p .levels) va vb)
+        later : OnWay (walkerOf (settingOf h sp)) (next (history N)) va p ⊎ ((vb : ℕ) × Hits h sp (Unmaps h sp) D vb × SamePrefix (p .levels) va vb)
         later = half-later (last (history N)) (next (history N)) D (joined Ds ++ lately N) (coming h sp N D Ds e f .later) (f .role) (f .whole) (split-calls h sp N T D Ds e f .0)
             (last-built N f) (last-built (done N T) (facts-done h sp N T D Ds e f)) va p half a
 

@@ -1,6 +1,6 @@
 -- WHAT EACH CALL DOES TO THE WAYS OF WALKS: a table that a walk comes to at some moment of a call, it comes to at the call's end; or the call
 -- unmapped a page, and set the table aside, whose addresses share the walk's prefix.
-use Prim.Native.Nat.{ℕ, _+_, _≤_}
+use Prim.Native.Nat.{ℕ, _<_, _≤_}
 use mathlib.Core.Bool.{Bool}
 use mathlib.Core.List.{List, []}
 use mathlib.Core.Logic.{_⊎_, inl, inr, _≢_}
@@ -17,9 +17,9 @@ use Rattle.walk.proofs.Digits.{size-pos}
 use Rattle.world.specs.Events.{Event, after, All}
 use Rattle.world.proofs.Events.{all-map, all-both, all-last}
 use Rattle.tables.specs.Roles.{Setting, Role, left, Built, entryAt}
-use Rattle.tables.specs.Near.{Near}
 use Rattle.tables.specs.Way.{Comes, begin, onto}
-use Rattle.tables.proofs.Way.{comes-left, onto-role, one-way}
+use Rattle.tables.proofs.Way.{comes-left, onto-role, one-way, comes-top, comes-address}
+use Rattle.tables.specs.Walks.{SamePrefix}
 use Rattle.entry.proofs.Fields.{last-no-table}
 use Rattle.tables.specs.Clearing.{eventsOf}
 use Rattle.tables.proofs.Clearing.{events-after, spare-untouched}
@@ -72,10 +72,15 @@ module _ {σ : Setting} {x y : ℕ → ℕ} {rx ry : ℕ → Role} (bx : Built �
       let up = by' .up t n s (indexOf n va) (same ∙ was) in
       onto s everything (table-stays c (λ z. omega (arith, up .0))) (up .2)
 
+-- a table that is none in other tables of the same root lies below the root
+cut-low : {σ : Setting} {x y : ℕ → ℕ} {role : ℕ → Role} {va n p : ℕ} → Built σ y role → Comes σ x va n p → left (role p) ≡ 0 → n < 4
+cut-low {role = role} b (begin e f u) z = absurd (omega (arith, ap left (ap role f ∙ b .starts), z))
+cut-low b (onto t g c e) z = omega (arith, comes-top c)
+
 module _ (h : ℕ → Bool) (sp : Space) where
   -- the call unmapped an address that shares the prefix of va, as far as a walk uses it that has n steps left
   abbrev pub Beneath : Call → (ℕ → ℕ) → ℕ → ℕ → Type 0
-  Beneath c s n va = (vb : ℕ) × Unmaps h sp c s vb × Near n va vb
+  Beneath c s n va = (vb : ℕ) × Unmaps h sp c s vb × SamePrefix n va vb
 
   -- what the walks of the moment x come to, they come to in y
   abbrev pub WaysTo : Call → (s y x : ℕ → ℕ) → Type 0
@@ -121,7 +126,14 @@ module _ (h : ℕ → Bool) (sp : Space) where
             go (inr e) = inl (stays (λ z. live (ap left e ∙ z)))
             go (inl e) = elim (fate p (λ z. live (ap left e ∙ z))) [
               | inl f ↦ inl (stays (λ z. live (ap left e ∙ sym (ap left f) ∙ z)))
-              | inr f ↦ inr (va, f .1, one-way (w .sound .built) (table-stays (t .built) (w .sound .built) to-begin come (λ z. live (ap left e ∙ z))) (f .2) .1)
+              | inr f ↦ inr (
+                va,
+                f .1,
+                record {
+                  above = one-way (w .sound .built) (table-stays (t .built) (w .sound .built) to-begin come (λ z. live (ap left e ∙ z))) (f .2) .1 (cut-low (k .turns .built) come (f .0));
+                  alike = comes-address come ∙ sym (comes-address (f .2));
+                },
+              )
             ]
 
     map-ways : (q : Asked) (x : Placed) → map.decideOf h m sp q ≡ x → All m (eventsOf (map.didOf sp x)) (WaysTo (calls.map q) m (after m (eventsOf (map.didOf sp x))))

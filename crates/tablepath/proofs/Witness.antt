@@ -1,7 +1,7 @@
 -- A WITNESS of what holds between operations, with tables in it: any five pages, made a pool, and a page of 4 KiB mapped at 0. Map makes three
 -- tables of the three free pages; the space is whole, and the address means the page.
-use Prim.Native.Nat.{ℕ, zero, suc, _+_, _<_, _≤_}
-use mathlib.Core.Bool.{Bool, true, false, cond, _&&_}
+use Prim.Native.Nat.{ℕ, zero, suc, _+_, _<_, _≤_, _-_, _*_, _%_, _^_}
+use mathlib.Core.Bool.{Bool, true, false, cond, _&&_, false≢true}
 use mathlib.Core.List.{List}
 use mathlib.Core.Logic.{_⊎_, inl, inr, _≢_}
 use mathlib.Core.Path.{_≡_, refl, subst}
@@ -15,14 +15,16 @@ use Rattle.entry.specs.Entry.{sizeOf, everything}
 use Rattle.entry.specs.declared.Rights.{Rights}
 use Rattle.entry.specs.declared.Entry.the-variants.{Page}
 use Rattle.entry.proofs.Parts.{root-no-page}
-use Rattle.walk.specs.Walk.{indexOf}
+use Rattle.walk.specs.Walk.{canonical, indexOf}
 use Rattle.walk.specs.declared.Found.{Found}
 use Rattle.walk.specs.declared.Found.the-variants as found
 use Rattle.tables.specs.Roles.{Role, foreign, free, aside, book, root, table, left, entryAt}
 use Rattle.tables.specs.Way.{Comes}
 use Rattle.tables.proofs.Way.{comes-left}
 use Rattle.tables.specs.Meaning.{meaning}
-use Rattle.tables.proofs.Meaning.{Ends, too-high, at-nothing, at-page, ends}
+use Rattle.tables.proofs.Meaning.{Ends, at-nothing, at-page, ends, no-walk}
+use Rattle.walk.proofs.Addresses.{in-lower, in-upper}
+use Rattle.walk.proofs.Ranges.{page-covers}
 use Rattle.pool.specs.Layout.{bookPages}
 use Rattle.pool.specs.Book.{bookOf, pageAt, roomOf}
 use Rattle.pool.specs.Booked.{settingOf, newRole, tablesOf, howMany}
@@ -36,13 +38,14 @@ use Rattle.plan.specs.declared.Reason.{Reason}
 use Rattle.plan.specs.declared.maps.Mapping.{Mapping}
 use Rattle.effect.specs.Whole.{Whole}
 use Rattle.effect.specs.MapDone.{MapDone}
-use Rattle.effect.specs.MapRefused.{Cause, no-size, base-unaligned, frame-unaligned, base-high, frame-high, frame-in-pool, mapped, no-room}
+use Rattle.effect.specs.MapRefused.{Cause, no-size, base-unaligned, frame-unaligned, base-range, frame-high, frame-in-pool, mapped, no-room}
 use Rattle.effect.proofs.Wholes.{owned}
 use Rattle.effect.proofs.MapDone.{mapped-inside}
 use Rattle.effect.proofs.MapRefused.{map-succeeds}
 use Rattle.tablepath.specs.Looks.{WholeBytes}
 use Rattle.tablepath.proofs.Wholes.{create-whole}
-use Rattle.tablepath.specs.Witness.{five, page, bytes}
+use Rattle.tablepath.proofs.Means.{map-means}
+use Rattle.tablepath.specs.Witness.{five, pageOn, page, bytes, Mappable}
 
 -- a new pool has no role but these
 new-roles : (sp : Space) (p : ℕ) (P : Role → Type 0) → P foreign → P book → P root → P free → P (newRole sp p)
@@ -74,16 +77,19 @@ module _ {h : ℕ → Bool} {sp : Space} {m : ℕ → ℕ} (w : Whole h sp m (ne
       go (inl e) = absurd (omega (arith, comes-left (w .sound .built) c))
       go (inr e) = omega (arith, comes-left (w .sound .built) c)
 
-  pub nothing-yet : (va : ℕ) → meaning (settingOf h sp) m va ≡ found.Nothing
-  nothing-yet va = go (meaning (settingOf h sp) m va) (ends (w .sound .built) va)
+  pub nothing-yet : (va : ℕ) → canonical va ≡ true → meaning (settingOf h sp) m va ≡ found.Nothing
+  nothing-yet va a = go (meaning (settingOf h sp) m va) (ends (w .sound .built) va)
     where
       go : (o : Found) → Ends (settingOf h sp) m va o → o ≡ found.Nothing
-      go o (too-high u) = refl
+      go o (no-walk u) = absurd (false≢true (sym u ∙ a))
       go o (at-nothing l q c k) = refl
       go o (at-page l q a r c k) = absurd (root-no-page _ a r (subst (λ x. entryAt m x q (indexOf x va) ≡ Page a r) (only-root c) k))
 
-  none-mapped : (va b s f : ℕ) (g : Rights) → meaning (settingOf h sp) m va ≡ found.Page b s f g → ⊥
-  none-mapped va b s f g e = let z : _≡_ {A = ℕ} 0 1 = cc (nothing-yet va) in omega arith
+  pub none-mapped : (va b s f : ℕ) (g : Rights) → meaning (settingOf h sp) m va ≡ found.Page b s f g → ⊥
+  none-mapped va b s f g e =
+      let a = page-covers h m (4096 * sp .root) va b s f g e .address in
+      let z : _≡_ {A = ℕ} 0 1 = cc (nothing-yet va a) in
+      omega arith
 
   none-aside : bookOf m sp .aside ≡ 0
   none-aside = go (ℕ-discrete (bookOf m sp .aside) 0)
@@ -120,19 +126,34 @@ module _ (s : List ℕ) (e : length s ≡ 20480) where
       no-tables : tablesOf five (newRole five) + 1 + bookPages 5 ≡ 2
       no-tables = unfold newRole howMany in rw one-page
 
-  fine : (r : Reason) → ¬ Cause (holds (bytes s) 0) five (memory (bytes s) 0) page r
-  fine r (no-size n) = n 0 (omega arith) (unfold sizeOf in refl)
-  fine r (base-unaligned l o n) = n refl
-  fine r (frame-unaligned l o b n) = n refl
-  fine r (base-high l o b c n) = omega arith
-  fine r (frame-high l o b c u n) = omega arith
-  fine r (frame-in-pool l g k) = omega (arith, k .1)
-  fine r (mapped l g c k) = none-mapped start (k .address) (k .start) (k .long) (k .frame) (k .rights) (k .means)
-  fine r (no-room l n g c x k u) = omega (arith, enough, only-root start (k .comes))
+  fine : (va : ℕ) → va % 4096 ≡ 0 → canonical va ≡ true → (r : Reason) → ¬ Cause (holds (bytes s) 0) five (memory (bytes s) 0) (pageOn va) r
+  fine va a h r (no-size n) = n 0 (omega arith) (unfold sizeOf in refl)
+  fine va a h r (base-unaligned l o n) = n a
+  fine va a h r (frame-unaligned l o b n) = n refl
+  fine va a h r (base-range l o b c n) = false≢true (sym n ∙ h)
+  fine va a h r (frame-high l o b c u n) = omega arith
+  fine va a h r (frame-in-pool l g k) = omega (arith, k .1)
+  fine va a h r (mapped l g c k) = none-mapped start (k .address) (k .start) (k .long) (k .frame) (k .rights) (k .means)
+  fine va a h r (no-room l n g c x k u) = omega (arith, enough, only-root start (k .comes))
+
+  -- a page can be mapped at every aligned address
+  mappable : (va : ℕ) → va % 4096 ≡ 0 → canonical va ≡ true → Mappable s va
+  mappable va a h =
+      let says = map-means (bytes s) five (pageOn va) .says (newRole five) start in
+      let done = says .done .1 (fine va a h) in
+      (done, says .made (done .0) (done .1) .turned .inside va (omega arith, omega arith))
+
+  -- THE EDGES: the last page of the lower half, the first of the upper one, and the last of all, which ends at 2 ^ 64
+  pub edge-pages : Mappable s (2 ^ 47 - 4096) × Mappable s (2 ^ 64 - 2 ^ 47) × Mappable s (2 ^ 64 - 4096)
+  edge-pages = (
+    mappable (2 ^ 47 - 4096) refl (in-lower (2 ^ 47 - 4096) (omega arith)),
+    mappable (2 ^ 64 - 2 ^ 47) refl (in-upper (2 ^ 64 - 2 ^ 47) (omega arith) (omega arith)),
+    mappable (2 ^ 64 - 4096) refl (in-upper (2 ^ 64 - 4096) (omega arith) (omega arith)),
+  )
 
   -- map goes on
   pub goes : (p : Mapping) × (map.decideOf (holds (bytes s) 0) (memory (bytes s) 0) five page ≡ map.Go p) × MapDone (holds (bytes s) 0) five (memory (bytes s) 0) (newRole five) page p
-  goes = map-succeeds start page .1 fine
+  goes = map-succeeds start page .1 (fine 0 refl (in-lower 0 (omega arith)))
 
   -- THE WITNESS: the space is whole; the three free pages are tables; address 0 means the page
   pub five-pages : (role : ℕ → Role) × Whole (holds (bytes s) 0) five (after (memory (bytes s) 0) (map.writesOf five (goes .0))) role

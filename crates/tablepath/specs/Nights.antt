@@ -8,7 +8,7 @@ use Rattle.entry.specs.Entry.{everything}
 use Rattle.entry.specs.declared.Entry.{Entry}
 use Rattle.entry.specs.declared.Rights.{Rights}
 use Rattle.walk.specs.declared.Found.{Found}
-use Rattle.walk.specs.declared.Found.the-variants.{Page, Nothing, Outside}
+use Rattle.walk.specs.declared.Found.the-variants.{Page, Nothing, Outside, NoAddress}
 use Rattle.walk.specs.declared.Place.{Place}
 use Rattle.walk.specs.declared.Place.the-variants.{Going, Ended}
 use Rattle.world.specs.Events.{Event, write, mark, store, after}
@@ -112,6 +112,7 @@ unfoldable pub IsPage : Found → Type 0
 IsPage (Page base size frame rights) = Unit {0}
 IsPage Nothing = ⊥
 IsPage Outside = ⊥
+IsPage NoAddress = ⊥
 
 unfoldable pub IsHalf : Place → Type 0
 IsHalf (Going t r) = Unit {0}
@@ -126,6 +127,7 @@ unfoldable pub butRights : Found → Found
 butRights (Page base size frame rights) = Page base size frame everything
 butRights Nothing = Nothing
 butRights Outside = Outside
+butRights NoAddress = NoAddress
 
 -- A SHOOTDOWN DROPS what serves a told address: its translation, and the upper entries that lead to it (AMD's INVLPG where EFER.TCE is set).
 abbrev pub untoldKept : Caches At Found

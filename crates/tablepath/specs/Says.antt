@@ -1,6 +1,6 @@
 -- WHAT THE ANSWERS SAY: of map, unmap, protect, told and look-up in a space that is whole, over any memory; of create and of every refusal, for any bytes.
 use Prim.Native.Nat.{ℕ, _+_, _%_, _^_, _<_, _≤_}
-use mathlib.Core.Bool.{Bool, false}
+use mathlib.Core.Bool.{Bool, true, false}
 use mathlib.Core.List.{List}
 use mathlib.Core.Logic.{_↔_, _⊎_, _≢_}
 use mathlib.Core.Path.{_≡_}
@@ -9,6 +9,7 @@ use Rattle.word.specs.Memory.{holds}
 use Rattle.word.specs.Writes.{carried}
 use Rattle.entry.specs.Kept.{Kept}
 use Rattle.entry.specs.declared.Rights.{Rights}
+use Rattle.walk.specs.Walk.{canonical}
 use Rattle.walk.specs.declared.Found.{Found}
 use Rattle.walk.specs.declared.Found.the-variants as found
 use Rattle.tables.specs.Roles.{Role, free, aside, Apart}
@@ -25,12 +26,11 @@ use Rattle.pool.specs.declared.Created.the-variants as created
 use Rattle.pool.specs.declared.Reason.{Reason as PoolReason}
 use Rattle.pool.specs.declared.Reason.the-variants.{OriginUnaligned, LengthUnaligned, PoolLarge, PoolSmall, PoolOutside}
 use Rattle.plan.specs.declared.Reason.{Reason}
-use Rattle.plan.specs.declared.Reason.the-variants.{NothingStarts}
 use Rattle.plan.specs.declared.maps.Asked.{Asked}
 use Rattle.effect.specs.Whole.{Whole}
 use Rattle.effect.specs.MapDone.{Fitted, Misses}
 use Rattle.effect.specs.MapRefused.{Cause}
-use Rattle.effect.specs.StartsAt.{StartsAt}
+use Rattle.effect.specs.StartsAt.{StartsAt, NotThere}
 use Rattle.effect.specs.UnmapDone.{SetAside}
 use Rattle.tablepath.specs.declared.Mapped.{Mapped}
 use Rattle.tablepath.specs.declared.Mapped.the-variants as mapped
@@ -110,8 +110,8 @@ module _ (h h' : ℕ → Bool) (sp : Space) (m m' : ℕ → ℕ) (role : ℕ →
     pub releases : (toldAnswer h' m' sp (g .ticket) ≡ told.Released (bookOf m' sp .aside)) ↔ (g .ticket ≤ 2 ^ 62)
 
   pub record UnmapSays (va : ℕ) (r : Unmapped) : Type 0 where
-    -- it refuses exactly where no page starts, and for no other reason
-    pub refused : (y : Reason) → (r ≡ unmapped.Refused y) ↔ ((y ≡ NothingStarts) × ¬ StartsAt (settingOf h sp) m va)
+    -- it refuses exactly where no page is found: va is no address, or none starts there
+    pub refused : (y : Reason) → (r ≡ unmapped.Refused y) ↔ NotThere (settingOf h sp) m va y
     -- it is done exactly where one starts
     pub done : ((g : Gone) × (r ≡ unmapped.Done g)) ↔ StartsAt (settingOf h sp) m va
     -- and what it answers then is so
@@ -134,8 +134,8 @@ module _ (h h' : ℕ → Bool) (sp : Space) (m m' : ℕ → ℕ) (role : ℕ →
     pub ticket : (g .ticket ≡ ticketOf (bookOf m' sp)) × (g .ticket ≡ ticketOf (bookOf m sp))
 
   pub record ProtectSays (va : ℕ) (rights : Rights) (r : Protected) : Type 0 where
-    -- as unmap: it refuses exactly where no page starts, and for no other reason
-    pub refused : (y : Reason) → (r ≡ protected.Refused y) ↔ ((y ≡ NothingStarts) × ¬ StartsAt (settingOf h sp) m va)
+    -- as unmap: it refuses exactly where no page is found
+    pub refused : (y : Reason) → (r ≡ protected.Refused y) ↔ NotThere (settingOf h sp) m va y
     -- it is done exactly where one starts
     pub done : ((g : Same) × (r ≡ protected.Done g)) ↔ StartsAt (settingOf h sp) m va
     -- and what it answers then is so
@@ -176,8 +176,10 @@ module _ (h h' : ℕ → Bool) (sp : Space) (m m' : ℕ → ℕ) (role : ℕ →
 
 -- Look-up and state ----------------------------------------------------------------------------------------------------------------
 
--- LOOK-UP ANSWERED o for the address va
+-- LOOK-UP ANSWERED o for the number va
 pub record LookUpSays (h : ℕ → Bool) (sp : Space) (va : ℕ) (o : Found) : Type 0 where
+  -- it says that va is no address exactly where it is none
+  pub no-address : (o ≡ found.NoAddress) ↔ (canonical va ≡ false)
   -- the way does not leave the window
   pub never : o ≢ found.Outside
   -- the address lies in the page, and the frame apart from the pool
@@ -221,7 +223,7 @@ pub record CreateSays (s s' : List ℕ) (origin first pages : ℕ) (r : Created)
   -- then the space is whole, with every page behind the root free
   pub whole : (p : ℕ) → r ≡ created.Root p → WholeBytes s' (newSpace origin first pages) (newRole (newSpace origin first pages))
   -- and no address is mapped
-  pub empty : (p : ℕ) → r ≡ created.Root p → (va : ℕ) → lookUp s' (newSpace origin first pages) va ≡ found.Nothing
+  pub empty : (p : ℕ) → r ≡ created.Root p → (va : ℕ) → canonical va ≡ true → lookUp s' (newSpace origin first pages) va ≡ found.Nothing
 
 -- what told answers besides pages released: refusals, all three
 abbrev pub Declined : Report → Type 0

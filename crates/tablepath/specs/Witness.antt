@@ -1,23 +1,34 @@
--- What the witnesses speak of: any five pages, made a pool, and a page of 4 KiB that is mapped at 0.
+-- What the witnesses speak of: any five pages, made a pool, and a page of 4 KiB that is mapped there.
 use Prim.Native.Nat.{ℕ}
 use mathlib.Core.List.{List}
-use lib.ListN.{length}
-use Rattle.word.specs.Memory.{holds}
+use mathlib.Core.Path.{_≡_}
 use Rattle.word.specs.Writes.{carried}
 use Rattle.entry.specs.Entry.{everything}
-use Rattle.pool.specs.Create.{newSpace, createWrites}
+use Rattle.walk.specs.declared.Found.the-variants.{Page}
+use Rattle.pool.specs.Create.{newSpace}
 use Rattle.pool.specs.declared.Space.{Space}
 use Rattle.plan.specs.declared.maps.Asked.{Asked}
+use Rattle.tablepath.specs.declared.Mapped.the-variants.{Done}
+use Rattle.tablepath.specs.Answers.{createWrites, mapAnswer}
+use Rattle.tablepath.specs.Looks.{inWindow, lookUp, withPage}
 
 -- Five pages at address 0 ----------------------------------------------------------------------------------------------------------------
 
 abbrev pub five : Space
 five = newSpace 0 0 5
 
--- a page of 4 KiB at address 0, of the frame at 1 MiB
+-- a page of 4 KiB at an address, of the frame at 1 MiB
+abbrev pub pageOn : ℕ → Asked
+pageOn va = record { base = va; frame = 1048576; size = 4096; rights = everything }
+
 abbrev pub page : Asked
-page = record { base = 0; frame = 1048576; size = 4096; rights = everything }
+page = pageOn 0
 
 -- the bytes that create leaves
 abbrev pub bytes : List ℕ → List ℕ
-bytes s = carried s 0 (createWrites (length s) (holds s 0) 0 0 5)
+bytes s = carried s 0 (createWrites s 0 0 5)
+
+-- map of such a page is done, and then look-up answers it
+abbrev pub Mappable : List ℕ → ℕ → Type 0
+Mappable s va = ((k : ℕ) × (inWindow (bytes s) 0 mapAnswer five (pageOn va) ≡ Done k))
+    × (lookUp (withPage (bytes s) five (pageOn va)) five va ≡ Page va 4096 1048576 everything)

@@ -1,18 +1,16 @@
 -- What an address means in tables that we built, from any place on its way. Every walk ends at an entry of the pool that says nothing or
 -- says a page: none leaves the window, and none ends in the pool.
-use Prim.Native.Nat.{ℕ, zero, suc, _^_, _≤_, _<_}
-use mathlib.Core.Bool.{true}
+use Prim.Native.Nat.{ℕ, zero, suc}
+use mathlib.Core.Bool.{Bool, true, false}
 use mathlib.Core.Logic.{_≢_}
 use mathlib.Core.Path.{_≡_, refl, ap, _∙_, subst}
-use native.Mathlib.Decide.{decLt}
 use native.Mathlib.Omega.{arith}
-use borrow.Author.Tests.{lt-ltb, le-ltb}
 use Rattle.entry.specs.Entry.{sizeOf, tableOf, both, everything}
 use Rattle.entry.specs.declared.Rights.{Rights}
 use Rattle.entry.specs.declared.Entry.{Entry}
 use Rattle.entry.specs.declared.Entry.the-variants.{Nothing, Page, Table}
 use Rattle.entry.proofs.Fields.{last-no-table}
-use Rattle.walk.specs.Walk.{indexOf, baseOf, entered, stepOf, run, start, foundOf, walk}
+use Rattle.walk.specs.Walk.{canonical, indexOf, baseOf, entered, stepOf, run, start, foundOf, walk}
 use Rattle.walk.specs.declared.Found.{Found}
 use Rattle.walk.specs.declared.Found.the-variants as found
 use Rattle.walk.proofs.Digits.{index-lt}
@@ -49,21 +47,21 @@ unfolding run foundOf
 onward-bare σ m va zero t r h e = refl
 onward-bare σ m va (suc l) t r h e = onward-nothing σ m va l t r h (e l (indexOf l va) refl (index-lt l va))
 
--- Addresses from 2 ^ 48 on
-pub high-nothing : (σ : Setting) (m : ℕ → ℕ) (va : ℕ) → 2 ^ 48 ≤ va → meaning σ m va ≡ found.Nothing
+-- A number that is no address
+pub no-address : (σ : Setting) (m : ℕ → ℕ) (va : ℕ) → canonical va ≡ false → meaning σ m va ≡ found.NoAddress
 unfolding walk start foundOf
-high-nothing σ m va u = rw (le-ltb va (2 ^ 48) u) (ap foundOf (run-ended (σ .window) m 4 va found.Nothing))
+no-address σ m va u = rw u (ap foundOf (run-ended (σ .window) m 4 va found.NoAddress))
 
-pub low-onward : (σ : Setting) (m : ℕ → ℕ) (va : ℕ) → va < 2 ^ 48 → meaning σ m va ≡ onward σ m va 4 (tableOf (σ .cr3)) everything
+pub address-onward : (σ : Setting) (m : ℕ → ℕ) (va : ℕ) → canonical va ≡ true → meaning σ m va ≡ onward σ m va 4 (tableOf (σ .cr3)) everything
 unfolding walk start
-low-onward σ m va u = rw (lt-ltb va (2 ^ 48) u)
+address-onward σ m va u = rw u
 
-pub comes-root : {σ : Setting} {m : ℕ → ℕ} {va : ℕ} → va < 2 ^ 48 → Comes σ m va 4 (tableOf (σ .cr3))
+pub comes-root : {σ : Setting} {m : ℕ → ℕ} {va : ℕ} → canonical va ≡ true → Comes σ m va 4 (tableOf (σ .cr3))
 comes-root u = begin refl refl u
 
--- How the walk of va ends: it is no address; or it comes to an entry that says nothing, or to one that says a page.
+-- How the walk of va ends: there is none, where va is no address; or it comes to an entry that says nothing, or to one that says a page.
 pub data Ends (σ : Setting) (m : ℕ → ℕ) (va : ℕ) : Found → Type 0 where
-  too-high : 2 ^ 48 ≤ va → Ends σ m va found.Nothing
+  no-walk : canonical va ≡ false → Ends σ m va found.NoAddress
   at-nothing : (l q : ℕ) → Comes σ m va (suc l) q → entryAt m l q (indexOf l va) ≡ Nothing → Ends σ m va found.Nothing
   at-page : (l q f : ℕ) (g : Rights) → Comes σ m va (suc l) q → entryAt m l q (indexOf l va) ≡ Page f g
       → Ends σ m va (found.Page (baseOf l va) (sizeOf l) f g)
@@ -80,7 +78,7 @@ module _ {σ : Setting} {m : ℕ → ℕ} {role : ℕ → Role} (b : Built σ m 
 
   -- THE MEANING FROM ANY PLACE on the way: the tables above grant everything.
   pub comes-mean : {va n p : ℕ} → Comes σ m va n p → meaning σ m va ≡ onward σ m va n p everything
-  comes-mean {va} (begin e f u) = low-onward σ m va u ∙ rw (e, f)
+  comes-mean {va} (begin e f u) = address-onward σ m va u ∙ rw (e, f)
   comes-mean {va} {n} {p} (onto t g c e) =
       comes-mean c ∙ onward-table σ m va n t everything (live-home (comes-left b c) .held) p g e
       ∙ ap (onward σ m va n p) (ap (both everything) (onto-role b c e .1) ∙ everything-both everything)
@@ -103,19 +101,20 @@ module _ {σ : Setting} {m : ℕ → ℕ} {role : ℕ → Role} (b : Built σ m 
       go (Page f g) e ih = rw (mean-page c e) (at-page n p f g c e)
       go (Table s g) e ih = ih s (onto p g c e)
 
-  -- EVERY WALK ENDS, at an entry that says nothing or a page.
+  -- EVERY WALK ENDS, at an entry that says nothing or a page; and what is no address has none.
   pub ends : (va : ℕ) → Ends σ m va (meaning σ m va)
-  ends va = elim (decLt va (2 ^ 48)) [
-    | yes u ↦ ends-from 4 (tableOf (σ .cr3)) (comes-root u)
-    | no u ↦ let high : 2 ^ 48 ≤ va = omega arith in rw (high-nothing σ m va high) (too-high high)
-  ]
+  ends va = go (canonical va) refl
+    where
+      go : (b : Bool) → canonical va ≡ b → Ends σ m va (meaning σ m va)
+      go true u = ends-from 4 (tableOf (σ .cr3)) (comes-root u)
+      go false u = rw (no-address σ m va u) (no-walk u)
 
   -- NO WALK LEAVES THE WINDOW.
   pub never-outside : (va : ℕ) → meaning σ m va ≢ found.Outside
   never-outside va = go (meaning σ m va) (ends va)
     where
       go : (o : Found) → Ends σ m va o → o ≢ found.Outside
-      go o (too-high u) e = let z : _≡_ {A = ℕ} 0 1 = cc in omega arith
+      go o (no-walk u) e = let z : _≡_ {A = ℕ} 0 1 = cc in omega arith
       go o (at-nothing l q c w) e = let z : _≡_ {A = ℕ} 0 1 = cc in omega arith
       go o (at-page l q f g c w) e = let z : _≡_ {A = ℕ} 0 1 = cc in omega arith
 
@@ -124,7 +123,7 @@ module _ {σ : Setting} {m : ℕ → ℕ} {role : ℕ → Role} (b : Built σ m 
   never-in-pool va base size f g = go (meaning σ m va) (ends va)
     where
       go : (o : Found) → Ends σ m va o → o ≡ found.Page base size f g → Apart σ f size
-      go o (too-high u) e = let z : _≡_ {A = ℕ} 0 1 = cc in absurd (omega arith)
+      go o (no-walk u) e = let z : _≡_ {A = ℕ} 0 1 = cc in absurd (omega arith)
       go o (at-nothing l q c w) e = let z : _≡_ {A = ℕ} 0 1 = cc in absurd (omega arith)
       go o (at-page l q a r c w) e =
           let same-size : sizeOf l ≡ size = cc in

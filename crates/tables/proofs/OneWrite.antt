@@ -1,10 +1,10 @@
 -- One write of a word at an entry that walks read: which entries show it, which walks still come to their tables, and which addresses keep
 -- their meaning. The edits of Edits.antt are instances.
-use Prim.Native.Nat.{ℕ, zero, suc, _^_, _≤_, _<_}
-use mathlib.Core.Bool.{true}
+use Prim.Native.Nat.{ℕ, zero, suc, _<_}
+use mathlib.Core.Bool.{Bool, true, false}
 use mathlib.Core.Logic.{_≢_}
 use mathlib.Core.Path.{_≡_, refl, sym, ap, ap₂, _∙_, subst, subst₂}
-use native.Mathlib.Decide.{ℕ-discrete, decLt}
+use native.Mathlib.Decide.{ℕ-discrete}
 use native.Mathlib.Omega.{arith}
 use Rattle.word.specs.Memory.{set, at}
 use Rattle.word.proofs.Set.{set-at, set-same, set-other}
@@ -13,16 +13,15 @@ use Rattle.entry.specs.Clean.{Clean}
 use Rattle.entry.specs.declared.Rights.{Rights}
 use Rattle.entry.specs.declared.Entry.{Entry}
 use Rattle.entry.specs.declared.Entry.the-variants.{Nothing, Page, Table}
-use Rattle.walk.specs.Walk.{indexOf, run}
+use Rattle.walk.specs.Walk.{canonical, indexOf, run}
 use Rattle.walk.specs.declared.Found.the-variants as found
-use Rattle.walk.proofs.Digits.{index-lt, agree-down, same-index}
+use Rattle.walk.proofs.Digits.{index-lt, same-index}
 use Rattle.tables.specs.Roles.{Setting, Role, left, Live, entryAt, Apart, Built, Holds, Filled, FilledBut, Plain}
 use Rattle.tables.specs.Near.{Near}
-use Rattle.tables.proofs.Near.{near-up}
 use Rattle.tables.specs.Way.{Comes, begin, onto}
-use Rattle.tables.proofs.Way.{comes-near, comes-left, one-way}
+use Rattle.tables.proofs.Way.{comes-entry, comes-left, one-entry}
 use Rattle.tables.specs.Meaning.{meaning, onward}
-use Rattle.tables.proofs.Meaning.{onward-nothing, onward-page, onward-table, high-nothing, low-onward, comes-root, live-home}
+use Rattle.tables.proofs.Meaning.{onward-nothing, onward-page, onward-table, no-address, address-onward, comes-root, live-home}
 use Rattle.tables.specs.OneWrite.{Spot}
 
 -- the entry that a walk comes to
@@ -152,20 +151,21 @@ module _ {σ : Setting} {m : ℕ → ℕ} {role : ℕ → Role} (b : Built σ m 
   -- AN ADDRESS KEEPS ITS MEANING, unless its walk comes to the entry, and then if it finds from there on what it found.
   pub meaning-stays : (va : ℕ) → ((g : Rights) → Comes σ m va (suc l) q → indexOf l va ≡ i → onward σ (set m (at q i) v) va (suc l) q g ≡ onward σ m va (suc l) q g)
       → meaning σ (set m (at q i) v) va ≡ meaning σ m va
-  meaning-stays va h = elim (decLt va (2 ^ 48)) [
-    | yes u ↦ low-onward σ (set m (at q i) v) va u ∙ stays 4 (tableOf (σ .cr3)) everything (comes-root u) h ∙ sym (low-onward σ m va u)
-    | no u ↦ let high : 2 ^ 48 ≤ va = omega arith in high-nothing σ (set m (at q i) v) va high ∙ sym (high-nothing σ m va high)
-  ]
+  meaning-stays va h = go (canonical va) refl
+    where
+      go : (b : Bool) → canonical va ≡ b → meaning σ (set m (at q i) v) va ≡ meaning σ m va
+      go true u = address-onward σ (set m (at q i) v) va u ∙ stays 4 (tableOf (σ .cr3)) everything (comes-root u) h ∙ sym (address-onward σ m va u)
+      go false u = no-address σ (set m (at q i) v) va u ∙ sym (no-address σ m va u)
 
   -- an address out of the entry's range
   pub out-of-range : {va : ℕ} (vb : ℕ) → Comes σ m va (suc l) q → indexOf l va ≡ i → ¬ Near l va vb → meaning σ (set m (at q i) v) vb ≡ meaning σ m vb
-  out-of-range {va} vb c e far = meaning-stays vb (λ g d f. absurd (far (agree-down l va vb (one-way b c d .1) (e ∙ sym f))))
+  out-of-range {va} vb c e far = meaning-stays vb (λ g d f. absurd (far (one-entry b c d (e ∙ sym f))))
 
   -- an address in the entry's range comes to what was written
   pub in-the-range : {va : ℕ} (vb : ℕ) → Comes σ m va (suc l) q → indexOf l va ≡ i → Near l va vb
       → Comes σ (set m (at q i) v) vb (suc l) q × (entryAt (set m (at q i) v) l q (indexOf l vb) ≡ says l v)
   in-the-range {va} vb c e near = (
-    comes-kept (omega arith) (comes-near vb (near-up l va vb near) c),
+    comes-kept (omega arith) (comes-entry vb near c),
     ap (says l) (set-at m (at q i) v (at q (indexOf l vb)) (ap (at q) (sym e ∙ same-index l va vb near))),
   )
 

@@ -1,6 +1,7 @@
 -- What the walk of an address finds on its way to a level decides exactly whether some address of that level's range is mapped; and which
 -- page starts at an address.
-use Prim.Native.Nat.{ℕ, zero, suc, _%_, _^_, _≤_, _<_}
+use Prim.Native.Nat.{ℕ, zero, suc, _%_, _≤_, _<_}
+use mathlib.Core.Bool.{true}
 use mathlib.Core.Logic.{_↔_}
 use mathlib.Core.Path.{_≡_, refl, sym, _∙_, subst}
 use native.Mathlib.Decide.{ℕ-discrete}
@@ -11,18 +12,18 @@ use Rattle.entry.specs.declared.Rights.{Rights}
 use Rattle.entry.specs.declared.Entry.{Entry}
 use Rattle.entry.specs.declared.Entry.the-variants.{Nothing, Page, Table}
 use Rattle.entry.proofs.Fields.{last-no-table}
-use Rattle.walk.specs.Walk.{indexOf, baseOf}
+use Rattle.walk.specs.Walk.{canonical, indexOf, baseOf}
 use Rattle.walk.specs.declared.Found.{Found}
 use Rattle.walk.specs.declared.Found.the-variants as found
 use Rattle.walk.proofs.Digits.{agree-up, same-index, size-pos}
 use Rattle.walk.proofs.Ranges.{page-covers}
 use Rattle.tables.specs.Roles.{Setting, Role, table, entryAt, Built, Holds, Filled, Sound}
 use Rattle.tables.specs.Near.{Near}
-use Rattle.tables.proofs.Near.{near-up, near-range, pick, pick-near, pick-index}
+use Rattle.tables.proofs.Near.{near-range, pick, pick-near, pick-index}
 use Rattle.tables.specs.Way.{Comes, onto}
-use Rattle.tables.proofs.Way.{comes-near, comes-left, onto-role}
+use Rattle.tables.proofs.Way.{comes-entry, comes-near, comes-left, onto-role}
 use Rattle.tables.specs.Meaning.{meaning}
-use Rattle.tables.proofs.Meaning.{comes-root, mean-nothing, mean-page, Ends, too-high, at-nothing, at-page, ends}
+use Rattle.tables.proofs.Meaning.{comes-root, mean-nothing, mean-page, Ends, no-walk, at-nothing, at-page, ends}
 use Rattle.tables.specs.Overlap.{MappedIn, Overlaps, Stop, Taken, at-nothing-above, at-page-above, at-table-there}
 
 -- the walk of every address finds one of these
@@ -37,7 +38,7 @@ stop-from {σ} {m} {va} {l} (suc n) p u c = go (entryAt m n p (indexOf n va)) re
         at-table-there p s g (subst (λ k. Comes σ m va (suc k) p) d c) (subst (λ k. entryAt m k p (indexOf k va) ≡ Table s g) d e)
     go (Table s g) e (no d) ih = ih s (omega arith) (onto p g c e)
 
-pub stop : {σ : Setting} {m : ℕ → ℕ} {va : ℕ} (l : ℕ) → va < 2 ^ 48 → l < 4 → Stop σ m va l
+pub stop : {σ : Setting} {m : ℕ → ℕ} {va : ℕ} (l : ℕ) → canonical va ≡ true → l < 4 → Stop σ m va l
 stop {σ} l u k = stop-from 4 (tableOf (σ .cr3)) k (comes-root u)
 
 -- some address near va, from level n up, is mapped
@@ -61,14 +62,14 @@ module _ {σ : Setting} {m : ℕ → ℕ} {role : ℕ → Role} (b : Built σ m 
       → meaning σ m vb ≡ found.Nothing
   nothing-mapped {va} {l} {k} {q} vb u c e near =
       let h = agree-up l k va vb u near in
-      mean-nothing b (comes-near vb (near-up k va vb h) c) (subst (λ i. entryAt m k q i ≡ Nothing) (same-index k va vb h) e)
+      mean-nothing b (comes-entry vb h c) (subst (λ i. entryAt m k q i ≡ Nothing) (same-index k va vb h) e)
 
   -- A PAGE ON THE WAY: every address of the range has it, va among them.
   pub page-mapped : {va l k q f : ℕ} {g : Rights} (vb : ℕ) → l ≤ k → Comes σ m va (suc k) q → entryAt m k q (indexOf k va) ≡ Page f g → Near l va vb
       → meaning σ m vb ≡ found.Page (baseOf k vb) (sizeOf k) f g
   page-mapped {va} {l} {k} {q} {f} {g} vb u c e near =
       let h = agree-up l k va vb u near in
-      mean-page b (comes-near vb (near-up k va vb h) c) (subst (λ i. entryAt m k q i ≡ Page f g) (same-index k va vb h) e)
+      mean-page b (comes-entry vb h c) (subst (λ i. entryAt m k q i ≡ Page f g) (same-index k va vb h) e)
 
   -- A TABLE AT THE LEVEL: some address of the range is mapped, since no table is empty.
   table-near : Filled m role → (n va p r j : ℕ) → Comes σ m va n p → role p ≡ table n r j → MappedNear σ m va n
@@ -85,7 +86,7 @@ module _ {σ : Setting} {m : ℕ → ℕ} {role : ℕ → Role} (b : Built σ m 
       near = pick-near va n (o .0) (o .1)
 
       comes : Comes σ m vb (suc n) p
-      comes = comes-near vb near c
+      comes = comes-near vb (b .low p (suc n) r j h) near c
 
       here : (e : Entry) → entryAt m n p (o .0) ≡ e → entryAt m n p (indexOf n vb) ≡ e
       here e h = subst (λ i. entryAt m n p i ≡ e) (sym (pick-index va n (o .0) (o .1))) h
@@ -164,7 +165,7 @@ pub page-where : {σ : Setting} {m : ℕ → ℕ} {role : ℕ → Role} → Buil
 page-where {σ} {m} b va base size f g = go (meaning σ m va) (ends b va)
   where
     go : (o : Found) → Ends σ m va o → o ≡ found.Page base size f g → (l : ℕ) × PageAt σ m va l f g × (base ≡ baseOf l va) × (size ≡ sizeOf l)
-    go o (too-high u) e = let z : _≡_ {A = ℕ} 0 1 = cc in absurd (omega arith)
+    go o (no-walk u) e = let z : _≡_ {A = ℕ} 0 1 = cc in absurd (omega arith)
     go o (at-nothing l q c w) e = let z : _≡_ {A = ℕ} 0 1 = cc in absurd (omega arith)
     go o (at-page l q x r c w) e =
         let frames : x ≡ f = cc in

@@ -1,18 +1,15 @@
 -- What walks read in tables that we built: entries of tables, and no other words.
-use Prim.Native.Nat.{ℕ, zero, suc, _/_, _^_, _≤_, _<_}
+use Prim.Native.Nat.{ℕ, zero, suc, _/_, _<_}
 use mathlib.Core.Bool.{Bool, true, false, cond}
 use mathlib.Core.Path.{_≡_, refl, ap, _∙_}
-use native.Mathlib.Decide.{decLt}
 use native.Mathlib.Omega.{arith}
-use borrow.Author.Tests.{lt-ltb, le-ltb}
-use lib.Dec.{ltb}
 use Rattle.word.specs.Memory.{at}
 use Rattle.word.proofs.Writes.{page-of}
 use Rattle.entry.specs.Entry.{both, tableOf, everything}
 use Rattle.entry.specs.declared.Rights.{Rights}
 use Rattle.entry.specs.declared.Entry.{Entry}
 use Rattle.entry.specs.declared.Entry.the-variants.{Nothing, Page, Table}
-use Rattle.walk.specs.Walk.{indexOf, entered, stepOf, start}
+use Rattle.walk.specs.Walk.{canonical, indexOf, entered, stepOf, start}
 use Rattle.walk.specs.Reads.{Reads, Way, begins, goes}
 use Rattle.walk.specs.declared.Found.{Found}
 use Rattle.walk.specs.declared.Found.the-variants as found
@@ -55,11 +52,11 @@ reads-tables {σ} {m} b P k va (suc n) t r e = (
 pub walk-reads-tables : {σ : Setting} {m : ℕ → ℕ} {role : ℕ → Role} → Built σ m role → (P : ℕ → Type 0) → ((q l i : ℕ) → Live role q l → i < 512 → P (at q i))
     → (va : ℕ) → Reads P (σ .window) m 4 va (start (σ .cr3) va)
 unfolding start
-walk-reads-tables {σ} {m} b P k va = go (ltb va (2 ^ 48))
+walk-reads-tables {σ} {m} b P k va = go (canonical va)
   where
-    go : (x : Bool) → Reads P (σ .window) m 4 va (cond x (Going (tableOf (σ .cr3)) everything) (Ended found.Nothing))
+    go : (x : Bool) → Reads P (σ .window) m 4 va (cond x (Going (tableOf (σ .cr3)) everything) (Ended found.NoAddress))
     go true = reads-tables b P k va 4 (tableOf (σ .cr3)) everything (ap left (b .starts))
-    go false = reads-ended P (σ .window) m 4 va found.Nothing
+    go false = reads-ended P (σ .window) m 4 va found.NoAddress
 
 -- from a page where nothing says anything a walk reads that page only
 pub reads-bare : (h : ℕ → Bool) (m : ℕ → ℕ) (va n p : ℕ) (r : Rights) → Bare m n p → Reads (λ x. x / 512 ≡ p) h m n va (Going p r)
@@ -73,16 +70,11 @@ reads-bare h m va (suc n) p r e = (
 -- A PLACE OF A WALK is a table that it comes to.
 pub way-comes : {σ : Setting} {m : ℕ → ℕ} {va n : ℕ} {p : Place} (P : ℕ → Type 0) (t : ℕ) (r : Rights) → Way P (σ .window) m (σ .cr3) va n p → p ≡ Going t r → Comes σ m va n t
 unfolding start stepOf entered
-way-comes {σ} {m} {va} P t r begins e = go (decLt va (2 ^ 48))
+way-comes {σ} {m} {va} P t r begins e = go (canonical va) refl e
   where
-    go : Dec (va < 2 ^ 48) → Comes σ m va 4 t
-    go (yes u) =
-        let f : Going (tableOf (σ .cr3)) everything ≡ Going t r = rw (lt-ltb va (2 ^ 48) u) at e in
-        begin {p = t} refl (cc) u
-    go (no u) =
-        let high : 2 ^ 48 ≤ va = omega arith in
-        let f : Ended found.Nothing ≡ Going t r = rw (le-ltb va (2 ^ 48) high) at e in
-        let z : _≡_ {A = ℕ} 0 1 = cc in absurd (omega arith)
+    go : (b : Bool) → canonical va ≡ b → cond b (Going (tableOf (σ .cr3)) everything) (Ended found.NoAddress) ≡ Going t r → Comes σ m va 4 t
+    go true u f = begin {p = t} refl (cc) u
+    go false u f = let z : _≡_ {A = ℕ} 0 1 = cc in absurd (omega arith)
 way-comes {σ} {m} {va} P t r (goes {n = n} {p = q} w k) e = by q e (λ s g f. way-comes P s g w f)
   where
     through : (s : ℕ) (g : Rights) → Comes σ m va (suc n) s → (b : Bool) (x : Entry) → entryAt m n s (indexOf n va) ≡ x

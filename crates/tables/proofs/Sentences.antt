@@ -9,11 +9,12 @@ use Rattle.entry.specs.Entry.{sizeOf, tableOf, everything}
 use Rattle.entry.specs.declared.Rights.{Rights}
 use Rattle.entry.specs.declared.Entry.the-variants.{Nothing, Table}
 use Rattle.walk.specs.Walk.{indexOf}
+use Rattle.walk.proofs.Addresses.{in-lower}
 use Rattle.walk.proofs.Digits.{index-lt}
 use Rattle.tables.specs.Roles.{Setting, Role, foreign, free, aside, book, root, table, left, Live, entryAt, Built, Holds, Filled}
-use Rattle.tables.proofs.Near.{pick, pick-near, pick-index}
+use Rattle.tables.proofs.Near.{pick, pick-near, pick-index, rootPick, root-pick}
 use Rattle.tables.specs.Way.{Comes, begin, onto}
-use Rattle.tables.proofs.Way.{comes-near, comes-left, one-way}
+use Rattle.tables.proofs.Way.{comes-near, comes-left, one-way, comes-top}
 
 module _ {σ : Setting} {m : ℕ → ℕ} {role : ℕ → Role} (b : Built σ m role) where
   -- RESERVED BITS ARE 0: a word of a table that is present, bit 0, is never one at which a walk faults.
@@ -21,7 +22,7 @@ module _ {σ : Setting} {m : ℕ → ℕ} {role : ℕ → Role} (b : Built σ m 
   present-says q l i h u p e = omega (arith, ap (λ w. w % 2) (b .zeros q l i h u e))
 
   -- NO TABLE IS REACHED TWICE. Two walks that come to one table have the same levels left, and came by the same entries.
-  pub reached-once : {va vb n k p : ℕ} → Comes σ m va n p → Comes σ m vb k p → (n ≡ k) × (va / sizeOf n ≡ vb / sizeOf n)
+  pub reached-once : {va vb n k p : ℕ} → Comes σ m va n p → Comes σ m vb k p → (n ≡ k) × (n < 4 → va / sizeOf n ≡ vb / sizeOf n)
   reached-once = one-way b
 
   -- Two entries that name one table are one entry.
@@ -44,9 +45,15 @@ module _ {σ : Setting} {m : ℕ → ℕ} {role : ℕ → Role} (b : Built σ m 
 
   -- a walk from the parent on by entry i
   onto-child : {n p q i : ℕ} → role p ≡ table n q i → (va : ℕ) → Comes σ m va (suc n) q → (vb : ℕ) × Comes σ m vb n p
-  onto-child {n} {p} {q} {i} h va c =
+  onto-child {n} {p} {q} {i} h va (begin e f u) =
       let o = b .up p n q i h in
-      (pick va n i, onto q everything (comes-near (pick va n i) (pick-near va n i (o .1)) c) (subst (λ j. entryAt m n q j ≡ Table p everything) (sym (pick-index va n i (o .1))) (o .2)))
+      let there = root-pick i (o .1) in
+      let level : n ≡ 3 = omega arith in
+      let index : indexOf n (rootPick i) ≡ i = ap (λ l. indexOf l (rootPick i)) level ∙ there .1 in
+      (rootPick i, onto q everything (begin e f (there .0)) (subst (λ j. entryAt m n q j ≡ Table p everything) (sym index) (o .2)))
+  onto-child {n} {p} {q} {i} h va (onto t g c e) =
+      let o = b .up p n q i h in
+      (pick va n i, onto q everything (comes-near (pick va n i) (omega (arith, comes-top c)) (pick-near va n i (o .1)) (onto t g c e)) (subst (λ j. entryAt m n q j ≡ Table p everything) (sym (pick-index va n i (o .1))) (o .2)))
 
   reached-by : (n p q i : ℕ) → role p ≡ table n q i → ((t j : ℕ) → role q ≡ table (suc n) t j → (va : ℕ) × Comes σ m va (suc n) q) → (va : ℕ) × Comes σ m va n p
   reached-by n p q i h above = go (role q) refl
@@ -59,7 +66,7 @@ module _ {σ : Setting} {m : ℕ → ℕ} {role : ℕ → Role} (b : Built σ m 
       go free e = absurd (omega (arith, live, ap left e))
       go aside e = absurd (omega (arith, live, ap left e))
       go book e = absurd (omega (arith, live, ap left e))
-      go root e = onto-child h 0 (begin (omega (arith, live, ap left e)) (b .alone q e) (omega arith))
+      go root e = onto-child h 0 (begin (omega (arith, live, ap left e)) (b .alone q e) (in-lower 0 (omega arith)))
       go (table k t j) e =
           let level : k ≡ suc n = sym (ap left e) ∙ live in
           let a = above t j (e ∙ ap (λ x. table x t j) level) in

@@ -1,7 +1,7 @@
 -- The walker of page tables has a walker's laws, and its meaning is `walk`: what is proved of walkers is proved of walks through page tables.
-use mathlib.Core.Path.{_≡_, refl, _∙_, ap, fun-ext, sym, subst}
+use mathlib.Core.Path.{_≡_, refl, _∙_, ap, fun-ext, subst}
 use mathlib.Core.Bool.{Bool, true, false, cond}
-use Prim.Native.Nat.{ℕ, zero, suc, _^_}
+use Prim.Native.Nat.{ℕ, zero, suc}
 use Rattle.entry.specs.Marks.{Marked}
 use Rattle.entry.proofs.Marks.{marks-say-nothing}
 use Rattle.walk.specs.Walk.{stepOf, run, start, foundOf, walk, entryOf, entered}
@@ -15,34 +15,28 @@ use Rattle.tables.specs.Walks.{stepAt, sayings, walker, oneSpace, readsA
 use Rattle.tables.specs.Roles.{Setting}
 use Rattle.tables.specs.Discipline.{walkerOf}
 use native.Mathlib.Omega.{arith}
-use lib.Dec.{ltb}
-use borrow.Author.Tests.{ltb-true, ltb-false, lt-ltb, le-ltb}
-use Rattle.entry.specs.Entry.{sizeOf, tableOf, says, everything}
+use Rattle.entry.specs.Entry.{tableOf, says, everything}
 use Rattle.entry.specs.declared.Entry.{Entry}
 use Rattle.entry.specs.declared.Entry.the-variants as entry
-use Rattle.walk.specs.declared.Found.the-variants.{Nothing, Outside}
+use Rattle.walk.specs.declared.Found.the-variants.{Outside, NoAddress}
 use Rattle.walk.proofs.Digits.{agree-up, same-index, same-base}
 
 prefix-start : (root va vb : ℕ) → SamePrefix 4 va vb → start root va ≡ start root vb
-unfolding start sizeOf
-prefix-start root va vb e = ap (λ b. cond b (Going (tableOf root) everything) (Ended Nothing)) (go (ltb vb (2 ^ 48)) refl)
-  where
-    go : (b : Bool) → ltb vb (2 ^ 48) ≡ b → ltb va (2 ^ 48) ≡ ltb vb (2 ^ 48)
-    go true f = lt-ltb va (2 ^ 48) (omega (arith, ltb-true vb (2 ^ 48) f)) ∙ sym f
-    go false f = le-ltb va (2 ^ 48) (omega (arith, ltb-false vb (2 ^ 48) f)) ∙ sym f
+unfolding start
+prefix-start root va vb e = ap (λ b. cond b (Going (tableOf root) everything) (Ended NoAddress)) (e .alike)
 
 prefix-step : (h : ℕ → Bool) (m : ℕ → ℕ) (n va vb : ℕ) (p : Place) → SamePrefix n va vb → stepOf h m n va p ≡ stepOf h m n vb p
 unfolding stepOf entered
 prefix-step h m n va vb (Ended f) e = refl
-prefix-step h m n va vb (Going t r) e = ap (λ f. cond (h t) f (Ended Outside)) (rw (same-index n va vb e) (go (says n (m (entryOf n vb t)))))
+prefix-step h m n va vb (Going t r) e = ap (λ f. cond (h t) f (Ended Outside)) (rw (same-index n va vb (e .above)) (go (says n (m (entryOf n vb t)))))
   where
     go : (s : Entry) → entered n va r s ≡ entered n vb r s
     go entry.Nothing = refl
-    go (entry.Page f g) = rw (same-base n va vb e)
+    go (entry.Page f g) = rw (same-base n va vb (e .above))
     go (entry.Table u g) = refl
 
 prefix-up : (n va vb : ℕ) → SamePrefix n va vb → SamePrefix (suc n) va vb
-prefix-up n va vb = agree-up n (suc n) va vb (omega arith)
+prefix-up n va vb e = record { above = agree-up n (suc n) va vb (omega arith) (e .above); alike = e .alike }
 
 -- a step can tell of a word only what it says
 step-local : (h : ℕ → Bool) (m m' : ℕ → ℕ) (va n : ℕ) (p : Place) → ((c : ℕ) → readsAt h va n p ≡ cell c → sayings (m c) ≡ sayings (m' c))
@@ -82,8 +76,8 @@ module _ (h : ℕ → Bool) {Address : Type 0} (rootOf vaOf : Address → ℕ) w
     local = λ m m' a p. step-local h m m' (vaOf a) (p .levels) (p .place);
     falls = λ m a p n. step-falls h m (vaOf a) n (p .levels) (p .place);
     rests = λ m a p. step-rests h m (vaOf a) (p .levels) (p .place);
-    alike-refl = λ n a. (refl, refl);
-    alike-trans = λ n a b c p q. (p .0 ∙ q .0, p .1 ∙ q .1);
+    alike-refl = λ n a. (refl, record { above = refl; alike = refl });
+    alike-trans = λ n a b c p q. (p .0 ∙ q .0, record { above = p .1 .above ∙ q .1 .above; alike = p .1 .alike ∙ q .1 .alike });
     alike-up = λ n a b p. (p .0, prefix-up n (vaOf a) (vaOf b) (p .1));
     alike-start = λ a b p. ap (λ q. record { levels = 4; place = q }) (ap (λ r. start r (vaOf a)) (p .0) ∙ prefix-start (rootOf b) (vaOf a) (vaOf b) (p .1));
     alike-step = λ m a b p n e q. step-alike h m (vaOf a) (vaOf b) n (p .levels) (p .place) e (q .1);

@@ -1,6 +1,6 @@
 -- A WITNESS: a memory and roles that meet the invariant, with a book, a root, tables at every level, pages of the three sizes, a page set
 -- aside and free pages, all at once. It is come to from an empty root by the steps of map and unmap, and what it means is computed.
-use Prim.Native.Nat.{ℕ, _+_, _*_, _^_, _≤_, _<_}
+use Prim.Native.Nat.{ℕ, _-_, _+_, _*_, _^_, _≤_, _<_}
 use mathlib.Core.Bool.{Bool, true, false, cond, _&&_}
 use mathlib.Core.Logic.{inl, inr, _≢_}
 use mathlib.Core.Path.{_≡_, refl, sym, ap, _∙_}
@@ -17,7 +17,8 @@ use Rattle.entry.specs.declared.Entry.the-variants.{Nothing, Page, Table}
 use Rattle.entry.proofs.Fields.{says-absent}
 use Rattle.entry.proofs.Clean.{page-clean}
 use Rattle.entry.proofs.Written.{Fits, table-word-says, page-word-says}
-use Rattle.walk.specs.Walk.{indexOf, baseOf, entered, stepOf, run, start, foundOf, walk}
+use Rattle.walk.specs.Walk.{canonical, indexOf, baseOf, entered, stepOf, run, start, foundOf, walk}
+use Rattle.walk.proofs.Addresses.{in-upper}
 use Rattle.walk.specs.declared.Found.the-variants as found
 use Rattle.tables.specs.Roles.{Setting, Role, foreign, free, aside, book, root, table, Home, Sound, Zero}
 use Rattle.tables.specs.Way.{onto}
@@ -117,13 +118,17 @@ nothing-says l = says-absent l 0 (omega arith)
 table-says : (l p : ℕ) → 0 < l → p < 24 → says l (tableWord p) ≡ Table p everything
 table-says l p u v = table-word-says l p (λ e. omega arith) (omega arith)
 
--- Steps: a page of 4 KiB at indices 1, 2, 3, 4, with three new tables --------------------------------------------------------------
+-- Steps: a page of 4 KiB at indices 257, 2, 3, 4, with three new tables ------------------------------------------------------------
+
+-- where the root's entry 257 begins, in the upper half
+abbrev top : ℕ
+top = 2 ^ 64 - 2 ^ 47 + 2 ^ 39
 
 abbrev small : ℕ
-small = 1 * 2 ^ 39 + 2 * 2 ^ 30 + 3 * 2 ^ 21 + 4 * 2 ^ 12
+small = top + 2 * 2 ^ 30 + 3 * 2 ^ 21 + 4 * 2 ^ 12
 
 abbrev m₁ : ℕ → ℕ
-m₁ = set memory₀ (at 17 1) (tableWord 18)
+m₁ = set memory₀ (at 17 257) (tableWord 18)
 
 abbrev m₂ : ℕ → ℕ
 m₂ = set m₁ (at 18 2) (tableWord 19)
@@ -135,7 +140,7 @@ abbrev m₄ : ℕ → ℕ
 m₄ = set m₃ (at 20 4) (pageWord 0 409600 everything)
 
 abbrev r₁ : ℕ → Role
-r₁ = set roles₀ 18 (table 3 17 1)
+r₁ = set roles₀ 18 (table 3 17 257)
 
 abbrev r₂ : ℕ → Role
 r₂ = set r₁ 19 (table 2 18 2)
@@ -146,11 +151,11 @@ r₃ = set r₂ 20 (table 1 19 3)
 with-small : Sound setting m₄ r₃
 unfolding set ℕ-discrete indexOf sizeOf tableOf roles₀
 with-small =
-    let d₀ = down-start {va = small} at-first (comes-root (omega arith)) in
+    let d₀ = down-start {va = small} at-first (comes-root (in-upper small (omega arith) (omega arith))) in
     let d₁ = down-link (tableWord 18) 18 d₀ (nothing-says 3) (table-says 3 18 (omega arith) (omega arith)) refl (λ j u. refl) in
-    let z₁ = zero-still memory₀ 17 1 (tableWord 18) 19 (omega arith) (omega arith) (λ j u. refl) in
+    let z₁ = zero-still memory₀ 17 257 (tableWord 18) 19 (omega arith) (omega arith) (λ j u. refl) in
     let d₂ = down-link (tableWord 19) 19 d₁ (nothing-says 2) (table-says 2 19 (omega arith) (omega arith)) refl z₁ in
-    let z₂ = zero-still m₁ 18 2 (tableWord 19) 20 (omega arith) (omega arith) (zero-still memory₀ 17 1 (tableWord 18) 20 (omega arith) (omega arith) (λ j u. refl)) in
+    let z₂ = zero-still m₁ 18 2 (tableWord 19) 20 (omega arith) (omega arith) (zero-still memory₀ 17 257 (tableWord 18) 20 (omega arith) (omega arith) (λ j u. refl)) in
     let d₃ = down-link (tableWord 20) 20 d₂ (nothing-says 1) (table-says 1 20 (omega arith) (omega arith)) refl z₂ in
     changed-sound (map-done (pageWord 0 409600 everything) 409600 everything d₃ (nothing-says 0)
     (page-word-says 0 409600 everything small-fits) (inr (omega arith)) (page-clean 0 409600 everything small-fits))
@@ -158,7 +163,7 @@ with-small =
 -- Another one at indices 1, 2, 8, 9, with one new table, which goes again ------------------------------------------------------------
 
 abbrev gone : ℕ
-gone = 1 * 2 ^ 39 + 2 * 2 ^ 30 + 8 * 2 ^ 21 + 9 * 2 ^ 12
+gone = top + 2 * 2 ^ 30 + 8 * 2 ^ 21 + 9 * 2 ^ 12
 
 abbrev m₅ : ℕ → ℕ
 m₅ = set m₄ (at 19 8) (tableWord 21)
@@ -183,7 +188,7 @@ zero-21 : Zero m₄ 21
 zero-21 =
     zero-still m₃ 20 4 (pageWord 0 409600 everything) 21 (omega arith) (omega arith)
     (zero-still m₂ 19 3 (tableWord 20) 21 (omega arith) (omega arith) (zero-still m₁ 18 2 (tableWord 19) 21 (omega arith) (omega arith)
-    (zero-still memory₀ 17 1 (tableWord 18) 21 (omega arith) (omega arith) (λ j u. refl))))
+    (zero-still memory₀ 17 257 (tableWord 18) 21 (omega arith) (omega arith) (λ j u. refl))))
 
 gone-page : says 0 (pageWord 0 413696 everything) ≡ Page 413696 everything
 gone-page = page-word-says 0 413696 everything gone-fits
@@ -191,7 +196,7 @@ gone-page = page-word-says 0 413696 everything gone-fits
 with-gone : Sound setting m₆ r₄
 unfolding set ℕ-discrete indexOf sizeOf tableOf roles₀
 with-gone =
-    let d₀ = down-start {va = gone} with-small (comes-root (omega arith)) in
+    let d₀ = down-start {va = gone} with-small (comes-root (in-upper gone (omega arith) (omega arith))) in
     let d₁ = down-step 18 everything d₀ (table-says 3 18 (omega arith) (omega arith)) in
     let d₂ = down-step 19 everything d₁ (table-says 2 19 (omega arith) (omega arith)) in
     let d₃ = down-link (tableWord 21) 21 d₂ (nothing-says 1) (table-says 1 21 (omega arith) (omega arith)) refl zero-21 in
@@ -200,7 +205,7 @@ with-gone =
 with-aside : Sound setting m₈ r₅
 unfolding set ℕ-discrete indexOf sizeOf tableOf roles₀
 with-aside =
-    let c₃ = onto 17 everything (comes-root {σ = setting} {m = m₆} {va = gone} (omega arith)) (table-says 3 18 (omega arith) (omega arith)) in
+    let c₃ = onto 17 everything (comes-root {σ = setting} {m = m₆} {va = gone} (in-upper gone (omega arith) (omega arith))) (table-says 3 18 (omega arith) (omega arith)) in
     let c₂ = onto 18 everything c₃ (table-says 2 19 (omega arith) (omega arith)) in
     let c₁ = onto 19 everything c₂ (table-says 1 21 (omega arith) (omega arith)) in
     let u₀ = up-start 413696 everything with-gone c₁ gone-page in
@@ -214,10 +219,10 @@ abbrev readOnly : Rights
 readOnly = record { writable = false; user = true; noexec = true }
 
 abbrev middle : ℕ
-middle = 1 * 2 ^ 39 + 2 * 2 ^ 30 + 5 * 2 ^ 21
+middle = top + 2 * 2 ^ 30 + 5 * 2 ^ 21
 
 abbrev large : ℕ
-large = 1 * 2 ^ 39 + 7 * 2 ^ 30
+large = top + 7 * 2 ^ 30
 
 abbrev m₉ : ℕ → ℕ
 m₉ = set m₈ (at 19 5) (pageWord 1 2097152 readOnly)
@@ -232,7 +237,7 @@ roles = r₅
 with-middle : Sound setting m₉ r₅
 unfolding set ℕ-discrete indexOf sizeOf tableOf roles₀
 with-middle =
-    let d₀ = down-start {va = middle} with-aside (comes-root (omega arith)) in
+    let d₀ = down-start {va = middle} with-aside (comes-root (in-upper middle (omega arith) (omega arith))) in
     let d₁ = down-step 18 everything d₀ (table-says 3 18 (omega arith) (omega arith)) in
     let d₂ = down-step 19 everything d₁ (table-says 2 19 (omega arith) (omega arith)) in
     changed-sound (map-done (pageWord 1 2097152 readOnly) 2097152 readOnly d₂ (nothing-says 1)
@@ -241,19 +246,19 @@ with-middle =
 pub witness : Sound setting memory roles
 unfolding set ℕ-discrete indexOf sizeOf tableOf roles₀
 witness =
-    let d₀ = down-start {va = large} with-middle (comes-root (omega arith)) in
+    let d₀ = down-start {va = large} with-middle (comes-root (in-upper large (omega arith) (omega arith))) in
     let d₁ = down-step 18 everything d₀ (table-says 3 18 (omega arith) (omega arith)) in
     changed-sound (map-done (pageWord 2 1073741824 everything) 1073741824 everything d₁ (nothing-says 2)
     (page-word-says 2 1073741824 everything large-fits) (inr (omega arith)) (page-clean 2 1073741824 everything large-fits))
 
 -- what is there, computed
-pub witness-roles : (roles 15 ≡ foreign) × (roles 16 ≡ book) × (roles 17 ≡ root) × (roles 18 ≡ table 3 17 1) × (roles 19 ≡ table 2 18 2)
+pub witness-roles : (roles 15 ≡ foreign) × (roles 16 ≡ book) × (roles 17 ≡ root) × (roles 18 ≡ table 3 17 257) × (roles 19 ≡ table 2 18 2)
     × (roles 20 ≡ table 1 19 3) × (roles 21 ≡ aside) × (roles 22 ≡ free) × (roles 23 ≡ free) × (roles 24 ≡ foreign)
 unfolding set ℕ-discrete roles₀
 witness-roles = (refl, refl, refl, refl, refl, refl, refl, refl, refl, refl)
 
 pub witness-means : (meaning setting memory (small + 17) ≡ found.Page small 4096 409600 everything) × (meaning setting memory gone ≡ found.Nothing)
     × (meaning setting memory (middle + 4097) ≡ found.Page middle 2097152 2097152 readOnly) × (meaning setting memory (large + 2 ^ 29) ≡ found.Page large 1073741824 1073741824 everything)
-    × (meaning setting memory (2 ^ 48 + small) ≡ found.Nothing)
-unfolding walk start run stepOf entered foundOf baseOf indexOf says presentOf largeOf padded frameOf rightsOf tableOf bit both sizeOf pageWord tableWord flag largeFlag set ℕ-discrete
+    × (meaning setting memory (2 ^ 47 + small) ≡ found.NoAddress)
+unfolding walk start canonical run stepOf entered foundOf baseOf indexOf says presentOf largeOf padded frameOf rightsOf tableOf bit both sizeOf pageWord tableWord flag largeFlag set ℕ-discrete
 witness-means = (refl, refl, refl, refl, refl)

@@ -11,7 +11,7 @@ pub record Keeps (σ : Setting) (m m' : ℕ → ℕ) (role' : ℕ → Role) : Ty
   pub built : Built σ m' role'
   pub same : (va : ℕ) → meaning σ m' va ≡ meaning σ m va
 
--- An edit that gives o to the range of va at level l, [base, base + size), and changes no other address, those from 2 ^ 48 on included.
+-- An edit that gives o to the range of va at level l, [base, base + size), and changes no other number, what is no address included.
 pub record Turns (σ : Setting) (m m' : ℕ → ℕ) (role' : ℕ → Role) (l va : ℕ) (o : Found) : Type 0 where
   pub built : Built σ m' role'
   pub in-range : (vb : ℕ) → Near l va vb → meaning σ m' vb ≡ o

@@ -4,7 +4,7 @@ use mathlib.Core.Bool.{Bool, cond}
 use Prim.Native.Nat.{ℕ, zero, suc, _/_}
 use Rattle.entry.specs.Entry.{sizeOf, says}
 use Rattle.entry.specs.declared.Entry.{Entry}
-use Rattle.walk.specs.Walk.{entryOf, stepOf, start, foundOf}
+use Rattle.walk.specs.Walk.{canonical, entryOf, stepOf, start, foundOf}
 use Rattle.walk.specs.declared.Found.{Found}
 use Rattle.walk.specs.declared.Place.{Place}
 use Rattle.walk.specs.declared.Place.the-variants.{Going, Ended}
@@ -30,9 +30,10 @@ readsAt h va (suc n) (Ended f) = nowhere
 abbrev pub sayings : ℕ → ℕ → Entry
 sayings w n = says n w
 
--- one prefix: the addresses differ only in what n more levels, and the place in the page, tell apart
-abbrev pub SamePrefix : ℕ → ℕ → ℕ → Type 0
-SamePrefix n va vb = va / sizeOf n ≡ vb / sizeOf n
+-- one prefix: the numbers differ only in what n more levels, and the place in the page, tell apart; and both are addresses, or neither is
+pub record SamePrefix (n va vb : ℕ) : Type 0 where
+  pub above : va / sizeOf n ≡ vb / sizeOf n
+  pub alike : canonical va ≡ canonical vb
 
 module _ (h : ℕ → Bool) {Address : Type 0} (rootOf vaOf : Address → ℕ) where
   -- THE WALKER. An address is of an address space, whose root it says (rootOf, as in CR3), and it says its number there (vaOf).

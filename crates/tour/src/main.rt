@@ -133,6 +133,7 @@ fn answer(f: Found) {
         } => say::page(b, s, a, r),
         Found::Nothing => say::text(b"nothing is mapped there"),
         Found::Outside => say::text(b"outside, the way leaves the window"),
+        Found::NoAddress => say::text(b"that is no address"),
     }
     say::line();
 }
@@ -163,7 +164,8 @@ fn others(mem: &[u8]) {
     show(mem, b"a hole", 0x7f1234568000);
     show(mem, b"a reserved bit", 0x7f1234800000);
     show(mem, b"a way that leaves the window", 0x7f12c0000000);
-    show(mem, b"no address at all", 0x1000000000000);
+    show(mem, b"the upper half", 0xffffff1234567abc);
+    show(mem, b"no address at all", 0x800000000000);
 }
 
 fn main() {

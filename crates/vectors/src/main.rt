@@ -129,10 +129,29 @@ fn changes() {
     say::line();
 }
 
+// Is it an address, and which way does it go?
+fn address(va: u64) {
+    if walk::canonical(va) {
+        indices(va);
+        return;
+    }
+    say::hex(va);
+    say::text(b" is no address\n");
+}
+
+// The edges of the two halves.
+fn edges() {
+    address(0x7fffffffffff);
+    address(0x800000000000);
+    address(0xffff7fffffffffff);
+    address(0xffff800000000000);
+    address(0xffffffffffffffff);
+}
+
 fn main() {
     indices(0x7f1234567000);
     indices(0);
-    indices(0xffffffffffff);
+    edges();
     words();
     pages();
     refusals();

@@ -1,5 +1,6 @@
 pub mod Flags
 pub mod Walks
+pub mod Extended
 pub mod Mappings
 pub mod Invariant
 pub mod MapFrame

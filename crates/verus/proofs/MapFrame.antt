@@ -1,17 +1,16 @@
 -- MAP_FRAME, both outcomes: what the source promises follows from what our map answers and writes.
 use Prim.Native.Nat.{ℕ, zero, suc, _+_, _*_, _%_, _^_, _<_, _≤_}
-use mathlib.Core.Bool.{Bool}
-use mathlib.Core.List.{List, []}
-use mathlib.Core.Logic.{_⊎_, inl, inr, _≢_}
+use mathlib.Core.Bool.{Bool, false≢true}
+use mathlib.Core.Logic.{inl, inr, _≢_}
 use mathlib.Core.Option.{none}
 use mathlib.Core.Path.{_≡_, refl, sym, ap, _∙_, subst}
 use native.Mathlib.Decide.{decLe}
 use native.Mathlib.Omega.{arith}
-use Rattle.word.specs.Writes.{Write, after}
-use Rattle.entry.specs.Entry.{sizeOf, tableOf}
+use Rattle.word.specs.Writes.{after}
+use Rattle.entry.specs.Entry.{sizeOf}
 use Rattle.entry.specs.declared.Rights.{Rights}
 use Rattle.walk.specs.declared.Found.{Found}
-use Rattle.walk.specs.declared.Found.the-variants.{Page, Nothing, Outside}
+use Rattle.walk.specs.declared.Found.the-variants.{Page, Nothing, Outside, NoAddress}
 use Rattle.walk.proofs.Digits.{size-pos}
 use Rattle.tables.specs.Roles.{Role}
 use Rattle.tables.proofs.Way.{comes-top}
@@ -28,17 +27,17 @@ use Rattle.plan.specs.declared.maps.Asked.{Asked}
 use Rattle.plan.specs.declared.maps.Mapping.{Mapping}
 use Rattle.plan.specs.Map.{Placed}
 use Rattle.effect.specs.Whole.{Whole}
-use Rattle.effect.specs.MapDone.{MapDone, Fitted, Misses}
-use Rattle.effect.specs.MapRefused.{Cause, FrameApart, Mapped, no-size, base-unaligned, frame-unaligned, base-high, frame-high, frame-in-pool, mapped, no-room}
+use Rattle.effect.specs.MapDone.{MapDone, Fitted}
+use Rattle.effect.specs.MapRefused.{Cause, FrameApart, Mapped, no-size, base-unaligned, frame-unaligned, base-range, frame-high, frame-in-pool, mapped, no-room}
 use Rattle.effect.proofs.Wholes.{root-low}
 use Rattle.effect.proofs.MapDone.{decided-done, mapped-inside, mapped-outside}
 use Rattle.effect.proofs.MapRefused.{map-refused, map-succeeds}
 use Rattle.tablepath.specs.Answers.{mapAnswer, mapWrites, mapSaid}
 use Rattle.tablepath.specs.declared.Mapped.the-variants as mapped′
 use Rattle.verus.specs.Regions.{PTE, pteOf}
-use Rattle.verus.specs.Mappings.{CandidateOverlaps, AcceptedMapping, EntrySize, inserted, maxBase, maxPhyaddr}
+use Rattle.verus.specs.Mappings.{CandidateOverlaps, AcceptedMapping, inserted, maxPhyaddr}
 use Rattle.verus.specs.Walks.{interp}
-use Rattle.verus.specs.Operations.{meant, InvAfter, ChangeMade, MapOk, MapErr}
+use Rattle.verus.specs.Operations.{meant, MapOk, MapErr}
 use Rattle.verus.proofs.Walks.{atBase, interp-found}
 use Rattle.verus.proofs.Mappings.{In, turned-inserts, overlaps-same}
 use Rattle.verus.proofs.Invariant.{inv-holds}
@@ -67,6 +66,7 @@ unfolding atBase
 unmapped-none va (Page b s f r) x n = absurd (n b s f r refl)
 unmapped-none va Nothing x n = refl
 unmapped-none va Outside x n = absurd (x refl)
+unmapped-none va NoAddress x n = refl
 
 -- an aligned frame that begins below the physical limit ends there or below
 frame-ends : (l f : ℕ) → l ≤ 2 → f % sizeOf l ≡ 0 → f ≤ maxPhyaddr → f + sizeOf l ≤ 2 ^ 52
@@ -84,7 +84,7 @@ accepted-fits q a = record {
   size-is = a .size .is;
   base-aligned = a .vaddr-aligned;
   frame-aligned = a .frame-aligned;
-  base-fits = a .ends;
+  base-fits = a .address;
   frame-fits =
       let k : q .frame % sizeOf (a .size .level) ≡ 0 = subst (λ x. q .frame % x ≡ 0) (a .size .is) (a .frame-aligned) in
       omega (arith, a .size .is, frame-ends (a .size .level) (q .frame) (a .size .low) k (a .physical));
@@ -157,7 +157,7 @@ module _ {h : ℕ → Bool} {sp : Space} {m : ℕ → ℕ} {role : ℕ → Role}
       because r (no-size n) = absurd (n (a .size .level) (a .size .low) (a .size .is))
       because r (base-unaligned l o n) = absurd (n (a .vaddr-aligned))
       because r (frame-unaligned l o b n) = absurd (n (a .frame-aligned))
-      because r (base-high l o b c n) = absurd (omega (arith, a .ends))
+      because r (base-range l o b c n) = absurd (false≢true (sym n ∙ a .address))
       because r (frame-high l o b c u n) = absurd (omega (arith, f .frame-fits))
       because r (frame-in-pool l g k) = absurd (meets k apart)
         where

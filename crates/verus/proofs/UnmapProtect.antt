@@ -1,7 +1,7 @@
 -- UNMAP AND PROTECT, both outcomes: what the source promises follows from what ours answer and write.
-use Prim.Native.Nat.{ℕ, _+_, _%_, _<_, _≤_}
+use Prim.Native.Nat.{ℕ, _%_, _<_}
 use mathlib.Core.Bool.{Bool}
-use mathlib.Core.List.{List, []}
+use mathlib.Core.List.{List}
 use mathlib.Core.Logic.{_≢_}
 use mathlib.Core.Option.{none, some}
 use mathlib.Core.Path.{_≡_, refl, sym, ap, _∙_, subst}
@@ -11,8 +11,7 @@ use Rattle.entry.specs.Entry.{sizeOf}
 use Rattle.entry.specs.declared.Rights.{Rights}
 use Rattle.walk.specs.Walk.{baseOf}
 use Rattle.walk.specs.declared.Found.{Found}
-use Rattle.walk.specs.declared.Found.the-variants.{Page, Nothing, Outside}
-use Rattle.walk.proofs.Digits.{size-pos}
+use Rattle.walk.specs.declared.Found.the-variants.{Page, Nothing}
 use Rattle.walk.proofs.Ranges.{page-covers}
 use Rattle.tables.specs.Roles.{Role}
 use Rattle.tables.proofs.Edits.{turns-inside, turns-outside}
@@ -35,6 +34,7 @@ use Rattle.effect.specs.Whole.{Whole}
 use Rattle.effect.specs.StartsAt.{StartsAt}
 use Rattle.effect.specs.UnmapDone.{UnmapDone}
 use Rattle.effect.specs.ProtectDone.{ProtectDone}
+use Rattle.effect.proofs.Searching.{nowhere}
 use Rattle.effect.proofs.Exactly.{unmap-exactly, protect-exactly}
 use Rattle.effect.proofs.UnmapDone.{unmapped}
 use Rattle.effect.proofs.ProtectDone.{protected}
@@ -44,7 +44,7 @@ use Rattle.tablepath.specs.declared.Unmapped.the-variants as unmapped′
 use Rattle.tablepath.specs.declared.Gone.{Gone}
 use Rattle.tablepath.specs.declared.Protected.the-variants as protected′
 use Rattle.tablepath.specs.declared.Same.{Same}
-use Rattle.verus.specs.Regions.{PTE, pteOf}
+use Rattle.verus.specs.Regions.{pteOf}
 use Rattle.verus.specs.Mappings.{ContainsKey, inserted, removed}
 use Rattle.verus.specs.Walks.{interp}
 use Rattle.verus.specs.Operations.{meant, ChangeMade, UnmapOk, ProtectOk, NotThere}
@@ -130,8 +130,7 @@ module _ {h : ℕ → Bool} {sp : Space} {m : ℕ → ℕ} {role : ℕ → Role}
       go : (x : Removing) → unmap.decideOf h m sp base ≡ x → unmapSaid (bookOf m sp) x ≡ unmapped′.Refused y → NotThere sp m (unmap.didOf sp base x) base
       go (removing.Go r) e f = let z : _≡_ {A = ℕ} 0 1 = cc in absurd (omega arith)
       go (removing.Refused z) e f =
-          let none-other = unmap-exactly w base .only z e in
-          record { unchanged = refl; missing = λ k. unmap-exactly w base .refused .0 (e ∙ ap removing.Refused none-other) (key-starts k) }
+          record { unchanged = refl; missing = λ k. nowhere (settingOf h sp) m base z (unmap-exactly w base .refused z .0 e) (key-starts k) }
 
   -- PROTECT, OK: the base was mapped; the one changing write was made; it has the same frame with the new flags.
   pub protect-ok : (r : Rights) (g : Same) → protectAnswer h m sp base r ≡ protected′.Done g → ProtectOk h sp m (protectWrites h m sp base r) base (g .frame) (g .size) r
@@ -157,5 +156,4 @@ module _ {h : ℕ → Bool} {sp : Space} {m : ℕ → ℕ} {role : ℕ → Role}
       go : (x : Changing) → protect.decideOf h m sp base r ≡ x → protectSaid x ≡ protected′.Refused y → NotThere sp m (protect.didOf x) base
       go (changing.Go c) e f = let z : _≡_ {A = ℕ} 0 1 = cc in absurd (omega arith)
       go (changing.Refused z) e f =
-          let none-other = protect-exactly w base r .only z e in
-          record { unchanged = refl; missing = λ k. protect-exactly w base r .refused .0 (e ∙ ap changing.Refused none-other) (key-starts k) }
+          record { unchanged = refl; missing = λ k. nowhere (settingOf h sp) m base z (protect-exactly w base r .refused z .0 e) (key-starts k) }

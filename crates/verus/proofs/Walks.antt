@@ -1,29 +1,27 @@
 -- THE SOURCE'S WALK IS OURS, and its map from bases and our function of addresses are the same thing.
-use Prim.Native.Nat.{ℕ, zero, suc, _+_, _-_, _*_, _/_, _%_, _^_, _<_, _≤_}
+use Prim.Native.Nat.{ℕ, zero, suc, _+_, _-_, _/_, _%_, _^_, _<_, _≤_}
 use mathlib.Core.Bool.{Bool, true, false, cond}
 use mathlib.Core.Logic.{_≢_}
 use mathlib.Core.Option.{Option, none, some}
 use mathlib.Core.Path.{_≡_, refl, sym, ap, _∙_, subst}
-use native.Mathlib.Decide.{ℕ-discrete, decLt}
 use native.Mathlib.Omega.{arith}
-use borrow.Author.Tests.{lt-ltb, le-ltb, eq-eqb, ne-eqb, eqb-true}
-use lib.Dec.{eqb, ltb}
+use borrow.Author.Tests.{eq-eqb, eqb-true}
+use lib.Dec.{eqb}
 use Rattle.word.specs.Memory.{at}
 use Rattle.entry.specs.Entry.{sizeOf, tableOf, says, both, everything}
 use Rattle.entry.specs.declared.Rights.{Rights}
 use Rattle.entry.specs.declared.Entry.{Entry}
 use Rattle.entry.specs.declared.Entry.the-variants as entry
 use Rattle.entry.proofs.Fields.{last-no-table}
-use Rattle.walk.specs.Walk.{indexOf, baseOf, entryOf, entered, stepOf, run, start, foundOf, walk}
+use Rattle.walk.specs.Walk.{canonical, indexOf, baseOf, entryOf, entered, stepOf, run, start, foundOf, walk}
 use Rattle.walk.specs.declared.Found.{Found}
-use Rattle.walk.specs.declared.Found.the-variants.{Page, Nothing, Outside}
+use Rattle.walk.specs.declared.Found.the-variants.{Page, Nothing, Outside, NoAddress}
 use Rattle.walk.specs.declared.Place.the-variants.{Going, Ended}
-use Rattle.walk.proofs.Ranges.{page-covers}
+use Rattle.walk.proofs.Ranges.{page-covers, no-address-only}
 use Rattle.walk.proofs.Steps.{run-ended}
 use Rattle.tables.proofs.Meaning.{everything-both}
-use Rattle.verus.specs.Regions.{Flags, PTE, fromBits, combine, pteOf}
-use Rattle.verus.specs.Mappings.{Mappings, maxBase}
-use Rattle.verus.specs.Walks.{WalkResult, Valid, Invalid, align, invalid, layer0, layer1, layer2, layer3, ptWalk, based, interp}
+use Rattle.verus.specs.Regions.{PTE, fromBits, pteOf}
+use Rattle.verus.specs.Walks.{WalkResult, Valid, invalid, layer0, layer1, layer2, layer3, ptWalk, based, interp}
 use Rattle.entry.proofs.Parts.{root-no-page}
 use Rattle.verus.proofs.Flags.{both-combine}
 
@@ -34,6 +32,7 @@ abbrev pub resultOf : ℕ → Found → WalkResult
 resultOf va (Page b s f r) = Valid b (pteOf s f r)
 resultOf va Nothing = invalid va
 resultOf va Outside = invalid va
+resultOf va NoAddress = invalid va
 
 -- every page lies in the window
 abbrev pub anywhere : ℕ → Bool
@@ -114,10 +113,10 @@ module _ (m : ℕ → ℕ) (va : ℕ) where
       go (entry.Page f g) e = absurd (root-no-page _ f g e)
       go (entry.Table s g) e = from-table 3 t everything s g e ∙ at-layer1 s (both everything g) ∙ (rw (← index, e, everything-both g) (unfold layer0 in refl))
 
--- THEIR WALK IS OURS, where every page lies in the window
-pub pt-walk-is-walk : (m : ℕ → ℕ) (root va : ℕ) → va < 2 ^ 48 → ptWalk m (tableOf root) va ≡ resultOf va (walk anywhere m root va)
+-- THEIR WALK IS OURS, of every address, where every page lies in the window
+pub pt-walk-is-walk : (m : ℕ → ℕ) (root va : ℕ) → canonical va ≡ true → ptWalk m (tableOf root) va ≡ resultOf va (walk anywhere m root va)
 unfolding walk start
-pt-walk-is-walk m root va u = rw (lt-ltb va (2 ^ 48) u) (sym (at-layer0 m va (tableOf root)))
+pt-walk-is-walk m root va u = rw u (sym (at-layer0 m va (tableOf root)))
 
 -- The window ---------------------------------------------------------------------------------------------------------------------------
 
@@ -142,14 +141,13 @@ module _ (h : ℕ → Bool) (m : ℕ → ℕ) (va : ℕ) where
 
   pub inside-walk : (root : ℕ) → walk h m root va ≢ Outside → walk anywhere m root va ≡ walk h m root va
   unfolding walk start
-  inside-walk root o = go (decLt va (2 ^ 48))
+  inside-walk root o = go (canonical va) o
     where
-      go : Dec (va < 2 ^ 48) → foundOf (run anywhere m 4 va (cond (ltb va (2 ^ 48)) (Going (tableOf root) everything) (Ended Nothing)))
-          ≡ foundOf (run h m 4 va (cond (ltb va (2 ^ 48)) (Going (tableOf root) everything) (Ended Nothing)))
-      go (yes u) = rw (lt-ltb va (2 ^ 48) u) (inside-from 4 (tableOf root) everything (rw (lt-ltb va (2 ^ 48) u) at o))
-      go (no u) =
-          let high : 2 ^ 48 ≤ va = omega arith in
-          rw (le-ltb va (2 ^ 48) high, run-ended h m 4 va Nothing, run-ended anywhere m 4 va Nothing)
+      go : (b : Bool) → foundOf (run h m 4 va (cond b (Going (tableOf root) everything) (Ended NoAddress))) ≢ Outside
+          → foundOf (run anywhere m 4 va (cond b (Going (tableOf root) everything) (Ended NoAddress)))
+          ≡ foundOf (run h m 4 va (cond b (Going (tableOf root) everything) (Ended NoAddress)))
+      go true k = inside-from 4 (tableOf root) everything k
+      go false k = ap foundOf (run-ended anywhere m 4 va NoAddress ∙ sym (run-ended h m 4 va NoAddress))
 
 -- The same thing ---------------------------------------------------------------------------------------------------------------------
 
@@ -158,30 +156,24 @@ unfoldable pub atBase : ℕ → Found → Option PTE
 atBase va (Page b s f r) = cond (eqb b va) (some (pteOf s f r)) none
 atBase va Nothing = none
 atBase va Outside = none
+atBase va NoAddress = none
 
 based-found : (va : ℕ) (o : Found) → based va (resultOf va o) ≡ atBase va o
 unfolding based atBase
 based-found va (Page b s f r) = refl
 based-found va Nothing = refl
 based-found va Outside = refl
+based-found va NoAddress = refl
 
 module _ (h : ℕ → Bool) (m : ℕ → ℕ) (root : ℕ) (stays : (va : ℕ) → walk h m root va ≢ Outside) where
-  high-found : (va : ℕ) → 2 ^ 48 ≤ va → walk h m root va ≡ Nothing
-  unfolding walk start foundOf
-  high-found va u = rw (le-ltb va (2 ^ 48) u, run-ended h m 4 va Nothing)
-
   -- their map, by what we find
   pub interp-found : (va : ℕ) → interp m (tableOf root) va ≡ atBase va (walk h m root va)
   unfolding interp
-  interp-found va = go (decLt va maxBase)
+  interp-found va = go (canonical va) refl
     where
-      go : Dec (va < maxBase) → cond (ltb va maxBase) (based va (ptWalk m (tableOf root) va)) none ≡ atBase va (walk h m root va)
-      go (yes u) =
-          rw (lt-ltb va maxBase u)
-          (ap (based va) (pt-walk-is-walk m root va u) ∙ based-found va (walk anywhere m root va) ∙ ap (atBase va) (inside-walk h m va root (stays va)))
-      go (no u) =
-          let high : 2 ^ 48 ≤ va = omega arith in
-          rw (le-ltb va maxBase high) (sym (ap (atBase va) (high-found va high) ∙ (unfold atBase in refl)))
+      go : (b : Bool) → canonical va ≡ b → cond b (based va (ptWalk m (tableOf root) va)) none ≡ atBase va (walk h m root va)
+      go true u = ap (based va) (pt-walk-is-walk m root va u) ∙ based-found va (walk anywhere m root va) ∙ ap (atBase va) (inside-walk h m va root (stays va))
+      go false u = sym (ap (atBase va) (no-address-only h m root va .1 u) ∙ (unfold atBase in refl))
 
   -- WHAT AN ADDRESS MEANS IS IN THEIR MAP, at its page's base, and the address lies in that page
   pub meaning-is-interp : (va b s f : ℕ) (r : Rights) → walk h m root va ≡ Page b s f r → (interp m (tableOf root) b ≡ some (pteOf s f r)) × (b ≤ va) × (va < b + s)
@@ -214,3 +206,4 @@ module _ (h : ℕ → Bool) (m : ℕ → ℕ) (root : ℕ) (stays : (va : ℕ) �
           at false eq y = let z : _≡_ {A = ℕ} 0 1 = cc in absurd (omega arith)
       go Nothing k x = let z : _≡_ {A = ℕ} 0 1 = cc in absurd (omega arith)
       go Outside k x = let z : _≡_ {A = ℕ} 0 1 = cc in absurd (omega arith)
+      go NoAddress k x = let z : _≡_ {A = ℕ} 0 1 = cc in absurd (omega arith)

@@ -1,11 +1,12 @@
 -- The source's meaning of tables: a partial map from bases. Its tests of what is asked of map, unmap and protect, over such a map.
-use Prim.Native.Nat.{ℕ, _+_, _-_, _*_, _^_, _<_, _≤_}
-use mathlib.Core.Bool.{cond}
+use Prim.Native.Nat.{ℕ, _-_, _*_, _^_, _≤_}
+use mathlib.Core.Bool.{true, cond}
 use mathlib.Core.Option.{Option, none, some}
 use mathlib.Core.Path.{_≡_}
 use lib.Dec.{eqb}
 use Rattle.entry.specs.Entry.{sizeOf}
-use Rattle.verus.specs.Regions.{MemRegion, PTE, Overlap, Aligned}
+use Rattle.walk.specs.Walk.{canonical}
+use Rattle.verus.specs.Regions.{PTE, Overlap, Aligned}
 
 -- IMap<nat, PTE>
 abbrev pub Mappings : Type 0
@@ -33,7 +34,8 @@ pub record CandidateOverlaps (f : Mappings) (base : ℕ) (p : PTE) : Type 0 wher
   pub there : f key ≡ some pte
   pub overlap : Overlap (record { base = base; size = p .frame .size }) (record { base = key; size = pte .frame .size })
 
--- MAX_BASE, the end of the addresses
+-- MAX_BASE, where the source's addresses end: it takes 0 to 2 ^ 48 - 1 as they are. Where it asks for that, we ask for an address of the
+-- machine, which is canonical: the source's own below 2 ^ 47, and above, those that it means (proofs/Extended.antt).
 abbrev pub maxBase : ℕ
 maxBase = 512 * 512 * 512 * 4096 * 512
 
@@ -51,7 +53,7 @@ pub record EntrySize (top size : ℕ) : Type 0 where
 pub record AcceptedMapping (vaddr : ℕ) (p : PTE) : Type 0 where
   pub vaddr-aligned : Aligned vaddr (p .frame .size)
   pub frame-aligned : Aligned (p .frame .base) (p .frame .size)
-  pub ends : vaddr + p .frame .size ≤ maxBase
+  pub address : canonical vaddr ≡ true
   pub size : EntrySize 2 (p .frame .size)
   pub physical : p .frame .base ≤ maxPhyaddr
 
@@ -60,4 +62,4 @@ pub record AcceptedUnmap (vaddr : ℕ) : Type 0 where
   pub size : ℕ
   pub sized : EntrySize 3 size
   pub aligned : Aligned vaddr size
-  pub below : vaddr < maxBase
+  pub address : canonical vaddr ≡ true

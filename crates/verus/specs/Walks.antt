@@ -6,9 +6,9 @@ use mathlib.Core.Option.{Option, none, some}
 use lib.Dec.{eqb, ltb}
 use Rattle.word.specs.Memory.{at}
 use Rattle.entry.specs.Entry.{says}
-use Rattle.entry.specs.declared.Rights.{Rights}
 use Rattle.entry.specs.declared.Entry.{Entry}
 use Rattle.entry.specs.declared.Entry.the-variants.{Nothing, Page, Table}
+use Rattle.walk.specs.Walk.{canonical}
 use Rattle.verus.specs.Regions.{Flags, PTE, fromBits, combine}
 use Rattle.verus.specs.Mappings.{Mappings, maxBase}
 
@@ -58,6 +58,10 @@ unfoldable pub based : ℕ → WalkResult → Option PTE
 based va (Valid vbase p) = cond (eqb vbase va) (some p) none
 based va (Invalid a) = none
 
--- view, which the tokens call interp: the map from the bases
+-- view, which the tokens call interp, as the source has it: the map from the bases, which are 0 to 2 ^ 48 - 1
+unfoldable pub view : (ℕ → ℕ) → ℕ → Mappings
+view m pml4 va = cond (ltb va maxBase) (based va (ptWalk m pml4 va)) none
+
+-- the same, from the addresses that the machine has
 unfoldable pub interp : (ℕ → ℕ) → ℕ → Mappings
-interp m pml4 va = cond (ltb va maxBase) (based va (ptWalk m pml4 va)) none
+interp m pml4 va = cond (canonical va) (based va (ptWalk m pml4 va)) none

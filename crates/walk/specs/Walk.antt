@@ -1,17 +1,26 @@
 -- THE MEANING of tables: what a walk of an address finds. One step a level, each reads one entry; from the manual's account of 4-level paging.
 -- A memory m gives the word at each physical word number; h says which pages lie wholly in the window.
-use Prim.Native.Nat.{ℕ, zero, suc, _+_, _*_, _/_, _%_, _^_}
-use mathlib.Core.Bool.{Bool, cond}
-use lib.Dec.{ltb}
+use Prim.Native.Nat.{ℕ, zero, suc, _-_, _*_, _/_, _%_, _^_}
+use mathlib.Core.Bool.{Bool, cond, _&&_, _||_}
+use lib.Dec.{leb, ltb}
 use Rattle.word.specs.Memory.{at}
 use Rattle.entry.specs.Entry.{sizeOf, tableOf, says, both, everything}
 use Rattle.entry.specs.declared.Rights.{Rights}
 use Rattle.entry.specs.declared.Entry.{Entry}
 use Rattle.entry.specs.declared.Entry.the-variants as entry
 use Rattle.walk.specs.declared.Found.{Found}
-use Rattle.walk.specs.declared.Found.the-variants.{Page, Nothing, Outside}
+use Rattle.walk.specs.declared.Found.the-variants.{Page, Nothing, Outside, NoAddress}
 use Rattle.walk.specs.declared.Place.{Place}
 use Rattle.walk.specs.declared.Place.the-variants.{Going, Ended}
+
+-- half of all addresses
+abbrev pub half : ℕ
+half = 2 ^ 47
+
+-- WHAT IS AN ADDRESS: a number of 64 bits that is canonical, so that bits 48 to 63 repeat bit 47. These are two halves, the lower from 0 on, and
+-- the upper, which ends at 2 ^ 64; no number between them is an address.
+unfoldable pub canonical : ℕ → Bool
+canonical va = ltb va half || (leb (2 ^ 64 - half) va && ltb va (2 ^ 64))
 
 -- which entry of a table of level n the address goes through
 unfoldable pub indexOf : ℕ → ℕ → ℕ
@@ -45,9 +54,9 @@ unfoldable pub run : (ℕ → Bool) → (ℕ → ℕ) → ℕ → ℕ → Place 
 run h m zero va p = p
 run h m (suc n) va p = run h m n va (stepOf h m n va p)
 
--- at the root, which is given as in CR3; there are no addresses from 2 ^ 48 on
+-- at the root, which is given as in CR3; a number that is no address has no walk
 unfoldable pub start : ℕ → ℕ → Place
-start root va = cond (ltb va (2 ^ 48)) (Going (tableOf root) everything) (Ended Nothing)
+start root va = cond (canonical va) (Going (tableOf root) everything) (Ended NoAddress)
 
 -- what a walk has found; after four steps none is going (no entry of the last level names a table)
 unfoldable pub foundOf : Place → Found

@@ -7,7 +7,10 @@ use entry::Entry;
 use entry::Rights;
 use word::Cell;
 
-// What an address means.
+// Half of all addresses: the lower half begins at 0, the upper so far below 2^64.
+pub const HALF: u64 = 140737488355328;
+
+// What a number means as an address.
 pub enum Found {
     // the page's first address, its size, where it lies in physical memory, and the rights of the whole way
     Page {
@@ -20,6 +23,8 @@ pub enum Found {
     Nothing,
     // the way leads to a table that does not lie in the window
     Outside,
+    // the number is no address: it is not canonical
+    NoAddress,
 }
 
 // A walk on its way: at the table in a page, with the rights so far; or at its end.
@@ -86,21 +91,28 @@ pub fn step(mem: &[u8], origin: u64, n: u64, va: u64, p: Place) -> Place
     }
 }
 
+// Is the number an address? With half the range added, the two halves are one run from 0 on.
+pub fn canonical(va: u64) -> bool
+    ensures { λ r. ⌜ r ≡ the.canonical va ⌝ }
+{
+    std::num::wrapping_add_u64(va, HALF) < 2 * HALF
+}
+
 // Where a walk begins with this CR3.
 pub fn begin(cr3: u64, va: u64) -> Place
     ensures { λ p. ⌜ p ≡ the.start cr3 va ⌝ }
 {
-    if 281474976710656 <= va {
-        return Place::Ended(Found::Nothing);
+    if canonical(va) {
+        return Place::Going(
+            entry::table(cr3),
+            Rights {
+                writable: true,
+                user: true,
+                noexec: false,
+            },
+        );
     }
-    Place::Going(
-        entry::table(cr3),
-        Rights {
-            writable: true,
-            user: true,
-            noexec: false,
-        },
-    )
+    Place::Ended(Found::NoAddress)
 }
 
 // What a walk has found.

@@ -10,6 +10,10 @@ use Rattle.word.specs.Bytes.{wordAt, putWord}
 use Rattle.word.specs.declared.Cell.{Cell}
 use Rattle.word.specs.declared.Cell.the-variants.{Word, Outside}
 
+-- How many pages physical memory has: physical addresses have 52 bits.
+abbrev pub pageCount : ℕ
+pageCount = 2 ^ 40
+
 -- the function m with v at a
 unfoldable pub set : {A : Type 0} → (ℕ → A) → ℕ → A → ℕ → A
 set m a v x = elim (ℕ-discrete a x) [ yes e ↦ v | no n ↦ m x ]
@@ -22,9 +26,9 @@ at p i = 512 * p + i
 unfoldable pub memory : List ℕ → ℕ → ℕ → ℕ
 memory s origin x = cond (leb origin (8 * x) && leb (8 * x + 8) (origin + length s)) (wordAt s (8 * x - origin)) 0
 
--- page p lies wholly in the window; a physical address has at most 52 bits
+-- page p lies wholly in the window
 unfoldable pub holds : List ℕ → ℕ → ℕ → Bool
-holds s origin p = ltb p (2 ^ 40) && (leb origin (4096 * p) && leb (4096 * p + 4096) (origin + length s))
+holds s origin p = ltb p pageCount && (leb origin (4096 * p) && leb (4096 * p + 4096) (origin + length s))
 
 -- what reading entry i of page p answers
 unfoldable pub readOf : List ℕ → ℕ → ℕ → ℕ → Cell

@@ -1,10 +1,10 @@
 -- Runs of pages that lie in the window.
-use Prim.Native.Nat.{ℕ, _+_, _*_, _^_}
+use Prim.Native.Nat.{ℕ, _+_, _*_}
 use mathlib.Core.Bool.{Bool, cond, _&&_}
 use mathlib.Core.List.{List, [], _∷_}
 use lib.Dec.{leb, ltb}
 use lib.ListN.{length}
-use Rattle.word.specs.Memory.{at, memory}
+use Rattle.word.specs.Memory.{pageCount, at, memory}
 use Rattle.word.specs.Writes.{Write, write}
 use Rattle.word.specs.declared.Cell.{Cell}
 use Rattle.word.specs.declared.Cell.the-variants.{Word, Outside}
@@ -12,7 +12,7 @@ use Rattle.word.specs.declared.Cell.the-variants.{Word, Outside}
 -- so many pages from the first one on lie in the window
 unfoldable pub spansOf : List ℕ → ℕ → ℕ → ℕ → Bool
 spansOf s origin first pages =
-    leb (first + pages) (2 ^ 40) && (leb origin (4096 * first) && leb (4096 * (first + pages)) (origin + length s))
+    leb (first + pages) pageCount && (leb origin (4096 * first) && leb (4096 * (first + pages)) (origin + length s))
 
 -- entry i of page p is one of that run, and p is not among so many pages at its beginning
 unfoldable pub isAmong : List ℕ → ℕ → ℕ → ℕ → ℕ → ℕ → ℕ → Bool

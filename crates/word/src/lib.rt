@@ -20,6 +20,9 @@ pub use scan::besides;
 // No budget: all writes are done.
 pub const ENDLESS: u64 = 18446744073709551615;
 
+// How many pages physical memory has: physical addresses have 52 bits.
+pub const PAGE_COUNT: u64 = 1099511627776;
+
 // What reading an entry answers.
 pub enum Cell {
     Word(u64),
@@ -73,7 +76,7 @@ fn store(mem: &mut [u8], at: usize, w: u64)
 fn near(origin: u64, room: u64, p: u64) -> bool
     ensures { λ r. ⌜ ((s : List ℕ) → origin < 2 ^ 63 → room + 4096 ≡ length s → length s < 2 ^ 63 → r ≡ holds s origin p) ⌝ }
 {
-    if 1099511627776 <= p {
+    if PAGE_COUNT <= p {
         return false;
     }
     std::num::wrapping_sub_u64(p * 4096, origin) <= room

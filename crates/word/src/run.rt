@@ -4,6 +4,7 @@ ghost use mathlib.Core.Path.{_≡_};
 ghost use Rattle.word.specs.Runs as the;
 ghost use Rattle.word.specs.Writes.{Wrote};
 use crate::Cell;
+use crate::PAGE_COUNT;
 use crate::load;
 use crate::spend;
 use crate::store;
@@ -12,10 +13,10 @@ use crate::store;
 pub fn spans(mem: &[u8], origin: u64, first: u64, pages: u64) -> bool
     ensures { λ r. ⌜ r ≡ the.spansOf (now (mem .entry)) origin first pages ⌝ }
 {
-    if 1099511627776 < pages {
+    if PAGE_COUNT < pages {
         return false;
     }
-    if 1099511627776 - pages < first {
+    if PAGE_COUNT - pages < first {
         return false;
     }
     if first * 4096 < origin {

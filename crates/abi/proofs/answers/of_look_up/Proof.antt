@@ -18,6 +18,9 @@ enum-told c = search needs
 enum-told-2 : tie.Need-enum-told-2
 enum-told-2 c = search needs
 
+enum-told-3 : tie.Need-enum-told-3
+enum-told-3 c = search needs
+
 returns : tie.Need-returns
 unfolding lookedUp
 returns c = rw (c .before .before .f .given .1, c .rights-word .ensures)
@@ -30,7 +33,11 @@ returns-3 : tie.Need-returns-3
 unfolding lookedUp
 returns-3 c = rw (c .enum-told2 .given .1)
 
+returns-4 : tie.Need-returns-4
+unfolding lookedUp
+returns-4 c = rw (c .enum-told3 .given .1)
+
 pub of-look-up-spec : {M : Type 1} → statement M
 of-look-up-spec =
     tie.close
-    (tie.spec enum-known-f rights-word-requires enum-told enum-told-2 returns returns-2 returns-3)
+    (tie.spec enum-known-f rights-word-requires enum-told enum-told-2 enum-told-3 returns returns-2 returns-3 returns-4)

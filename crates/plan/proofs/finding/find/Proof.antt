@@ -1,8 +1,7 @@
 use Rattle.pool.proofs.Opening.{names-stands}
 use Rattle.plan.proofs.Ways.{way-paged}
 use Rattle.plan.specs.Find.{foundOf, soughtOf}
-use mathlib.Core.Path.{_≡_, sym, _∙_}
-use borrow.Author.Tests.{lt-ltb, le-ltb}
+use mathlib.Core.Path.{sym, _∙_}
 use borrow.Author.Needs.{needs}
 use Rattle.plan.proofs.finding.find.Statement.{statement}
 use Rattle.plan.proofs.finding.find.Tie as tie
@@ -11,6 +10,7 @@ use Rattle.plan.proofs.finding.find.Lts as lts
 use Rattle.plan.proofs.descent.descend.Reads as descend-reads
 use Rattle.plan.proofs.finding.stopped.Reads as stopped-reads
 use Rattle.pool.proofs.names.Reads as names-reads
+use Rattle.walk.proofs.canonical.Reads as canonical-reads
 
 names-requires : tie.Need-names-requires
 names-requires c κs = search needs
@@ -21,15 +21,18 @@ enum-known-fit c = search needs
 enum-told : tie.Need-enum-told
 enum-told c = search needs
 
-returns : tie.Need-returns
-unfolding foundOf soughtOf
-returns c = simp (sym (c .before .before .before .names .ensures) ∙ c .before .enum-told .given .1, le-ltb _ _ (c .if1 .taken))
+canonical-requires : tie.Need-canonical-requires
+canonical-requires c κs = search needs
 
 descend-requires : tie.Need-descend-requires
-descend-requires c κs = names-stands _ _ _ (sym (c .before .before .before .names .ensures) ∙ c .before .enum-told .given .1)
+descend-requires c κs = names-stands _ _ _ (sym (c .before .before .before .before .names .ensures) ∙ c .before .before .enum-told .given .1)
 
 stopped-requires : tie.Need-stopped-requires
 stopped-requires c κs = search needs
+
+returns : tie.Need-returns
+unfolding foundOf soughtOf
+returns c = simp (sym (c .before .before .before .before .before .before .names .ensures) ∙ c .before .before .before .before .enum-told .given .1, sym (c .before .before .before .canonical .ensures) ∙ c .before .before .if1 .taken, c .stopped .ensures _ (way-paged _ _ _ _ _) (c .before .descend .ensures))
 
 returns-2 : tie.Need-returns-2
 unfolding foundOf soughtOf
@@ -37,7 +40,7 @@ returns-2 c = simp (sym (c .before .before .before .names .ensures) ∙ c .befor
 
 returns-3 : tie.Need-returns-3
 unfolding foundOf soughtOf
-returns-3 c = simp (sym (c .before .before .before .before .before .names .ensures) ∙ c .before .before .before .enum-told .given .1, lt-ltb _ _ (c .before .before .if1 .left), c .stopped .ensures _ (way-paged _ _ _ _ _) (c .before .descend .ensures))
+returns-3 c = simp (sym (c .before .before .before .before .names .ensures) ∙ c .before .before .enum-told .given .1, sym (c .before .canonical .ensures) ∙ c .if1 .left)
 
 pub find-spec : {M : Type 1} → statement M
 find-spec =
@@ -46,8 +49,9 @@ find-spec =
     names-requires
     enum-known-fit
     enum-told
-    returns
+    canonical-requires
     descend-requires
     stopped-requires
+    returns
     returns-2
     returns-3)
