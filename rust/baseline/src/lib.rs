@@ -31,7 +31,7 @@ pub enum Reason {
     BaseUnaligned = 2,
     /// The frame is no multiple of the size.
     FrameUnaligned = 3,
-    /// The range ends beyond 2^48.
+    /// The base is no address: it is not canonical.
     BaseRange = 4,
     /// The frame ends beyond 2^52.
     FrameRange = 5,
@@ -106,4 +106,5 @@ pub enum Meaning {
     },
     /// The way leads to a table that is not wholly in the window.
     Outside,
+    NoAddress,
 }

@@ -71,7 +71,7 @@ reasons! {
     Size = 1, "the size is none of the three";
     BaseUnaligned = 2, "the base is no multiple of the size";
     FrameUnaligned = 3, "the frame is no multiple of the size";
-    BaseRange = 4, "the range ends beyond 2^48";
+    BaseRange = 4, "the base is no address: it is not canonical";
     FrameRange = 5, "the frame ends beyond 2^52";
     FrameInPool = 6, "the frame and the pool share a byte";
     Overlap = 7, "some address of the range is mapped";
