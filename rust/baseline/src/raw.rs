@@ -3,7 +3,8 @@
 
 use crate::book::{book_pages, new_header, Book, ASIDE, FREE, HEAD, SLOTS, TICKETS};
 use crate::words::{
-    canonical, frame, index, is_page, page_word, present, rights, size, table, table_word, with_rights, PAGE, ROOT_LEVEL,
+    canonical, frame, index, is_page, page_word, present, rights, size, table, table_word, with_rights, PAGE,
+    ROOT_LEVEL,
 };
 use crate::{Meaning, Protected, Reason, Space, Unmapped};
 

@@ -43,7 +43,12 @@ pub struct Rights {
 
 #[derive(Clone, Copy, PartialEq, Eq, Debug)]
 pub enum Answer {
-    Page { base: u64, size: u64, frame: u64, rights: Rights },
+    Page {
+        base: u64,
+        size: u64,
+        frame: u64,
+        rights: Rights,
+    },
     Nothing,
     Outside,
     /// The number is no address, and the machine does not walk for it: it is a general protection fault.

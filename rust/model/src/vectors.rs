@@ -207,7 +207,9 @@ fn edges(list: &mut List) {
         0xffff_0000_0000_0000,
         0xffff_7fff_ffff_ffff,
     ] {
-        for (bytes, name) in [(full(0), "empty"), (small.clone(), "4 KiB"), (middle.clone(), "2 MiB"), (large.clone(), "1 GiB")] {
+        for (bytes, name) in
+            [(full(0), "empty"), (small.clone(), "4 KiB"), (middle.clone(), "2 MiB"), (large.clone(), "1 GiB")]
+        {
             list.add(format!("{va:#x}, {name}"), bytes, ROOT, ROOT, va, Answer::NoAddress);
         }
     }
@@ -236,5 +238,12 @@ fn windows(list: &mut List) {
     let top = 0xf_ffff_ffff_f000;
     list.add("tables in the last page that an entry can name", last.clone(), top, top, 0xffff_ffff_ffff_f000, own);
     list.add("a window after it", last.clone(), 1 << 52, 1 << 52, 0xffff_ffff_ffff_f000, Answer::Outside);
-    list.add("a window at the end of all numbers", last, 0xffff_ffff_ffff_f000, top, 0xffff_ffff_ffff_f000, Answer::Outside);
+    list.add(
+        "a window at the end of all numbers",
+        last,
+        0xffff_ffff_ffff_f000,
+        top,
+        0xffff_ffff_ffff_f000,
+        Answer::Outside,
+    );
 }

@@ -107,7 +107,10 @@ impl Cover {
             }
             (Request::Create { .. }, Answer::Created(created)) if created.reason == 0 => self.add("create done"),
             (Request::LookUp { .. }, Answer::LookedUp(found)) => {
-                self.add(["look_up nothing", "look_up page", "look_up outside", "?", "?", "look_up no address"][found.kind as usize]);
+                self.add(
+                    ["look_up nothing", "look_up page", "look_up outside", "?", "?", "look_up no address"]
+                        [found.kind as usize],
+                );
                 if found.kind == 1 {
                     self.ends("look_up", found.base, found.size);
                 }

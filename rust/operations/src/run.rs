@@ -83,7 +83,9 @@ impl<'a> Run<'a> {
                     Some(ledger) => {
                         let judged = ledger.judge(&request, to - from);
                         let looks = matches!(request, Request::LookUp { .. });
-                        if judged.is_none() && !looks || self.is_raw() && !judged.is_some_and(|judged| raw_answers(&request, judged)) {
+                        if judged.is_none() && !looks
+                            || self.is_raw() && !judged.is_some_and(|judged| raw_answers(&request, judged))
+                        {
                             return Ok(None);
                         }
                         judged

@@ -5,8 +5,8 @@ use model::{walk, Read, Window};
 use operations::audit::lists;
 use operations::baselines::Checked;
 use operations::cover::{Cover, Sort};
-use operations::ledger::is_address;
 use operations::layout::{ASIDE, FREE, HEAD, HEADER, ROOT, TICKETS};
+use operations::ledger::is_address;
 use operations::shrink::shrink;
 use operations::{test, Created, LookedUp, Mapped, Operations, Protected, Space, Told, Unmapped};
 
@@ -319,7 +319,9 @@ impl Operations for Flawed {
                 }
             }
             (RangeBeforeAlignment, 2) if !is_address(base) => return refused(4),
-            (StrippedMapped, 4) if base < 1 << 48 => return Checked.map(mem, space, extended(base), frame, size, rights),
+            (StrippedMapped, 4) if base < 1 << 48 => {
+                return Checked.map(mem, space, extended(base), frame, size, rights)
+            }
             (HoleMapped, 4) => return Checked.map(mem, space, extended(base), frame, size, rights),
             (SpaceBeforeSize, 1..=5) => {
                 let other = Checked.map(&mut before.clone(), space, 0, (1 << 52) - 4096, 4096, 0);

@@ -126,7 +126,11 @@ fn ends(of: &dyn Operations) {
             for base in none.into_iter().chain((47..64).map(|bit| base ^ 1 << bit)) {
                 assert_eq!(of.look_up(mem, ORIGIN, 0x12000, base), no_address, "{base:#x}");
                 assert_eq!(of.unmap(mem, SPACE, base), Unmapped { reason: 4, ..Unmapped::default() }, "{base:#x}");
-                assert_eq!(of.protect(mem, SPACE, base, 0), Protected { reason: 4, ..Protected::default() }, "{base:#x}");
+                assert_eq!(
+                    of.protect(mem, SPACE, base, 0),
+                    Protected { reason: 4, ..Protected::default() },
+                    "{base:#x}"
+                );
                 if !of.is_raw() {
                     let refused = Mapped { reason: 4, tables: 0 };
                     assert_eq!(of.map(mem, SPACE, base, 0x4000_0000, size, 0), refused, "{base:#x}");

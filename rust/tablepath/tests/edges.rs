@@ -95,7 +95,10 @@ fn first_and_last_pages_of_both_halves() {
             assert_eq!(space.map(&mut pool, base, FRAME, size, Rights::NONE), Err(Reason::Overlap));
             assert_eq!(space.map(&mut pool, last & !0xfff, FRAME, Size::Kib4, Rights::NONE), Err(Reason::Overlap));
 
-            assert_eq!(space.protect(&mut pool, base, Rights::USER).map(|done| (done.frame, done.size)), Ok((FRAME, size)));
+            assert_eq!(
+                space.protect(&mut pool, base, Rights::USER).map(|done| (done.frame, done.size)),
+                Ok((FRAME, size))
+            );
             assert_edges(&pool, space, Some(Page { rights: Rights::USER, ..page }));
             if size != Size::Kib4 {
                 assert_eq!(space.unmap(&mut pool, last & !0xfff), Err(Reason::NothingStarts));
@@ -123,7 +126,11 @@ fn bases_in_the_hole() {
         for base in HOLE.into_iter().chain(turned) {
             for bytes in Size::ALL {
                 if base % bytes.bytes() == 0 {
-                    assert_eq!(space.map(&mut pool, base, FRAME, bytes, Rights::NONE), Err(Reason::BaseRange), "{base:#x}");
+                    assert_eq!(
+                        space.map(&mut pool, base, FRAME, bytes, Rights::NONE),
+                        Err(Reason::BaseRange),
+                        "{base:#x}"
+                    );
                 }
             }
             assert_eq!(space.unmap(&mut pool, base), Err(Reason::BaseRange), "{base:#x}");
@@ -156,7 +163,11 @@ fn edges_as_bases() {
     for (more, frame, size, reason) in odd {
         assert_eq!(space.map(&mut pool, (1 << 47) + more, frame, size, Rights::NONE), Err(reason), "before the range");
     }
-    assert_eq!(space.map(&mut pool, 1 << 47, 1 << 52, Size::Kib4, Rights::NONE), Err(Reason::BaseRange), "before the frame's");
+    assert_eq!(
+        space.map(&mut pool, 1 << 47, 1 << 52, Size::Kib4, Rights::NONE),
+        Err(Reason::BaseRange),
+        "before the frame's"
+    );
     assert_eq!(numbers::map(&mut pool, space.handle(), 1 << 47, 0, 8192, 0).reason, Reason::Size.number());
     assert_eq!(numbers::map(&mut pool, space.handle(), 1 << 47, 0, 4096, 8).reason, Reason::Rights.number());
     assert_eq!(numbers::protect(&mut pool, space.handle(), 1 << 47, 8).reason, Reason::Rights.number());
