@@ -14,7 +14,7 @@ uint64_t every_function(struct tp_space *space, uint64_t number) {
     sum += tp_unmap(space, number).ticket;
     sum += tp_told(space, number).released;
     sum += tp_state(space).free;
-    sum += tp_look_up(space, number).kind == TP_PAGE;
+    sum += tp_look_up(space, number).kind == TP_PAGE || tp_look_up(space, number).kind == TP_NO_ADDRESS;
     sum += tp_entry(space, number, 0, 0).marks & TP_DIRTY;
 #ifdef IGNORED
     tp_map(space, number, number, 4096, 0);

@@ -54,7 +54,9 @@ static void check_refusals(void) {
     check("size", tp_map(&space, 0, 0, 8192, 0).reason == TP_SIZE);
     check("base unaligned", tp_map(&space, 4096, 0, MIB2, 0).reason == TP_BASE_UNALIGNED);
     check("frame unaligned", tp_map(&space, 0, 4096, MIB2, 0).reason == TP_FRAME_UNALIGNED);
-    check("base range", tp_map(&space, 1ull << 48, 0, 4096, 0).reason == TP_BASE_RANGE);
+    check("base range", tp_map(&space, 1ull << 47, 0, 4096, 0).reason == TP_BASE_RANGE);
+    check("base range of unmap", tp_unmap(&space, 1ull << 47).reason == TP_BASE_RANGE);
+    check("base range of protect", tp_protect(&space, 1ull << 47, 0).reason == TP_BASE_RANGE);
     check("frame range", tp_map(&space, 0, 1ull << 52, 4096, 0).reason == TP_FRAME_RANGE);
     check("frame in pool", tp_map(&space, 0, ORIGIN + 4096, 4096, 0).reason == TP_FRAME_IN_POOL);
     check("overlap", tp_map(&space, GIB1 + MIB2, 0, 4096, 0).reason == TP_OVERLAP);
@@ -144,6 +146,7 @@ void run(void) {
     check("create", tp_create(&space) == TP_DONE && space.root > ORIGIN && space.root < ORIGIN + PAGES * 4096);
     check("open", tp_open(&space) == TP_DONE);
     check("empty", tp_look_up(&space, 0).kind == TP_NOTHING);
+    check("no address", tp_look_up(&space, 1ull << 47).kind == TP_NO_ADDRESS);
     check_texts();
     night();
     dry();

@@ -18,8 +18,7 @@
  * AFTER tp_unmap AND tp_protect processors may still use what they hold in caches. So, before a frame is used anew:
  *   1. a fence, so that the stores have left this processor's buffer: MFENCE or any locked instruction; MFENCE and LFENCE behind it where the
  *      interrupt is sent by WRMSR (x2APIC);
- *   2. the shootdown: INVLPG of each page, one address of it, on every processor that uses these tables; and all have answered. INVLPG takes
- *      the canonical address: bit 47 repeated above;
+ *   2. the shootdown: INVLPG of each page, one address of it, on every processor that uses these tables; and all have answered;
  *   3. the report: tp_told with the ticket that the last of these calls answered, or with any other from before the shootdown began.
  * The report frees the pages of tables that became empty: until then they are set aside, and nothing writes or hands out such a page. It
  * speaks for all calls up to its ticket, whichever thread made them: each shootdown tells every page that was unmapped since the one before
@@ -38,7 +37,10 @@
  * MARKS. tp_protect keeps the accessed and dirty bits of the entry that it read; one that a processor sets between its read and its write is
  * lost, and tp_unmap answers none: who must not lose one keeps the processors from the page.
  *
- * LIMITS. Levels: four. Sizes: 4096, 2 MiB, 1 GiB. Virtual addresses: 0 to 2^48 - 1. Physical addresses: 0 to 2^52 - 1.
+ * ADDRESSES are the machine's, canonical: bits 47 to 63 are all alike. They are the lower half, 0 to 0x7fffffffffff, and the upper half,
+ * 0xffff800000000000 to 0xffffffffffffffff; no other number is an address. The last page ends at 2^64: base + size is then 0 in 64 bits.
+ *
+ * LIMITS. Levels: four. Sizes: 4096, 2 MiB, 1 GiB. Physical addresses: 0 to 2^52 - 1.
  * The library calls no function but memset, for pages that are no table yet. The window is write-back memory, and memset makes ordinary
  * stores. The code uses general registers alone, and nothing below the stack pointer: interrupts may come while it runs. That no frame is
  * mapped which lies in another space's pool is the caller's. */
@@ -48,7 +50,7 @@
 #include <stddef.h>
 #include <stdint.h>
 
-#define TP_VERSION "0.3.0"
+#define TP_VERSION "0.4.0"
 
 /* An answer that must be looked at, where the compiler can say so; and a pointer as a number, in C's words or in C++'s. */
 #if defined(__GNUC__)
@@ -77,7 +79,7 @@ struct tp_space {
 enum tp_reason {
     /* tools/reasons: enum (of reasons.txt) */
     TP_DONE = 0,               /* done */
-    /* what map is asked, in the order of the tests; TP_RIGHTS before them */
+    /* what map is asked, in the order of the tests, TP_RIGHTS before them; TP_BASE_RANGE also of unmap and protect */
     TP_SIZE = 1,               /* the size is none of the three */
     TP_BASE_UNALIGNED = 2,     /* the base is no multiple of the size */
     TP_FRAME_UNALIGNED = 3,    /* the frame is no multiple of the size */
@@ -162,7 +164,9 @@ enum tp_kind {
     TP_OUTSIDE = 2, /* the way leads to a table that does not lie in the window */
     /* of an entry alone */
     TP_TABLE = 3,
-    TP_RESERVED = 4 /* it is present, but reserved bits are set: a walk finds nothing */
+    TP_RESERVED = 4, /* it is present, but reserved bits are set: a walk finds nothing */
+    /* of a look-up alone */
+    TP_NO_ADDRESS = 5 /* the number is no address, it is not canonical: whatever the bytes are, and for no other number */
 };
 
 struct tp_found {
@@ -215,7 +219,7 @@ TP_CHECKED static inline struct tp_mapped tp_map(const struct tp_space *space, u
     return answer;
 }
 
-/* Unmaps the page that starts exactly at the base. Tables that become empty are set aside. */
+/* Unmaps the page that starts exactly at the base, an address. Tables that become empty are set aside. */
 TP_CHECKED static inline struct tp_unmapped tp_unmap(const struct tp_space *space, uint64_t base) {
     struct tp_unmapped answer = {TP_POINTER_UNALIGNED, 0, 0, 0, 0};
     if (tp_agrees(space)) answer = tp_raw_unmap(space->mem, space->len, space->origin, space->pool, space->pages, space->root, base);
@@ -249,7 +253,8 @@ TP_CHECKED static inline struct tp_counts tp_state(const struct tp_space *space)
  * Answers the reason why not. Nothing need be opened: every call compares the struct with the book. */
 TP_CHECKED static inline uint64_t tp_open(const struct tp_space *space) { return tp_state(space).reason; }
 
-/* What a walk from the root finds for the address; of bytes that are read alone, whatever they are. */
+/* What a walk from the root finds for the address; of bytes that are read alone, whatever they are. A number that is no address is said to
+ * be none (TP_NO_ADDRESS), and is not looked for. */
 TP_CHECKED static inline struct tp_found tp_look_up(const struct tp_space *space, uint64_t va) {
     return tp_raw_look_up(space->mem, space->len, space->origin, space->root, va);
 }

@@ -12,9 +12,6 @@ static uint64_t counts[CAUSES];
 
 uint64_t compared(enum cause cause) { return counts[cause]; }
 
-/* as the processor wants it: bit 47 repeated above */
-static uint64_t canonical(uint64_t va) { return va >> 47 & 1 ? va | ~0xffffffffffffull : va; }
-
 /* look-up says nothing though the last word on the way is present: a reserved bit */
 static int is_reserved(struct tp_found found, uint64_t va) { return found.kind == TP_NOTHING && leaf_word(&process_space, va) & PRESENT; }
 
@@ -51,14 +48,15 @@ void agree_on(const char *when, uint64_t va, unsigned ring, enum access kind) {
     if (!seen && foreseen.cause == GOES && kind != READ) return;
     uint64_t original = seen ? read_word(DIRECT + at) : 0;
     if (seen) write_word(DIRECT + at, before);
-    struct outcome o = access_by_process(kind, canonical(va), ring, written);
+    struct outcome o = access_by_process(kind, va, ring, written);
     counts[foreseen.cause]++;
-    int holds = came(o, foreseen, canonical(va));
+    int holds = came(o, foreseen, va);
     if (seen) holds = holds && in_frame(o, foreseen.cause, kind, read_word(DIRECT + at), before, written);
     if (seen) write_word(DIRECT + at, original);
     if (!seen && foreseen.cause == GOES && view_of(at)) holds = holds && o.value == read_word(view_of(at));
-    check(holds, "%s: %s in ring %u at %x: faulted %u, error code %x, CR2 %x, value %x; look-up says kind %u, frame %x, rights %u", when,
-          access_name(kind), (uint64_t)ring, va, o.faulted, o.error, o.address, o.value, found.kind, found.frame, found.rights);
+    check(holds, "%s: %s in ring %u at %x: faulted %u, vector %u, error code %x, CR2 %x, value %x; look-up says kind %u, frame %x, rights %u",
+          when, access_name(kind), (uint64_t)ring, va, o.faulted, o.vector, o.error, o.address, o.value, found.kind, found.frame,
+          found.rights);
 }
 
 void agree(const char *when, uint64_t va) {

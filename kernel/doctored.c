@@ -60,7 +60,7 @@ struct tp_report __wrap_tp_raw_told(SPACE, uint64_t ticket) {
 }
 #endif
 
-#if defined WRONG_FRAME || defined LAST_WORD_ONLY || defined RESERVED_IGNORED
+#if defined WRONG_FRAME || defined LAST_WORD_ONLY || defined RESERVED_IGNORED || defined HOLE_IS_NOTHING || defined HIGH_BITS_IGNORED
 struct tp_found __real_tp_raw_look_up(const uint8_t *mem, size_t len, uint64_t origin, uint64_t root, uint64_t va);
 struct tp_found __wrap_tp_raw_look_up(const uint8_t *mem, size_t len, uint64_t origin, uint64_t root, uint64_t va);
 struct tp_found __wrap_tp_raw_look_up(const uint8_t *mem, size_t len, uint64_t origin, uint64_t root, uint64_t va) {
@@ -68,6 +68,10 @@ struct tp_found __wrap_tp_raw_look_up(const uint8_t *mem, size_t len, uint64_t o
     if (root != process_space.root) return f;
 #if defined WRONG_FRAME
     if (f.size == MIB2) f.frame ^= MIB2;
+#elif defined HOLE_IS_NOTHING /* no address is said to have nothing mapped */
+    if (f.kind == TP_NO_ADDRESS) f.kind = TP_NOTHING;
+#elif defined HIGH_BITS_IGNORED /* no address is looked up by its low bits */
+    if (f.kind == TP_NO_ADDRESS) f = __real_tp_raw_look_up(mem, len, origin, root, (uint64_t)((int64_t)(va << 16) >> 16));
 #else
     struct way way = way_of(&process_space, va);
     uint64_t word = *way.word[way.words - 1], rights = (word >> 1 & 3) | word >> 63 << 2;

@@ -37,12 +37,13 @@ static void refused(uint64_t reason, uint64_t base, uint64_t frame, uint64_t siz
 
 /* the kernel's own pages in these tables, the pool, and what is there already */
 static void test_refusals(uint64_t taken) {
-    refused(TP_OVERLAP, plain(KERNEL), frame_for(2, 0), GIB1);
-    refused(TP_OVERLAP, plain(APIC), frame_of(0), PAGE);
+    refused(TP_OVERLAP, KERNEL, frame_for(2, 0), GIB1);
+    refused(TP_OVERLAP, APIC, frame_of(0), PAGE);
     refused(TP_OVERLAP, taken, frame_of(1), PAGE);
     refused(TP_FRAME_IN_POOL, 1ull << 39, process_space.root, PAGE);
     refused(TP_FRAME_IN_POOL, 1ull << 39, 0, GIB1);
-    refused(TP_BASE_RANGE, 1ull << 48, frame_of(0), PAGE);
+    refused(TP_BASE_RANGE, LOWER_ENDS, frame_of(0), PAGE);
+    refused(TP_BASE_RANGE, UPPER - GIB1, frame_for(2, 0), GIB1);
 }
 
 static uint64_t fill_pool(void) {

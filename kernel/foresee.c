@@ -20,6 +20,7 @@ static enum cause cause_of(uint64_t rights, unsigned ring, enum access kind) {
 
 struct foreseen foresee(struct tp_found found, int reserved, unsigned ring, enum access kind) {
     uint64_t error = (ring == 3 ? FAULT_RING_3 : 0) | (kind == WRITE ? FAULT_WRITE : 0) | (kind == EXECUTE ? FAULT_FETCH : 0);
+    if (found.kind == TP_NO_ADDRESS) return (struct foreseen){ NO_ADDRESS, 0 };
     if (found.kind != TP_PAGE && reserved) return (struct foreseen){ RESERVED, error | FAULT_RESERVED | FAULT_PRESENT };
     if (found.kind != TP_PAGE) return (struct foreseen){ NOT_PRESENT, error };
     return (struct foreseen){ cause_of(found.rights, ring, kind), error | FAULT_PRESENT };
@@ -27,9 +28,10 @@ struct foreseen foresee(struct tp_found found, int reserved, unsigned ring, enum
 
 int came(struct outcome outcome, struct foreseen foreseen, uint64_t va) {
     if (foreseen.cause == GOES) return !outcome.faulted;
+    if (foreseen.cause == NO_ADDRESS) return outcome.faulted && outcome.vector == GENERAL_PROTECTION && outcome.error == foreseen.error;
     /* where bit 3 is 1 the manual has bit 0 at 1 too; QEMU 7.2 leaves it 0, and later ones do not */
     uint64_t open = foreseen.error & FAULT_RESERVED ? FAULT_PRESENT : 0;
-    return outcome.faulted && (outcome.error | open) == foreseen.error && outcome.address == va;
+    return outcome.faulted && outcome.vector == PAGE_FAULT && (outcome.error | open) == foreseen.error && outcome.address == va;
 }
 
 const char *access_name(enum access kind) { return kind == READ ? "read" : kind == WRITE ? "write" : "execute"; }

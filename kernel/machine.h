@@ -8,15 +8,16 @@ enum { PAGE = 4096, ENTRIES = 512 };
 #define MIB2 0x200000ull
 #define GIB1 0x40000000ull
 
+/* The two halves of the addresses, and the hole between them. */
+#define LOWER_ENDS 0x0000800000000000ull
+#define UPPER 0xffff800000000000ull
+
 /* Virtual addresses of the kernel's half. KERNEL: the image, from physical address 0 on. DIRECT: the kernel's own view of the memory
  * that buffers are made of, likewise. APIC: the device page. */
 #define KERNEL 0xffffffff80000000ull
-#define DIRECT 0xffff800000000000ull
-#define APIC 0xffffffffc0000000ull
+#define DIRECT UPPER
+#define APIC 0xffffffff40000000ull
 #define APIC_FRAME 0xfee00000ull
-
-/* The library counts virtual addresses from 0 to 2^48 - 1: the processor repeats bit 47 above. */
-static inline uint64_t plain(uint64_t va) { return va & 0xffffffffffffull; }
 
 static inline void out8(uint16_t port, uint8_t byte) { __asm__ volatile("outb %0, %1" : : "a"(byte), "Nd"(port)); }
 

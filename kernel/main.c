@@ -31,8 +31,9 @@ static void copy_low_start(void) {
 static void say_faults(void) {
     static const char *const names[CAUSES] = { [NOT_PRESENT] = "not present", [RESERVED] = "reserved bit", [READ_ONLY] = "read-only",
                                                [NO_EXECUTE] = "no-execute",   [RING_0_ONLY] = "the kernel's, in ring 3",
-                                               [GUARDED] = "the process's, in ring 0 (SMEP, SMAP)" };
-    say("page faults that had to come, with CR2 and error code:\n");
+                                               [GUARDED] = "the process's, in ring 0 (SMEP, SMAP)",
+                                               [NO_ADDRESS] = "no address: general protection faults, and not page faults" };
+    say("faults that had to come, with error code, and page faults with CR2:\n");
     for (enum cause cause = NOT_PRESENT; cause < CAUSES; cause++) {
         say("  %u %s\n", compared(cause), names[cause]);
         check(compared(cause) > 0 || (cause == GUARDED && !guards()), "no access was to fault so: %s", names[cause]);
@@ -52,6 +53,7 @@ void first_processor(uint64_t start_info) {
     say("the process lives in its tables: CR3 %x, on the second processor, in ring 3\n", process_space.root);
     test_kernel_pages();
     test_rights();
+    test_halves();
     test_marks();
     test_bits();
     test_stale();

@@ -12,7 +12,10 @@ uint64_t size_of(unsigned n) { return n == 0 ? PAGE : n == 1 ? MIB2 : GIB1; }
 
 const char *size_name(uint64_t size) { return size == PAGE ? "4 KiB" : size == MIB2 ? "2 MiB" : "1 GiB"; }
 
-uint64_t place_of(unsigned n) { return (uint64_t)(n + 1) << 39 | 5 * GIB1 | (n < 2 ? 3 * MIB2 : 0) | (n < 1 ? 7 * PAGE : 0); }
+uint64_t place_of(unsigned n) {
+    uint64_t half = n == 1 ? UPPER : (uint64_t)(n + 1) << 39;
+    return half | 5 * GIB1 | (n < 2 ? 3 * MIB2 : 0) | (n < 1 ? 7 * PAGE : 0);
+}
 
 uint64_t frame_for(unsigned n, unsigned which) {
     if (n == 2) return gib(1 + which);
@@ -34,8 +37,8 @@ static uint64_t alone(uint64_t base) {
 }
 
 void must_be(const struct tp_space *s, const struct place *place) {
-    struct tp_found f = tp_look_up(s, plain(place->va));
-    uint64_t at = f.kind == TP_PAGE ? f.frame + (plain(place->va) - f.base) : ABSENT;
+    struct tp_found f = tp_look_up(s, place->va);
+    uint64_t at = f.kind == TP_PAGE ? f.frame + (place->va - f.base) : f.kind == TP_NO_ADDRESS ? NO_ADDRESS_THERE : ABSENT;
     check(at == place->at && f.rights == place->rights, "%s at %x: look-up says %x with rights %u, not %x with %u", place->name, place->va,
           at, f.rights, place->at, place->rights);
 }

@@ -7,11 +7,13 @@
 enum { SIZES = 3 };
 uint64_t size_of(unsigned n); /* 4 KiB, 2 MiB, 1 GiB */
 const char *size_name(uint64_t size);
-uint64_t place_of(unsigned n);                  /* a base for a page of that size, with nothing near */
+uint64_t place_of(unsigned n);                  /* a base for a page of that size, with nothing near; of 2 MiB in the upper half */
 uint64_t frame_for(unsigned n, unsigned which); /* one of two frames of that size */
 
-/* Look-up must say that this address is mapped to this physical one, with these rights; or to nothing, where it is ABSENT. */
+/* Look-up must say that this address is mapped to this physical one, with these rights; or to nothing, where it is ABSENT; or that it is no
+ * address, where it is NO_ADDRESS_THERE. */
 #define ABSENT (~0ull)
+#define NO_ADDRESS_THERE (~1ull)
 struct place {
     const char *name;
     uint64_t va, at, rights;

@@ -46,9 +46,11 @@ static uint64_t any_frame(uint64_t size) {
     return gib(0) + (size == MIB2 ? 0 : SMALL_FRAMES * MIB2) + any(SMALL_FRAMES) * size;
 }
 
-/* Few regions of 512 GiB, few GiB in each, so that buffers share tables now and then. */
+/* Few regions of 512 GiB, few GiB in each, so that buffers share tables now and then: the last of the lower half and the first of the upper
+ * one are among them. */
 static uint64_t any_base(uint64_t size) {
-    uint64_t base = (1 + any(REGIONS)) << 39 | any(2) * 511 * GIB1;
+    static const uint64_t regions[REGIONS] = { 1ull << 39, LOWER_ENDS - (1ull << 39), UPPER };
+    uint64_t base = regions[any(REGIONS)] + any(2) * 511 * GIB1;
     if (size == GIB1) return base;
     base += any(2) * 511 * MIB2;
     return size == MIB2 ? base : base + any(ENTRIES) * PAGE;

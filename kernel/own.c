@@ -23,7 +23,7 @@ static unsigned tried;
 /* Maps pages of 4 KiB from this virtual address on. */
 static void map_pages(const struct tp_space *s, uint64_t from, uint64_t to, uint64_t frame, uint64_t rights) {
     for (uint64_t va = from; va < to; va += PAGE) {
-        uint64_t reason = tp_map(s, plain(va), frame + (va - from), PAGE, rights).reason;
+        uint64_t reason = tp_map(s, va, frame + (va - from), PAGE, rights).reason;
         if (reason != TP_DONE) give_up("mapping %x is refused for reason %u", va, reason);
     }
 }
@@ -49,7 +49,7 @@ static void make_own_space(void) {
     map_pages(&own, view_of_process((uint64_t)process_text), view_of_process((uint64_t)process_ends),
               frame_of_process((uint64_t)process_text), VARIABLES);
     for (unsigned n = 0; n < GIBS; n++) {
-        uint64_t reason = tp_map(&own, plain(DIRECT + gib(n)), gib(n), GIB1, VARIABLES).reason;
+        uint64_t reason = tp_map(&own, DIRECT + gib(n), gib(n), GIB1, VARIABLES).reason;
         if (reason != TP_DONE) give_up("mapping the GiB at %x is refused for reason %u", gib(n), reason);
     }
 }
@@ -59,7 +59,7 @@ static void foretell(struct place place) {
     must_be(&own, &place);
     for (enum access kind = READ; kind < ACCESSES; kind++) {
         if (tried == MOST_TRIED) give_up("too many accesses to try");
-        tries[tried++] = (struct tried){ place, kind, tp_look_up(&own, plain(place.va)) };
+        tries[tried++] = (struct tried){ place, kind, tp_look_up(&own, place.va) };
     }
 }
 
@@ -80,6 +80,8 @@ static void foretell_all(void) {
     foretell((struct place){ "its own pool", (uint64_t)own_pool, ABSENT, 0 });
     foretell((struct place){ "what the boot tables had", 0x100000, ABSENT, 0 });
     foretell((struct place){ "before the memory for buffers", DIRECT, ABSENT, 0 });
+    foretell((struct place){ "code without its high bits", (uint64_t)text_word & 0xffffffffffffull, NO_ADDRESS_THERE, 0 });
+    foretell((struct place){ "right below the upper half", UPPER - 8, NO_ADDRESS_THERE, 0 });
 }
 
 /* A write puts back what was read, and so does no harm. */
@@ -90,8 +92,8 @@ static void try_all(void) {
         struct foreseen foreseen = foresee(t->found, 0, 0, t->kind);
         uint64_t word = t->kind == WRITE && foreseen.cause == GOES ? read_word(va) : 0;
         struct outcome o = access_here(t->kind, va, word);
-        check(came(o, foreseen, va), "own tables: %s, %s at %x: faulted %u, error code %x, CR2 %x", t->place.name, access_name(t->kind), va,
-              o.faulted, o.error, o.address);
+        check(came(o, foreseen, va), "own tables: %s, %s at %x: faulted %u, vector %u, error code %x, CR2 %x", t->place.name,
+              access_name(t->kind), va, o.faulted, o.vector, o.error, o.address);
     }
 }
 
@@ -108,7 +110,7 @@ void live_in_own_tables(void) {
 }
 
 static void check_marks(const char *name, uint64_t va, uint64_t marks) {
-    uint64_t word = leaf_word(&own, plain(va));
+    uint64_t word = leaf_word(&own, va);
     check((word & (ACCESSED | DIRTY)) == marks, "own tables: %s at %x: the word is %x", name, va, word);
 }
 

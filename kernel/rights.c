@@ -32,7 +32,7 @@ void test_kernel_pages(void) {
     };
     for (unsigned n = 0; n < sizeof places / sizeof places[0]; n++) {
         must_be(&process_space, &places[n]);
-        agree(places[n].name, plain(places[n].va));
+        agree(places[n].name, places[n].va);
     }
     end_part("  its pages and the kernel's there, from ring 3 and ring 0");
 }

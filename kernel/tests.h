@@ -6,6 +6,7 @@
 
 void test_kernel_pages(void);
 void test_rights(void);
+void test_halves(void);
 void test_marks(void);
 void test_bits(void);
 void test_stale(void);

@@ -1,10 +1,10 @@
-/* Traps: page faults of accesses that may fault are noted; interrupts are orders to the second processor; any other trap is the end. */
+/* Traps: page faults, and general protection faults, of accesses that may fault are noted; interrupts are orders to the second processor; any other trap is the end. */
 #include "traps.h"
 #include "account.h"
 #include "machine.h"
 #include "second.h"
 
-enum { VECTORS = 66, PAGE_FAULT = 14, TASK = 0x28 };
+enum { VECTORS = 66, TASK = 0x28 };
 
 struct frame {
     uint64_t r15, r14, r13, r12, r11, r10, r9, r8, rdi, rsi, rbp, rbx, rdx, rcx, rax;
@@ -33,7 +33,7 @@ extern char trap_stubs[], first_stack_top[], second_stack_top[];
 typedef void probe(uint64_t va, uint64_t word, struct outcome *outcome);
 extern probe kernel_read, kernel_write, kernel_execute;
 extern probe process_read, process_write, process_execute;
-extern char kernel_fine[], kernel_faulted[], process_fine[], process_faulted[];
+extern char kernel_jump[], kernel_fine[], kernel_faulted[], process_jump[], process_fine[], process_faulted[];
 
 static struct gate gates[VECTORS];
 static struct task tasks[2];
@@ -44,26 +44,28 @@ void trap(struct frame *f);
 
 struct outcome access_here(enum access kind, uint64_t va, uint64_t word) {
     static probe *const probes[ACCESSES] = { kernel_read, kernel_write, kernel_execute };
-    struct outcome outcome = { 0, 0, 0, 0 };
+    struct outcome outcome = { 0, 0, 0, 0, 0 };
     probes[kind](va, word, &outcome);
     return outcome;
 }
 
-/* whether the fault is at an access that may fault, in that ring; then it goes on behind it */
-static int noted(struct frame *f, probe *read, probe *write, const char *fine, const char *faulted) {
-    int at_execute = f->r9 == (uint64_t)fine && f->rip == f->rdi;
+/* Whether the fault is at an access that may fault, in that ring; then it goes on behind it. A jump to what is no address faults there, or
+ * is itself what faults. */
+static int noted(struct frame *f, probe *read, probe *write, const char *jump, const char *fine, const char *faulted) {
+    int at_execute = f->r9 == (uint64_t)fine && (f->rip == f->rdi || (f->vector == GENERAL_PROTECTION && f->rip == (uint64_t)jump));
     if (f->rip != (uint64_t)read && f->rip != (uint64_t)write && !at_execute) return 0;
     f->rax = f->error;
     f->rcx = cr2();
+    f->r8 = f->vector;
     f->r9 = 0;
     f->rip = (uint64_t)faulted;
     return 1;
 }
 
 void trap(struct frame *f) {
-    int ring_3 = (f->cs & 3) == 3;
-    if (f->vector == PAGE_FAULT && ring_3 && noted(f, process_read, process_write, process_fine, process_faulted)) return;
-    if (f->vector == PAGE_FAULT && !ring_3 && noted(f, kernel_read, kernel_write, kernel_fine, kernel_faulted)) return;
+    int ring_3 = (f->cs & 3) == 3, fault = f->vector == PAGE_FAULT || f->vector == GENERAL_PROTECTION;
+    if (fault && ring_3 && noted(f, process_read, process_write, process_jump, process_fine, process_faulted)) return;
+    if (fault && !ring_3 && noted(f, kernel_read, kernel_write, kernel_jump, kernel_fine, kernel_faulted)) return;
     if (f->vector == ORDER) {
         second_ordered();
         return;

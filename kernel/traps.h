@@ -6,12 +6,16 @@
 
 enum access { READ, WRITE, EXECUTE, ACCESSES };
 
+/* vectors */
+enum { GENERAL_PROTECTION = 13, PAGE_FAULT = 14 };
+
 /* What came of one access. */
 struct outcome {
     uint64_t value; /* what was read, written, or said by what was executed */
     uint64_t faulted;
-    uint64_t error;   /* the error code of the page fault */
+    uint64_t error;   /* the error code of the fault */
     uint64_t address; /* CR2 */
+    uint64_t vector;
 };
 
 /* One access in ring 0, on this processor and in the tables that it lives in. */

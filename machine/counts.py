@@ -132,7 +132,7 @@ def alone(codes):
 
 def refused(codes):
     scene = Scene(codes, (0, 4096))
-    yield 'look-up beyond 2^48: the call alone', scene.look_up(1 << 48, 0)
+    yield 'look-up of no address: the call alone', scene.look_up(1 << 47, 5)
     yield 'look-up, nothing there', scene.look_up(4096, 0)
     yield 'unmap, refused: nothing starts', scene.unmap(4096, 9)
 

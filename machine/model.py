@@ -4,6 +4,13 @@ FRAME = (1 << 52) - (1 << 12)
 # Words of the book's header; behind its words come the ring, a slot for each page of the pool, and a count for each.
 MARK_AT, PAGES_AT, ROOT_AT, TICKETS_AT, FREE_AT, ASIDE_AT, HEAD_AT = range(7)
 HEADER = 16
+NO_ADDRESS = 'no address'
+BASE_RANGE, RIGHTS = 4, 25  # reasons
+
+
+def is_address(va):
+    """Canonical: bits 47 to 63 are all alike."""
+    return va >> 47 in (0, (1 << 17) - 1)
 
 
 def book_pages(pages):
@@ -32,7 +39,9 @@ class Tables:
         return self.word(self.start, k)
 
     def walk(self, va):
-        """(base, size, frame, rights) of the page that the address has, or None."""
+        """(base, size, frame, rights) of the page that the address has, or None; what is no address is said to be none."""
+        if not is_address(va):
+            return NO_ADDRESS
         page, writable, user, noexec = self.root, 1, 1, 0
         for level in (3, 2, 1, 0):
             word = self.word(page, va >> 12 + 9 * level & 511)
@@ -86,7 +95,7 @@ class Tables:
     # What each stores, as (word's number in the window, word); None where it should refuse.
 
     def map(self, base, frame, size, rights):
-        if rights > 7 or size not in SIZES or base % size or frame % size or base + size > 1 << 48 or frame + size > 1 << 52:
+        if rights > 7 or size not in SIZES or base % size or frame % size or not is_address(base) or frame + size > 1 << 52:
             return None
         pool = self.start << 12
         if pool < frame + size and frame < pool + (self.pages << 12):
@@ -111,8 +120,8 @@ class Tables:
         return stores
 
     def starts(self, base):
-        found = self.walk(base) if base < 1 << 48 else None
-        if not found or found[0] != base:
+        found = self.walk(base)
+        if found in (None, NO_ADDRESS) or found[0] != base:
             return None
         level = SIZES.index(found[1])
         return level, self.path(base, level)[0]
@@ -147,3 +156,10 @@ class Tables:
         if due > aside:
             return None
         return [self.put(FREE_AT, free + due), self.put(ASIDE_AT, aside - due), self.put(TICKETS_AT, tickets + due)]
+
+    @staticmethod
+    def refusal(base, size, frame, rights):
+        """The reason of a base that is no address, where nothing that is asked before it is wrong."""
+        if is_address(base) or size not in SIZES or base % size or frame % size:
+            return None
+        return RIGHTS if rights > 7 else BASE_RANGE

@@ -2,7 +2,7 @@
 """stores PROGRAM [PREFIX]: random operations of the library's x86-64 code, and every store of each held to what it should be:
 one aligned store of 8 bytes for each planned write, in the planned order; after every single store the tables mean to each sampled
 address what they meant before the operation or what they mean after it, and it turns at one store only; no store into a page that
-is set aside; none outside the pool. No load is beyond the window, and an entry of a linked table is loaded once in an operation, by one
+is set aside; none outside the pool. Bases are of both halves and of the hole between them. No load is beyond the window, and an entry of a linked table is loaded once in an operation, by one
 load; but a map that could not be done at once begins anew at the root, before any store. Look-up loads each entry of the way once, whole, from
 the root down, and nothing else; entry loads one; and neither they nor state store anything. The last line counts the operations."""
 import os
@@ -10,16 +10,24 @@ import random
 import sys
 
 from emulated import WINDOW, Code, Wrong
-from model import SIZES, Tables
+from model import NO_ADDRESS, SIZES, Tables, is_address
 
 ORIGIN = 0x40_0000
 # an entry is loaded whole; or its first half or byte, where the compiler saw that only bit 0 is looked at
 PARTS = (8, 4, 1)
 SLACK = 2  # pages of the window that are not of the pool
+EDGES = (0, (1 << 47) - 1, 1 << 47, (1 << 64) - (1 << 47) - 1, (1 << 64) - (1 << 47), (1 << 64) - 1)
 
 
 def plain(tables, operation, arguments):
     return {'tp_raw_map': tables.map, 'tp_raw_unmap': tables.unmap, 'tp_raw_protect': tables.protect, 'tp_raw_told': tables.told}[operation](*arguments)
+
+
+def asked(operation, arguments):
+    """Size, frame and rights, as far as the operation has them."""
+    if operation == 'tp_raw_map':
+        return arguments[2], arguments[1], arguments[3]
+    return 4096, 0, arguments[1] if operation == 'tp_raw_protect' else 0
 
 
 class Night:
@@ -36,12 +44,16 @@ class Night:
         if answer != (0, self.tables.root << 12):
             raise Wrong(f'create answered {answer}')
         self.pool = (ORIGIN, ORIGIN, self.pages, self.tables.root << 12)
-        self.aside, self.tickets, self.mapped = [], 0, []
+        self.aside, self.tickets, self.mapped, self.refused = [], 0, [], 0
 
     def base(self, size):
+        """In either half, and now and then in the hole: with a bit from 47 on turned over, or without the high bits."""
         dice = self.dice
-        top = dice.choice((0, 0, 1, 511))
-        return (top << 39 | dice.choice((0, 1, 511)) << 30 | dice.choice((0, 7, 511)) << 21 | dice.choice((0, 3, 511)) << 12) & -size
+        top = dice.choice((0, 0, 1, 255, 256, 511))
+        va = (top << 39 | dice.choice((0, 1, 511)) << 30 | dice.choice((0, 7, 511)) << 21 | dice.choice((0, 3, 511)) << 12) & -size
+        odd = dice.random()
+        high = 0xffff << 48 if top >= 256 and odd > 0.05 else 0
+        return (va | high) ^ (1 << dice.randrange(47, 64) if odd > 0.95 else 0)
 
     def choose(self):
         dice = self.dice
@@ -70,7 +82,8 @@ class Night:
             base = arguments[0]
             size = arguments[2] if operation == 'tp_raw_map' else 4096
             samples |= {base, base - 1, base + size - 1, base + size}
-        return sorted(va for va in samples if 0 <= va < 1 << 48)
+        samples |= {self.dice.choice(EDGES)}
+        return sorted(va for va in samples if 0 <= va < 1 << 64)
 
     def step(self):
         self.mark()
@@ -84,8 +97,10 @@ class Night:
         samples = self.sampled(operation, arguments)
         old, new = [tables.walk(va) for va in samples], [then.walk(va) for va in samples]
         answer = self.code.call(operation, *self.pool, *arguments)
-        if (answer[0] == 0) != (planned is not None):
+        refusal = tables.refusal(arguments[0], *asked(operation, arguments)) if operation != 'tp_raw_told' else None
+        if (answer[0] == 0) != (planned is not None) or refusal and answer[0] != refusal:
             raise Wrong(f'{what} answered {answer}')
+        self.refused += refusal is not None
         self.held(what, before, planned or [], samples, old, new)
         if bytes(self.code.window()) != bytes(tables.words.cast('B')):
             raise Wrong(f'{what} left bytes that no recorded store put there')
@@ -100,6 +115,11 @@ class Night:
     def look_up(self, va):
         """One load for each entry of the way, in its order, as a processor makes them; and the same of the last entry alone."""
         tables, code, what = self.tables, self.code, f'look-up of {va:#x}'
+        if not is_address(va):
+            answer = code.call('tp_raw_look_up', ORIGIN, self.pool[3], va)
+            if answer != (5, 0, 0, 0, 0) or tables.walk(va) != NO_ADDRESS or code.loads or code.stores:
+                raise Wrong(f'{what}, which is no address, answered {answer}, and loads {code.loads}')
+            return
         way, word = tables.path(va, 0)
         entries = [(8 * tables.at(page, va >> 12 + 9 * (3 - n) & 511), 8) for n, page in enumerate(way)]
         found = tables.walk(va)
@@ -176,17 +196,23 @@ def main():
     seed = int(os.environ.get('TABLEPATH_SEED') or random.SystemRandom().randrange(1 << 32))
     operations = int(os.environ.get('TABLEPATH_OPERATIONS') or 4000)
     print(f'seed {seed}: {operations} operations, every load and store watched')
-    dice, done = random.Random(seed), 0
+    dice, done, refused = random.Random(seed), 0, 0
     try:
         while done < operations:
             night = Night(code, dice)
             for _ in range(100):
                 night.step()
                 done += 1
+            refused += night.refused
     except Wrong as wrong:
         print(f'operation {done}: {wrong}')
         print(f'{done} passed, 1 failed')
         return 1
+    if refused < operations // 40:
+        print(f'only {refused} bases were no addresses')
+        print(f'{done} passed, 1 failed')
+        return 1
+    print(f'{refused} bases that are no address, refused as such')
     print(f'{done} passed, 0 failed')
     return 0
 

@@ -6,8 +6,8 @@ use crate::book::{
     TICKETS,
 };
 use crate::words::{
-    frame, index, is_page, page_word, present, reserved, rights, size, table, table_word, with_rights, END, LIMIT,
-    PAGE, ROOT_LEVEL,
+    canonical, frame, index, is_page, page_word, present, reserved, rights, size, table, table_word, with_rights,
+    LIMIT, PAGE, ROOT_LEVEL,
 };
 use crate::{Meaning, Protected, Reason, Space, Unmapped};
 
@@ -103,8 +103,8 @@ impl<'a> Pool<'a> {
     /// The page that starts exactly at the base.
     #[inline]
     fn find(&self, base: u64) -> Result<Spot, Reason> {
-        if base >= END {
-            return Err(Reason::NothingStarts);
+        if !canonical(base) {
+            return Err(Reason::BaseRange);
         }
         let mut way = [0; 4];
         let mut at = self.root;
@@ -234,7 +234,7 @@ pub fn map(mem: &mut [u8], space: &Space, base: u64, frame: u64, size: u64, righ
     if frame & (size - 1) != 0 {
         return Err(Reason::FrameUnaligned);
     }
-    if base > END - size {
+    if !canonical(base) {
         return Err(Reason::BaseRange);
     }
     if frame > LIMIT - size {
@@ -365,8 +365,8 @@ pub fn told(mem: &mut [u8], space: &Space, ticket: u64) -> Result<u64, Reason> {
 
 /// What the address means in the tables below this root, for any bytes; the root is given as in CR3.
 pub fn look_up(mem: &[u8], origin: u64, root: u64, va: u64) -> Meaning {
-    if va >= END {
-        return Meaning::Nothing;
+    if !canonical(va) {
+        return Meaning::NoAddress;
     }
     let (mut all, mut any) = (!0, 0);
     let mut at = table(root);

@@ -106,4 +106,5 @@ pub enum Meaning {
     },
     /// The way leads to a table that is not wholly in the window.
     Outside,
+    NoAddress,
 }

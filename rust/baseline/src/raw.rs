@@ -1,9 +1,10 @@
 //! Unchecked reads and writes: the same operations and bytes on tables and books that these operations made, and no refusal
-//! but of what cannot be done: a range that overlaps, a pool that runs dry, a base where no page starts.
+//! but of what cannot be done: a range that overlaps, a pool that runs dry, a base where no page starts or that is no address.
 
 use crate::book::{book_pages, new_header, Book, ASIDE, FREE, HEAD, SLOTS, TICKETS};
 use crate::words::{
-    frame, index, is_page, page_word, present, rights, size, table, table_word, with_rights, END, PAGE, ROOT_LEVEL,
+    canonical, frame, index, is_page, page_word, present, rights, size, table, table_word, with_rights, PAGE,
+    ROOT_LEVEL,
 };
 use crate::{Meaning, Protected, Reason, Space, Unmapped};
 
@@ -146,8 +147,8 @@ pub unsafe fn map(mem: *mut u8, space: &Space, base: u64, frame: u64, size: u64,
 /// As for `map`; any base.
 pub unsafe fn unmap(mem: *mut u8, space: &Space, base: u64) -> Result<Unmapped, Reason> {
     let memory = Memory { mem, origin: space.origin };
-    if base >= END {
-        return Err(Reason::NothingStarts);
+    if !canonical(base) {
+        return Err(Reason::BaseRange);
     }
     let (level, word, way) = memory.find(space.root, base)?;
     let (frame, size) = (frame(level, word), size(level));
@@ -177,8 +178,8 @@ pub unsafe fn unmap(mem: *mut u8, space: &Space, base: u64) -> Result<Unmapped, 
 /// As for `map`; any base.
 pub unsafe fn protect(mem: *mut u8, space: &Space, base: u64, rights: u64) -> Result<Protected, Reason> {
     let memory = Memory { mem, origin: space.origin };
-    if base >= END {
-        return Err(Reason::NothingStarts);
+    if !canonical(base) {
+        return Err(Reason::BaseRange);
     }
     let (level, word, way) = memory.find(space.root, base)?;
     memory.put(way[level], index(level, base), with_rights(word, rights));
@@ -202,8 +203,8 @@ pub unsafe fn told(mem: *mut u8, space: &Space, ticket: u64) -> u64 {
 /// As for `map`; the root of that pool, and any address.
 pub unsafe fn look_up(mem: *const u8, origin: u64, root: u64, va: u64) -> Meaning {
     let memory = Memory { mem: mem.cast_mut(), origin };
-    if va >= END {
-        return Meaning::Nothing;
+    if !canonical(va) {
+        return Meaning::NoAddress;
     }
     let (mut all, mut any) = (!0, 0);
     let mut at = table(root);

@@ -7,8 +7,8 @@ pub const NOEXEC: u64 = 4;
 
 pub const PAGE: u64 = 4096;
 pub const ROOT_LEVEL: usize = 3;
-/// Addresses end here, and physical addresses there.
-pub const END: u64 = 1 << 48;
+/// How much of the addresses each half has; and where physical addresses end.
+const HALF: u64 = 1 << 47;
 pub const LIMIT: u64 = 1 << 52;
 
 const PRESENT: u64 = 1;
@@ -19,6 +19,12 @@ const ADDRESS: u64 = LIMIT - PAGE;
 const RIGHTS: u64 = 1 << 63 | 6;
 /// Present, writable and the user's: what the entry of a table grants.
 const TABLE: u64 = 7;
+
+/// Is the number an address? The lower half is up to 2^47, the upper one from 2^64 - 2^47 on.
+#[inline]
+pub const fn canonical(va: u64) -> bool {
+    va.wrapping_add(HALF) < 2 * HALF
+}
 
 /// What one entry of the level covers.
 #[inline]

@@ -160,9 +160,9 @@ fn busy(size: u64, name: &str) -> Scene {
 fn nothing() -> Scene {
     let at = entries(PAGE, BUSY, 0);
     let holes = entries(PAGE, BUSY, 1);
-    let beyond: Vec<u64> = at.iter().map(|va| va | 1 << 48).collect();
+    let none: Vec<u64> = at.iter().map(|va| va | 1 << 47).collect();
     let parts = vec![
-        part("look-up beyond 2^48: the call alone", Work::LookUp, &beyond).repeated(64).refused(),
+        part("look-up of no address: the call alone", Work::LookUp, &none).repeated(64).refused(),
         part("look-up, nothing there", Work::LookUp, &holes).repeated(64).refused(),
         part("unmap, refused: nothing starts", Work::Unmap, &holes).repeated(64).refused(),
     ];

@@ -24,7 +24,7 @@ pub struct Translation {
 
 impl Translation {
     fn serves(&self, va: u64) -> bool {
-        (self.page.base..self.page.base + self.page.size).contains(&va)
+        va.wrapping_sub(self.page.base) < self.page.size
     }
 }
 

@@ -12,7 +12,8 @@ use std::collections::BTreeSet;
 /// The indices of the addresses that are used, the same ones at each level: what a walk reads in a table that was used again
 /// is an entry that may well be there.
 const INDICES: [u64; 2] = [5, 511];
-const TOPS: [u64; 2] = [0, 255];
+/// Where the root's entries begin that are used: the first of all, and the last, so that the last page of all is among the pages.
+const TOPS: [u64; 2] = [0, 0xffff_ff80_0000_0000];
 const ORIGIN: u64 = 0x4000_0000;
 
 /// What the walks know.
@@ -33,7 +34,7 @@ impl Sight {
         }
         assert!(pages.len() <= 64, "a bit for each page");
         let bits = |va: &u64| {
-            let within = |page: &(u64, u64)| u64::from((page.0..page.0 + page.1).contains(va));
+            let within = |page: &(u64, u64)| u64::from(va.wrapping_sub(page.0) < page.1);
             pages.iter().enumerate().map(|(bit, page)| within(page) << bit).sum()
         };
         let lies_in = watched.iter().map(bits).collect();
@@ -57,7 +58,7 @@ fn bases() -> impl Iterator<Item = u64> {
         each(GIB1).into_iter().flat_map(move |high| {
             each(MIB2)
                 .into_iter()
-                .flat_map(move |middle| each(KIB4).into_iter().map(move |low| top * (512 * GIB1) + high + middle + low))
+                .flat_map(move |middle| each(KIB4).into_iter().map(move |low| top + high + middle + low))
         })
     })
 }
@@ -80,7 +81,7 @@ impl Scene {
         assert_eq!((made.reason, made.root), (0, ledger.space.root), "the pool is made");
         let mut watched: Vec<u64> = bases().map(|base| base + random.below(KIB4)).collect();
         // Beside them: what only a large page covers.
-        watched.extend([GIB1 * 5 + 7 * MIB2, GIB1 * 5 + MIB2 * 5 + 9 * KIB4, GIB1 * 511, 0]);
+        watched.extend([GIB1 * 5 + 7 * MIB2, GIB1 * 5 + MIB2 * 5 + 9 * KIB4, TOPS[1] + GIB1 * 511, 0]);
         let sight = Sight::new(ledger.space.root, watched);
         (Scene { random, ledger }, sight, words)
     }

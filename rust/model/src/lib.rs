@@ -43,9 +43,16 @@ pub struct Rights {
 
 #[derive(Clone, Copy, PartialEq, Eq, Debug)]
 pub enum Answer {
-    Page { base: u64, size: u64, frame: u64, rights: Rights },
+    Page {
+        base: u64,
+        size: u64,
+        frame: u64,
+        rights: Rights,
+    },
     Nothing,
     Outside,
+    /// The number is no address, and the machine does not walk for it: it is a general protection fault.
+    NoAddress,
 }
 
 /// The four entries of a way, from the root, as the manual calls them.
@@ -126,8 +133,8 @@ impl Walker<'_> {
     }
 
     fn page(&mut self, cr3: u64, va: u64) -> Result<Page, End> {
-        // The lower half alone: what the machine calls canonical above it is no address here.
-        if bits(va, 63, 48) != 0 {
+        // "Canonical Addressing": bits 63:48 are the same as bit 47.
+        if bits(va, 63, 48) != if bit(va, 47) { 0xffff } else { 0 } {
             return Err(End::NoAddress);
         }
 
@@ -148,7 +155,7 @@ impl Walker<'_> {
                 return Err(End::Reserved(Kind::Pdpte));
             }
             let frame = bits(pdpte, 51, 30) << 30;
-            return Ok(Page { kind: Kind::Pdpte, base: bits(va, 47, 30) << 30, size: 1 << 30, frame });
+            return Ok(Page { kind: Kind::Pdpte, base: bits(va, 63, 30) << 30, size: 1 << 30, frame });
         }
         let pd = bits(pdpte, 51, 12) << 12;
 
@@ -159,13 +166,13 @@ impl Walker<'_> {
                 return Err(End::Reserved(Kind::Pde));
             }
             let frame = bits(pde, 51, 21) << 21;
-            return Ok(Page { kind: Kind::Pde, base: bits(va, 47, 21) << 21, size: 2 << 20, frame });
+            return Ok(Page { kind: Kind::Pde, base: bits(va, 63, 21) << 21, size: 2 << 20, frame });
         }
         let pt = bits(pde, 51, 12) << 12;
 
         // "Format of a Page-Table Entry that Maps a 4-KByte Page": 7 is PAT, and nothing is reserved.
         let pte = self.present(Kind::Pte, pt, bits(va, 20, 12))?;
-        Ok(Page { kind: Kind::Pte, base: bits(va, 47, 12) << 12, size: 4 << 10, frame: bits(pte, 51, 12) << 12 })
+        Ok(Page { kind: Kind::Pte, base: bits(va, 63, 12) << 12, size: 4 << 10, frame: bits(pte, 51, 12) << 12 })
     }
 }
 
@@ -178,6 +185,7 @@ pub fn walk(window: Window, cr3: u64, va: u64) -> Walk {
             (Answer::Page { base, size, frame, rights: walker.rights }, End::Page(kind))
         }
         Err(end @ End::Outside(_)) => (Answer::Outside, end),
+        Err(end @ End::NoAddress) => (Answer::NoAddress, end),
         Err(end) => (Answer::Nothing, end),
     };
     Walk { answer, end, way: walker.way }

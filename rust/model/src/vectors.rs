@@ -89,6 +89,7 @@ pub fn vectors() -> Vec<Vector> {
     reserved(&mut list);
     rights(&mut list);
     addresses(&mut list);
+    edges(&mut list);
     windows(&mut list);
     list.0
 }
@@ -158,17 +159,60 @@ fn addresses(list: &mut List) {
     list.add("the first byte of the page", bytes(), ROOT, ROOT, BASE_4K, at);
     list.add("the last byte of the page", bytes(), ROOT, ROOT, 0x7f12_3456_7fff, at);
     list.add("the byte after it", bytes(), ROOT, ROOT, 0x7f12_3456_8000, Answer::Nothing);
-    for bit in 48..=63 {
-        list.add(format!("bit {bit} of the address"), bytes(), ROOT, ROOT, VA | 1 << bit, Answer::Nothing);
+    for bit in 47..=63 {
+        list.add(format!("bit {bit} of the address"), bytes(), ROOT, ROOT, VA | 1 << bit, Answer::NoAddress);
     }
+    list.add("bits 47 to 63 of the address: another", bytes(), ROOT, ROOT, VA | 0x1_ffff << 47, Answer::Nothing);
 
     // A root whose last entry names the root: read as the entry of each level, and the page is the root's own.
     let mut own = vec![0; 4096];
     own[4088..].copy_from_slice(&0x1007u64.to_le_bytes());
-    let last = Answer::Page { base: 0xffff_ffff_f000, size: 0x1000, frame: 0x1000, rights: ALL };
-    list.add("the last page of all, through the root four times", own.clone(), ROOT, ROOT, 0xffff_ffff_ffff, last);
-    list.add("the first address that is none", own.clone(), ROOT, ROOT, 0x1_0000_0000_0000, Answer::Nothing);
-    list.add("all ones", own, ROOT, ROOT, u64::MAX, Answer::Nothing);
+    let last = Answer::Page { base: 0xffff_ffff_ffff_f000, size: 0x1000, frame: 0x1000, rights: ALL };
+    list.add("the last page of all, through the root four times", own.clone(), ROOT, ROOT, 0xffff_ffff_ffff_f000, last);
+    list.add("the last address of all", own.clone(), ROOT, ROOT, 0xffff_ffff_ffff_ffff, last);
+    list.add("the same walk without the high bits", own.clone(), ROOT, ROOT, 0xffff_ffff_ffff, Answer::NoAddress);
+    for bit in 47..=63 {
+        let va = 0xffff_ffff_ffff_ffff ^ 1 << bit;
+        list.add(format!("all ones but bit {bit}"), own.clone(), ROOT, ROOT, va, Answer::NoAddress);
+    }
+}
+
+/// The edges of the two halves, and of the hole between them: an empty root, and one whose 512 entries are all alike, so that every address is
+/// in a page of 4 KiB, of 2 MiB or of 1 GiB.
+fn edges(list: &mut List) {
+    let full = |word: u64| word.to_le_bytes().repeat(512);
+    // The root, the tables that all its entries name, and so on, up to the page.
+    let small = [full(TO_0X2000), full(TO_0X3000), full(TO_0X4000), full(0x123_4007)].concat();
+    let middle = [full(TO_0X2000), full(TO_0X3000), full(0x4000_0087)].concat();
+    let large = [full(TO_0X2000), full(0xc000_0087)].concat();
+    // What is asked, and the bases of its page of 4 KiB, of 2 MiB and of 1 GiB.
+    for (va, bases) in [
+        (0x0000_0000_0000_0000, [0, 0, 0]),
+        (0x0000_7fff_ffff_ffff, [0x0000_7fff_ffff_f000, 0x0000_7fff_ffe0_0000, 0x0000_7fff_c000_0000]),
+        (0xffff_8000_0000_0000, [0xffff_8000_0000_0000, 0xffff_8000_0000_0000, 0xffff_8000_0000_0000]),
+        (0xffff_ffff_ffff_ffff, [0xffff_ffff_ffff_f000, 0xffff_ffff_ffe0_0000, 0xffff_ffff_c000_0000]),
+    ] {
+        let page = |base, size, frame| Answer::Page { base, size, frame, rights: ALL };
+        list.add(format!("{va:#x}, empty"), full(0), ROOT, ROOT, va, Answer::Nothing);
+        list.add(format!("{va:#x}, 4 KiB"), small.clone(), ROOT, ROOT, va, page(bases[0], 0x1000, 0x123_4000));
+        list.add(format!("{va:#x}, 2 MiB"), middle.clone(), ROOT, ROOT, va, page(bases[1], 0x20_0000, 0x4000_0000));
+        list.add(format!("{va:#x}, 1 GiB"), large.clone(), ROOT, ROOT, va, page(bases[2], 0x4000_0000, 0xc000_0000));
+    }
+    for va in [
+        0x0000_8000_0000_0000,
+        0x0000_ffff_ffff_ffff,
+        0x0001_0000_0000_0000,
+        0x7fff_ffff_ffff_ffff,
+        0x8000_0000_0000_0000,
+        0xffff_0000_0000_0000,
+        0xffff_7fff_ffff_ffff,
+    ] {
+        for (bytes, name) in
+            [(full(0), "empty"), (small.clone(), "4 KiB"), (middle.clone(), "2 MiB"), (large.clone(), "1 GiB")]
+        {
+            list.add(format!("{va:#x}, {name}"), bytes, ROOT, ROOT, va, Answer::NoAddress);
+        }
+    }
 }
 
 fn windows(list: &mut List) {
@@ -179,7 +223,7 @@ fn windows(list: &mut List) {
     list.add("the window lacks the last table's last byte", bytes[..0x3fff].to_vec(), ROOT, ROOT, VA, Answer::Outside);
     list.add("the root is below the window", bytes[0x1000..].to_vec(), 0x2000, ROOT, VA, Answer::Outside);
     list.add("the last table is above the window", bytes[..0x3000].to_vec(), ROOT, ROOT, VA, Answer::Outside);
-    list.add("no address, and no root", vec![], ROOT, ROOT, 1 << 48, Answer::Nothing);
+    list.add("no address, and no root", vec![], ROOT, ROOT, 1 << 47, Answer::NoAddress);
 
     // Bytes around the tables, so that the window begins and ends anywhere.
     for (before, after) in [(1, 0), (3, 5), (4095, 1), (7, 4097)] {
@@ -190,9 +234,16 @@ fn windows(list: &mut List) {
     }
     let mut last = vec![0; 4096];
     last[4088..].copy_from_slice(&0xf_ffff_ffff_f007u64.to_le_bytes());
-    let own = Answer::Page { base: 0xffff_ffff_f000, size: 0x1000, frame: 0xf_ffff_ffff_f000, rights: ALL };
+    let own = Answer::Page { base: 0xffff_ffff_ffff_f000, size: 0x1000, frame: 0xf_ffff_ffff_f000, rights: ALL };
     let top = 0xf_ffff_ffff_f000;
-    list.add("tables in the last page that an entry can name", last.clone(), top, top, 0xffff_ffff_f000, own);
-    list.add("a window after it", last.clone(), 1 << 52, 1 << 52, 0xffff_ffff_f000, Answer::Outside);
-    list.add("a window at the end of all numbers", last, 0xffff_ffff_ffff_f000, top, 0xffff_ffff_f000, Answer::Outside);
+    list.add("tables in the last page that an entry can name", last.clone(), top, top, 0xffff_ffff_ffff_f000, own);
+    list.add("a window after it", last.clone(), 1 << 52, 1 << 52, 0xffff_ffff_ffff_f000, Answer::Outside);
+    list.add(
+        "a window at the end of all numbers",
+        last,
+        0xffff_ffff_ffff_f000,
+        top,
+        0xffff_ffff_ffff_f000,
+        Answer::Outside,
+    );
 }

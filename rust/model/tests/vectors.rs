@@ -6,7 +6,7 @@ use model::{walk, Window};
 #[test]
 fn every_vector() {
     let list = vectors();
-    assert!(list.len() > 150, "only {} vectors", list.len());
+    assert!(list.len() > 210, "only {} vectors", list.len());
     for vector in &list {
         let walk = walk(vector.window(), vector.cr3, vector.va);
         assert_eq!(walk.answer, vector.answer, "{}", vector.says);

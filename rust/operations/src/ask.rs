@@ -126,7 +126,7 @@ impl fmt::Display for Answer {
         let name = REASONS.get(reason as usize).unwrap_or(&"?");
         match self {
             Answer::LookedUp(LookedUp { kind, base, size, frame, rights }) => {
-                let kind = ["nothing", "page", "outside"].get(*kind as usize).unwrap_or(&"?");
+                let kind = ["nothing", "page", "outside", "?", "?", "no address"].get(*kind as usize).unwrap_or(&"?");
                 write!(to, "{kind}, base {base:#x}, size {size:#x}, frame {frame:#x}, rights {rights:#b}")
             }
             Answer::Created(Created { root, .. }) => write!(to, "{reason} ({name}), root {root:#x}"),

@@ -44,6 +44,8 @@ impl Tree<'_> {
             }
             empty = false;
             let base = base + index as u64 * size;
+            // The upper half of the root's entries is that of the addresses.
+            let base = if size == 1 << 39 && index >= 256 { base + (0xffff << 48) } else { base };
             self.entry(word, base, size).map_err(|why| format!("{why}: {word:#x}, entry {index} of page {page:#x}"))?;
         }
         if empty && page != self.space.root / 4096 {

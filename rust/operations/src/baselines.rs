@@ -51,6 +51,7 @@ fn looked_up(answer: Meaning) -> LookedUp {
     match answer {
         Meaning::Nothing => LookedUp::default(),
         Meaning::Outside => LookedUp { kind: 2, ..LookedUp::default() },
+        Meaning::NoAddress => LookedUp { kind: 5, ..LookedUp::default() },
         Meaning::Page { base, size, frame, rights } => LookedUp { kind: 1, base, size, frame, rights },
     }
 }

@@ -1,6 +1,6 @@
 //! Scenes at random: where the pool lies, and what is asked; most of it makes sense, and much of it is at an edge.
 
-use crate::ledger::{GIB1, KIB4, MIB2, PHYSICAL, SIZES, TOP};
+use crate::ledger::{EDGES, GIB1, KIB4, LOWER, MIB2, PHYSICAL, SIZES, UPPER};
 use crate::random::Random;
 use crate::steps::{Hints, Setup, Step};
 use crate::{Request, Space};
@@ -129,14 +129,18 @@ impl Scene {
         let mut frame = self.frame(space, grid);
         let random = &mut self.random;
         if odd && random.chance(1, 4) {
+            // Many of the hole: its ends, an address without its high bits or with one turned over.
             base = random.pick(&[
-                TOP,
-                TOP + grid,
+                LOWER,
+                UPPER - grid,
                 base ^ 1,
                 base + grid / 2,
-                base | 1 << 63,
+                base % (1 << 48),
+                base ^ 1 << (47 + base % 17),
+                base ^ 1 << 63,
                 random_word(base),
-                TOP - grid + 8,
+                random_word(base) / grid * grid,
+                LOWER - grid + 8,
             ]);
         }
         if odd && random.chance(1, 4) {
@@ -152,21 +156,23 @@ impl Scene {
         Request::Map { space, base, frame, size, rights: self.rights() }
     }
 
-    /// An address for a page: of few that are often asked for, so that pages meet; and the first and last of all.
+    /// An address for a page: of few that are often asked for, so that pages meet; and the first and last of both halves.
     fn base(&mut self, hints: &Hints, size: u64) -> u64 {
         let random = &mut self.random;
         match random.below(24) {
             0 => 0,
-            1 => TOP - size,
+            1 => 0u64.wrapping_sub(size),
+            8 => LOWER - size,
+            9 => UPPER,
             2..=6 if !hints.pages.is_empty() => {
                 let (base, other) = random.pick(&hints.pages);
-                let next = if random.chance(1, 2) { base + other } else { base.wrapping_sub(size) };
-                next % TOP / size * size
+                let next = if random.chance(1, 2) { base.wrapping_add(other) } else { base.wrapping_sub(size) };
+                canonical(next) / size * size
             }
-            7 => random.below(TOP) / size * size,
+            7 => canonical(random.word()) / size * size,
             _ => {
                 let va = self.indices.iter().fold(0, |va, some| va << 9 | some[random.index(some.len())]);
-                (va << 12) / size * size
+                canonical(va << 12) / size * size
             }
         }
     }
@@ -202,7 +208,10 @@ impl Scene {
     fn base_of_page(&mut self, hints: &Hints, odd: bool) -> u64 {
         if odd && self.random.chance(1, 3) {
             let near = self.address(hints);
-            return self.random.pick(&[near, near / KIB4 * KIB4, TOP, u64::MAX, near | 1 << 48, near | 1 << 63]);
+            let base = near / KIB4 * KIB4;
+            let turned = base ^ 1 << (47 + self.random.below(17));
+            let edge = self.random.pick(&EDGES);
+            return self.random.pick(&[near, base, edge, LOWER, base % (1 << 48), turned, base ^ 1 << 63]);
         }
         if hints.pages.is_empty() || self.random.chance(1, 10) {
             let size = self.random.pick(&SIZES);
@@ -231,7 +240,9 @@ impl Scene {
         // CR3 has bits that are no address.
         let mut root = space.root | random.word() & 0xfff0_0000_0000_0fff;
         if random.chance(1, 8) {
-            va = random.pick(&[va | 1 << 48, TOP, TOP - 1, u64::MAX, va ^ 1 << 47, random_word(va)]);
+            let turned = va ^ 1 << (47 + random.below(17));
+            let edge = random.pick(&EDGES);
+            va = random.pick(&[turned, edge, va % (1 << 48), random_word(va), canonical(random_word(va))]);
         }
         if random.chance(1, 8) {
             root = random.pick(&[space.end(), space.pool, space.origin.wrapping_sub(KIB4), random_word(root)]);
@@ -305,6 +316,16 @@ impl Scene {
             }
         }
         Request::Create { origin, pool, pages }
+    }
+}
+
+/// The address with these low 48 bits.
+pub fn canonical(va: u64) -> u64 {
+    let low = va % (1 << 48);
+    if low < LOWER {
+        low
+    } else {
+        low + (0xffff << 48)
     }
 }
 

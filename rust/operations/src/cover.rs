@@ -1,6 +1,6 @@
 //! What was asked: so that a run which never came to some size, reason or edge does not pass for a test of it.
 
-use crate::ledger::{Ledger, GIB1, KIB4, MIB2, PHYSICAL, SIZES, TOP};
+use crate::ledger::{is_address, Ledger, GIB1, KIB4, LOWER, MIB2, PHYSICAL, SIZES, UPPER};
 use crate::steps::Setup;
 use crate::{Answer, Request, REASONS};
 use std::collections::BTreeMap;
@@ -15,6 +15,15 @@ pub enum Sort {
     /// Anything, of bytes that are damaged.
     Damaged,
 }
+
+const ENDS: [&str; 6] = [
+    "first page of all",
+    "last page of the lower half",
+    "first page of the upper half",
+    "last page of all",
+    "in the lower half",
+    "in the upper half",
+];
 
 #[derive(Default)]
 pub struct Cover {
@@ -65,10 +74,13 @@ impl Cover {
                         if ledger.free == 0 && mapped.tables > 0 {
                             self.add(format!("map takes the last {}", mapped.tables));
                         }
-                        self.edges(setup, base, frame, size);
+                        self.edges(setup, frame, size);
                     }
+                    self.ends("map", base, size);
                 }
-                4 if base == TOP => self.add("map at 2^48"),
+                4 if base == LOWER => self.add("map at 2^47"),
+                4 if base == UPPER - size => self.add("map right below the upper half"),
+                4 if base < 1 << 48 => self.add("map without the high bits of the upper half"),
                 6 => self.frame_in_pool(setup, frame, size),
                 8 => {
                     if let (Some(ledger), Some(free)) = (ledger, free) {
@@ -77,10 +89,12 @@ impl Cover {
                 }
                 _ => {}
             },
-            (Request::Unmap { .. }, Answer::Unmapped(unmapped)) if unmapped.reason == 0 => {
+            (Request::Unmap { base, .. }, Answer::Unmapped(unmapped)) if unmapped.reason == 0 => {
+                self.ends("unmap", base, unmapped.size);
                 self.add(format!("unmap {}, {} set aside", name(unmapped.size), unmapped.aside));
             }
-            (Request::Protect { .. }, Answer::Protected(protected)) if protected.reason == 0 => {
+            (Request::Protect { base, .. }, Answer::Protected(protected)) if protected.reason == 0 => {
+                self.ends("protect", base, protected.size);
                 self.add(format!("protect {}", name(protected.size)));
             }
             (Request::Told { .. }, Answer::Told(told)) if told.reason == 0 => {
@@ -93,17 +107,33 @@ impl Cover {
             }
             (Request::Create { .. }, Answer::Created(created)) if created.reason == 0 => self.add("create done"),
             (Request::LookUp { .. }, Answer::LookedUp(found)) => {
-                self.add(["look_up nothing", "look_up page", "look_up outside"][found.kind as usize]);
+                self.add(
+                    ["look_up nothing", "look_up page", "look_up outside", "?", "?", "look_up no address"]
+                        [found.kind as usize],
+                );
+                if found.kind == 1 {
+                    self.ends("look_up", found.base, found.size);
+                }
             }
             _ => {}
         }
     }
 
-    fn edges(&mut self, setup: &Setup, base: u64, frame: u64, size: u64) {
+    /// Where a page lies: in which half, and whether it is its first or its last.
+    fn ends(&mut self, what: &str, base: u64, size: u64) {
+        debug_assert!(is_address(base));
+        let last = base + (size - 1);
+        let ends = [base == 0, last == LOWER - 1, base == UPPER, last == u64::MAX, base < LOWER, base >= UPPER];
+        for (end, holds) in ENDS.into_iter().zip(ends) {
+            if holds {
+                self.add(format!("{what} {end}, {}", name(size)));
+            }
+        }
+    }
+
+    fn edges(&mut self, setup: &Setup, frame: u64, size: u64) {
         let end = setup.space().end();
         let edges = [
-            ("first page of all", base == 0),
-            ("last page of all", base + size == TOP),
             ("first frame", frame == 0),
             ("last frame", frame + size == PHYSICAL),
             ("frame right before the pool", frame + size == setup.pool),
@@ -145,8 +175,17 @@ impl Cover {
         }
         need(100, "look_up nothing".into());
         need(100, "look_up page".into());
+        need(50, "look_up no address".into());
         for request in ["unmap", "protect"] {
             need(200, format!("{request} NothingStarts"));
+            need(50, format!("{request} BaseRange"));
+        }
+        for size in SIZES.map(name) {
+            for (request, least) in [("map", 40), ("unmap", 20), ("protect", 10), ("look_up", 4)] {
+                for end in ENDS {
+                    need(if sort == Sort::Damaged { 1 } else { least }, format!("{request} {end}, {size}"));
+                }
+            }
         }
         for reason in ["Overlap", "NoRoom"] {
             need(300, format!("map {reason}"));
@@ -160,8 +199,6 @@ impl Cover {
                 }
             }
             for size in SIZES.map(name) {
-                need(50, format!("first page of all, {size}"));
-                need(50, format!("last page of all, {size}"));
                 need(25, format!("first frame, {size}"));
                 need(25, format!("last frame, {size}"));
                 need(5, format!("frame right before the pool, {size}"));
@@ -187,7 +224,9 @@ impl Cover {
             need(2, "told SpentTickets".into());
         }
         if sort == Sort::Sound {
-            need(20, "map at 2^48".into());
+            need(20, "map at 2^47".into());
+            need(20, "map right below the upper half".into());
+            need(20, "map without the high bits of the upper half".into());
             need(100, "frame meets the pool's first page, 4 KiB".into());
             need(100, "frame meets the pool's last page, 4 KiB".into());
             for size in SIZES.map(name).into_iter().skip(1) {

@@ -59,6 +59,7 @@ pub fn looked_up(walk: Walk) -> Answer {
     Answer::LookedUp(match walk.answer {
         model::Answer::Nothing => LookedUp::default(),
         model::Answer::Outside => LookedUp { kind: 2, ..LookedUp::default() },
+        model::Answer::NoAddress => LookedUp { kind: 5, ..LookedUp::default() },
         model::Answer::Page { base, size, frame, rights } => {
             let rights = [rights.writable, rights.user, rights.noexec];
             let rights = (0..3).map(|bit| u64::from(rights[bit]) << bit).sum();
@@ -211,7 +212,7 @@ impl<'a> Pool<'a> {
             End::Page(_) => return Err(7),
             End::NotPresent(kind) | End::Reserved(kind) => (kind, false),
             End::Outside(kind) => (kind, true),
-            End::NoAddress => unreachable!("the base is below 2^48"),
+            End::NoAddress => unreachable!("the base is an address"),
         };
         if level(kind) < target {
             // The walk came through a table that stands where the page should.
@@ -249,6 +250,7 @@ impl<'a> Pool<'a> {
             }
             model::Answer::Page { .. } | model::Answer::Nothing => Err(9),
             model::Answer::Outside => Err(10),
+            model::Answer::NoAddress => Err(4),
         }
     }
 

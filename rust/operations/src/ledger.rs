@@ -11,9 +11,12 @@ pub const GIB1: u64 = 1 << 30;
 pub const SIZES: [u64; 3] = [KIB4, MIB2, GIB1];
 /// What a table covers: the entry that names it does.
 const TABLES: [u64; 3] = [MIB2, GIB1, 512 * GIB1];
-/// The lower half of the addresses ends here, and physical memory there.
-pub const TOP: u64 = 1 << 48;
+/// The lower half of the addresses ends here, the upper one begins there; and where physical memory ends.
+pub const LOWER: u64 = 0x0000_8000_0000_0000;
+pub const UPPER: u64 = 0xffff_8000_0000_0000;
 pub const PHYSICAL: u64 = 1 << 52;
+/// Both sides of every edge.
+pub const EDGES: [u64; 6] = [0, LOWER - 1, LOWER, UPPER - 1, UPPER, u64::MAX];
 
 #[derive(Clone, Copy, PartialEq, Eq, PartialOrd, Ord, Debug)]
 pub struct Mapping {
@@ -38,9 +41,13 @@ pub struct Ledger {
     pub tickets: VecDeque<u64>,
 }
 
-/// Do the ranges share an address?
+/// Do the ranges share an address? Either may end at 2^64.
 fn meet(start: u64, size: u64, other: u64, other_size: u64) -> bool {
-    start < other + other_size && other < start + size
+    start <= other + (other_size - 1) && other <= start + (size - 1)
+}
+
+pub fn is_address(va: u64) -> bool {
+    !(LOWER..UPPER).contains(&va)
 }
 
 impl Ledger {
@@ -79,7 +86,10 @@ impl Ledger {
     }
 
     pub fn means(&self, va: u64) -> LookedUp {
-        match self.mappings.iter().find(|page| (page.base..page.base + page.size).contains(&va)) {
+        if !is_address(va) {
+            return LookedUp { kind: 5, ..LookedUp::default() };
+        }
+        match self.mappings.iter().find(|page| page.base <= va && va - page.base < page.size) {
             None => LookedUp::default(),
             Some(Mapping { base, size, frame, rights }) => {
                 LookedUp { kind: 1, base: *base, size: *size, frame: *frame, rights: *rights }
@@ -159,6 +169,9 @@ impl Ledger {
     }
 
     fn starts(&self, base: u64) -> Result<usize, u64> {
+        if !is_address(base) {
+            return Err(4);
+        }
         self.mappings.iter().position(|page| page.base == base).ok_or(9)
     }
 
@@ -210,7 +223,7 @@ pub fn asked(base: u64, frame: u64, size: u64) -> u64 {
         () if !SIZES.contains(&size) => 1,
         () if base % size != 0 => 2,
         () if frame % size != 0 => 3,
-        () if base >= TOP || base + size > TOP => 4,
+        () if !is_address(base) => 4,
         () if frame >= PHYSICAL || frame + size > PHYSICAL => 5,
         () => 0,
     }

@@ -48,7 +48,7 @@ answers! {
     Unmapped { reason, frame, size, aside, ticket }
     Protected { reason, frame, size, ticket }
     Told { reason, released }
-    /// `kind`: 0 nothing, 1 a page, 2 outside.
+    /// `kind`: 0 nothing, 1 a page, 2 outside, 5 no address.
     LookedUp { kind, base, size, frame, rights }
 }
 

@@ -1,10 +1,11 @@
 //! A scene that is played: each step is taken, and all that can be said of it is checked.
 
 use crate::audit::{audit, lists};
+use crate::chance::canonical;
 use crate::cover::Cover;
 use crate::due::{due, looked_up, Write};
 use crate::layout::TICKETS;
-use crate::ledger::{Ledger, TOP};
+use crate::ledger::{Ledger, EDGES};
 use crate::random::Random;
 use crate::steps::{Hints, Setup, Step};
 use crate::{Answer, Operations, Request, Space};
@@ -16,8 +17,9 @@ use std::panic::{catch_unwind, AssertUnwindSafe};
 const AROUND: usize = 64;
 /// In larger windows not every byte is looked at after every step.
 const LARGE: usize = 24 * 4096;
-/// The reasons that one which is raw gives: done, overlap, no room, nothing starts.
+/// The reasons that one which is raw gives: done, overlap, no room, nothing starts; and to all but map, no address.
 const RAW: [u64; 4] = [0, 7, 8, 9];
+const NO_ADDRESS: u64 = 4;
 
 pub struct Run<'a> {
     of: &'a dyn Operations,
@@ -81,7 +83,9 @@ impl<'a> Run<'a> {
                     Some(ledger) => {
                         let judged = ledger.judge(&request, to - from);
                         let looks = matches!(request, Request::LookUp { .. });
-                        if judged.is_none() && !looks || self.is_raw() && !judged.is_some_and(raw_answers) {
+                        if judged.is_none() && !looks
+                            || self.is_raw() && !judged.is_some_and(|judged| raw_answers(&request, judged))
+                        {
                             return Ok(None);
                         }
                         judged
@@ -229,7 +233,7 @@ impl<'a> Run<'a> {
     /// The meaning of addresses: sampled, around what was asked, and now and then around every page.
     fn meaning(&self, ledger: &Ledger, request: &Request, sample: u64) -> Result<(), Trouble> {
         let mut random = Random::new(sample, 0);
-        let mut addresses = vec![random.word(), random.word() >> 16, random.pick(&[0, TOP - 1, TOP, u64::MAX])];
+        let mut addresses = vec![random.word(), canonical(random.word()), random.pick(&EDGES)];
         let pages = &ledger.mappings;
         if !pages.is_empty() {
             let page = random.pick(pages);
@@ -276,8 +280,8 @@ impl<'a> Run<'a> {
     }
 }
 
-fn raw_answers(judged: Answer) -> bool {
-    RAW.contains(&judged.reason())
+fn raw_answers(request: &Request, judged: Answer) -> bool {
+    RAW.contains(&judged.reason()) || judged.reason() == NO_ADDRESS && !matches!(request, Request::Map { .. })
 }
 
 /// The first and the last address of a page, and those next to it.

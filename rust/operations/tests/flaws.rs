@@ -6,6 +6,7 @@ use operations::audit::lists;
 use operations::baselines::Checked;
 use operations::cover::{Cover, Sort};
 use operations::layout::{ASIDE, FREE, HEAD, HEADER, ROOT, TICKETS};
+use operations::ledger::is_address;
 use operations::shrink::shrink;
 use operations::{test, Created, LookedUp, Mapped, Operations, Protected, Space, Told, Unmapped};
 
@@ -13,7 +14,8 @@ const SEED: u64 = 0x7ab1_e9a7;
 const REQUESTS: u64 = 100_000;
 /// As many as show the most that takes several: two tickets, the first of which is told.
 const MOST_STEPS: usize = 5;
-const TOP: u64 = 1 << 48;
+const LOWER: u64 = 1 << 47;
+const UPPER: u64 = 0xffff_8000_0000_0000;
 
 #[derive(Clone, Copy, PartialEq, Eq, Debug)]
 enum Flaw {
@@ -41,6 +43,10 @@ enum Flaw {
     FreeNotCounted,
     TablesNotCounted,
     RangeBeforeAlignment,
+    LastOfLowerRefused,
+    FirstOfUpperRefused,
+    StrippedMapped,
+    HoleMapped,
     SpaceBeforeSize,
     ReservedIsOverlap,
     OutsideTouched,
@@ -54,6 +60,9 @@ enum Flaw {
     TicketOffByOne,
     FrameNotAnswered,
     CoveringUnmapped,
+    HoleUnmapped,
+    NothingUnmappedInHole,
+    LastPageKept,
     OnlyPresentCleared,
     ClearedBeforeBook,
     // protect
@@ -62,6 +71,8 @@ enum Flaw {
     RightsOnlyGrow,
     UpperProtected,
     CoveringProtected,
+    HoleProtected,
+    NothingProtectedInHole,
     AsideTouched,
     // told
     AllReleased,
@@ -71,6 +82,9 @@ enum Flaw {
     TicketsNotCounted,
     // look_up
     LastAddressLost,
+    NoAddressIsNothing,
+    HoleFound,
+    BaseStripped,
     // spaces and reasons
     RootRounded,
     PoolRounded,
@@ -83,6 +97,11 @@ enum Flaw {
 use Flaw::*;
 
 struct Flawed(Flaw);
+
+/// The address with the same low 48 bits.
+fn extended(va: u64) -> u64 {
+    ((va << 16) as i64 >> 16) as u64
+}
 
 /// Words of the memory, by physical address.
 struct Words<'a> {
@@ -299,7 +318,11 @@ impl Operations for Flawed {
                     words.put(*page + 8, 0);
                 }
             }
-            (RangeBeforeAlignment, 2) if base >= TOP => return refused(4),
+            (RangeBeforeAlignment, 2) if !is_address(base) => return refused(4),
+            (StrippedMapped, 4) if base < 1 << 48 => {
+                return Checked.map(mem, space, extended(base), frame, size, rights)
+            }
+            (HoleMapped, 4) => return Checked.map(mem, space, extended(base), frame, size, rights),
             (SpaceBeforeSize, 1..=5) => {
                 let other = Checked.map(&mut before.clone(), space, 0, (1 << 52) - 4096, 4096, 0);
                 if (14..=19).contains(&other.reason) {
@@ -309,7 +332,9 @@ impl Operations for Flawed {
             (_, 0) => {
                 let mut words = words(mem, space);
                 let undone = match self.0 {
-                    LastPageRefused if base + size == TOP => 4,
+                    LastPageRefused if base.wrapping_add(size) == 0 => 4,
+                    LastOfLowerRefused if base.wrapping_add(size) == LOWER => 4,
+                    FirstOfUpperRefused if base == UPPER => 4,
                     FrameBeforePoolRefused if frame + size == space.pool => 6,
                     LastPagesKept if answer.tables > 0 && words.book(FREE) == 0 => 8,
                     ReservedIsOverlap => {
@@ -353,6 +378,12 @@ impl Operations for Flawed {
                     return Checked.unmap(mem, space, start);
                 }
             }
+            (HoleUnmapped, 4) => return Checked.unmap(mem, space, extended(base)),
+            (NothingUnmappedInHole, 4) => answer.reason = 9,
+            (LastPageKept, 0) if base.wrapping_add(answer.size) == 0 => {
+                mem.copy_from_slice(&before);
+                return Unmapped { reason: 9, ..Unmapped::default() };
+            }
             (ClearedBeforeBook, 20..=22) => words(mem, space).put(way[way.len() - 1].address, 0),
             (_, 0) => self.after_unmap(&before, &mut words(mem, space), &way, &mut answer),
             _ => {}
@@ -370,6 +401,12 @@ impl Operations for Flawed {
             if let Some(start) = self.covering(mem, space, base) {
                 return Checked.protect(mem, space, start, rights);
             }
+        }
+        if answer.reason == 4 && self.0 == HoleProtected {
+            return Checked.protect(mem, space, extended(base), rights);
+        }
+        if answer.reason == 4 && self.0 == NothingProtectedInHole {
+            answer.reason = 9;
         }
         if answer.reason == 0 {
             let mut words = words(mem, space);
@@ -425,10 +462,17 @@ impl Operations for Flawed {
     }
 
     fn look_up(&self, mem: &[u8], origin: u64, root: u64, va: u64) -> LookedUp {
-        if self.0 == LastAddressLost && va == TOP - 1 {
+        if self.0 == LastAddressLost && va == u64::MAX {
             return LookedUp::default();
         }
-        Checked.look_up(mem, origin, root, va)
+        let mut answer = Checked.look_up(mem, origin, root, va);
+        match self.0 {
+            NoAddressIsNothing if answer.kind == 5 => answer.kind = 0,
+            HoleFound if answer.kind == 5 => answer = Checked.look_up(mem, origin, root, extended(va)),
+            BaseStripped => answer.base %= 1 << 48,
+            _ => {}
+        }
+        answer
     }
 }
 
@@ -472,6 +516,10 @@ flaws! {
     free_not_counted: FreeNotCounted, Sound;
     tables_not_counted: TablesNotCounted, Sound;
     range_before_alignment: RangeBeforeAlignment, Sound;
+    last_of_lower_refused: LastOfLowerRefused, Sound;
+    first_of_upper_refused: FirstOfUpperRefused, Sound;
+    stripped_mapped: StrippedMapped, Sound;
+    hole_mapped: HoleMapped, Sound;
     space_before_size: SpaceBeforeSize, Sound;
     reserved_is_overlap: ReservedIsOverlap, Damaged;
     outside_touched: OutsideTouched, Sound;
@@ -484,6 +532,9 @@ flaws! {
     ticket_off_by_one: TicketOffByOne, Sound;
     frame_not_answered: FrameNotAnswered, Sound;
     covering_unmapped: CoveringUnmapped, Sound;
+    hole_unmapped: HoleUnmapped, Sound;
+    nothing_unmapped_in_hole: NothingUnmappedInHole, Sound;
+    last_page_kept: LastPageKept, Sound;
     only_present_cleared: OnlyPresentCleared, Sound;
     cleared_before_book: ClearedBeforeBook, Damaged;
     dirty_cleared: DirtyCleared, Sound;
@@ -491,6 +542,8 @@ flaws! {
     rights_only_grow: RightsOnlyGrow, Sound;
     upper_protected: UpperProtected, Sound;
     covering_protected: CoveringProtected, Sound;
+    hole_protected: HoleProtected, Sound;
+    nothing_protected_in_hole: NothingProtectedInHole, Sound;
     aside_touched: AsideTouched, Sound;
     all_released: AllReleased, Sound;
     one_more_released: OneMoreReleased, Sound;
@@ -498,6 +551,9 @@ flaws! {
     old_ticket_unknown: OldTicketUnknown, Sound;
     tickets_not_counted: TicketsNotCounted, Sound;
     last_address_lost: LastAddressLost, Sound;
+    no_address_is_nothing: NoAddressIsNothing, Sound;
+    hole_found: HoleFound, Sound;
+    base_stripped: BaseStripped, Sound;
     root_rounded: RootRounded, Sound;
     pool_rounded: PoolRounded, Sound;
     stray_is_nothing: StrayIsNothing, Damaged;

@@ -1,4 +1,4 @@
-//! A short life of a pool of five pages, with each answer and each word written out by hand.
+//! A short life of a pool of five pages, and the ends of both halves, with each answer and each word written out by hand.
 
 use operations::baselines::{Checked, Raw};
 use operations::{LookedUp, Mapped, Operations, Protected, Space, Told, Unmapped};
@@ -83,7 +83,7 @@ fn life(of: &dyn Operations) {
     assert_eq!(of.told(mem, SPACE, 2), Told { reason: 0, released: 0 });
 
     // The last page of all, and the last frame.
-    assert_eq!(of.map(mem, SPACE, 0xffff_ffe0_0000, 0xf_ffff_ffe0_0000, 0x20_0000, 2), done(2));
+    assert_eq!(of.map(mem, SPACE, 0xffff_ffff_ffe0_0000, 0xf_ffff_ffe0_0000, 0x20_0000, 2), done(2));
     assert_eq!(entry(mem, 0x12, 511), 0x15007);
     assert_eq!(entry(mem, 0x15, 511), 0x14007);
     assert_eq!(entry(mem, 0x14, 511), 0xf_ffff_ffe0_0085);
@@ -91,18 +91,76 @@ fn life(of: &dyn Operations) {
     assert!(mem[..0x1000].iter().chain(&mem[0x6000..]).all(|byte| *byte == 0x11), "outside the pool");
 }
 
+/// The first and the last page of each half, with every size, and what is no address.
+fn ends(of: &dyn Operations) {
+    let pages = [
+        (0x1000, [0, 0x7fff_ffff_f000, 0xffff_8000_0000_0000, 0xffff_ffff_ffff_f000]),
+        (0x20_0000, [0, 0x7fff_ffe0_0000, 0xffff_8000_0000_0000, 0xffff_ffff_ffe0_0000]),
+        (0x4000_0000, [0, 0x7fff_c000_0000, 0xffff_8000_0000_0000, 0xffff_ffff_c000_0000]),
+    ];
+    let none = [
+        0x8000_0000_0000,
+        0xffff_c000_0000,
+        0x1_0000_0000_0000,
+        0x7fff_ffff_c000_0000,
+        0x8000_0000_0000_0000,
+        0xffff_7fff_c000_0000,
+    ];
+    let no_address = LookedUp { kind: 5, ..LookedUp::default() };
+    for ((size, bases), tables) in pages.into_iter().zip([3, 2, 1]) {
+        for (base, index) in bases.into_iter().zip([0, 255, 256, 511]) {
+            let mut bytes = vec![0x11; 7 * 4096];
+            let mem = &mut bytes[..];
+            assert_eq!(of.create(mem, ORIGIN, SPACE.pool, SPACE.pages).reason, 0);
+            assert_eq!(of.map(mem, SPACE, base, 0x4000_0000, size, 1), Mapped { reason: 0, tables }, "{base:#x}");
+            assert_eq!(entry(mem, 0x12, index), 0x13007);
+            let mut page = LookedUp { kind: 1, base, size, frame: 0x4000_0000, rights: 1 };
+            assert_eq!(of.look_up(mem, ORIGIN, 0x12000, base), page);
+            assert_eq!(of.look_up(mem, ORIGIN, 0x12000, base + (size - 1)), page);
+            let protected = Protected { reason: 0, frame: 0x4000_0000, size, ticket: 0 };
+            assert_eq!(of.protect(mem, SPACE, base, 6), protected);
+            page.rights = 6;
+            assert_eq!(of.look_up(mem, ORIGIN, 0x12000, base + (size - 1)), page);
+
+            let before = mem.to_vec();
+            for base in none.into_iter().chain((47..64).map(|bit| base ^ 1 << bit)) {
+                assert_eq!(of.look_up(mem, ORIGIN, 0x12000, base), no_address, "{base:#x}");
+                assert_eq!(of.unmap(mem, SPACE, base), Unmapped { reason: 4, ..Unmapped::default() }, "{base:#x}");
+                assert_eq!(
+                    of.protect(mem, SPACE, base, 0),
+                    Protected { reason: 4, ..Protected::default() },
+                    "{base:#x}"
+                );
+                if !of.is_raw() {
+                    let refused = Mapped { reason: 4, tables: 0 };
+                    assert_eq!(of.map(mem, SPACE, base, 0x4000_0000, size, 0), refused, "{base:#x}");
+                }
+            }
+            assert!(*mem == before[..]);
+
+            let unmapped = Unmapped { reason: 0, frame: 0x4000_0000, size, aside: tables, ticket: tables };
+            assert_eq!(of.unmap(mem, SPACE, base), unmapped);
+            assert_eq!(of.look_up(mem, ORIGIN, 0x12000, base), LookedUp::default());
+            assert_eq!(of.unmap(mem, SPACE, base).reason, 9);
+        }
+    }
+}
+
 #[test]
 fn by_the_checked_baseline() {
     life(&Checked);
+    ends(&Checked);
 }
 
 #[test]
 fn by_the_raw_baseline() {
     life(&Raw);
+    ends(&Raw);
 }
 
 #[cfg(feature = "library")]
 #[test]
 fn by_the_library() {
     life(&operations::library::Library);
+    ends(&operations::library::Library);
 }

@@ -6,6 +6,7 @@ pub const ORIGIN: u64 = 0x10_0000;
 const PAGES: usize = 12;
 const CODE: u64 = 0x40_0000;
 const BUFFERS: u64 = 0x7f00_0000_0000;
+const KERNEL: u64 = 0xffff_ffff_8020_0000;
 
 /// The window's bytes, and the space in it.
 pub fn example() -> Result<(Box<Pages<PAGES>>, Space), Reason> {
@@ -22,6 +23,8 @@ pub fn example() -> Result<(Box<Pages<PAGES>>, Space), Reason> {
     }
     map(BUFFERS + 0x4000_0000, 0x1_0000_0000, Size::Gib1, all)?;
     map(BUFFERS + 0x8000_0000, 0x2_0000_0000, Size::Gib1, Rights::WRITABLE | Rights::NO_EXECUTE)?;
+
+    map(KERNEL, 0x20_0000, Size::Mib2, Rights::NONE)?;
 
     // The machine walks, and writes into the first buffers.
     for page in 0..3 {

@@ -1,6 +1,6 @@
 //! The entries of one table that say something, with neighbours that are alike folded into one row.
 
-use crate::tree::Window;
+use crate::tree::{Window, ROOT};
 use tablepath::{entry, look_up, Entry, Found, Rights};
 
 pub const ENTRIES: u64 = 512;
@@ -8,6 +8,15 @@ pub const ENTRIES: u64 = 512;
 /// What one entry of this level covers.
 pub fn size(level: u64) -> u64 {
     4096 << (9 * level)
+}
+
+/// The first entry of a root that is of the upper half of the addresses.
+const UPPER: u64 = ENTRIES / 2;
+
+/// The first address of an entry, in a table whose first one is `base`: canonical, as the machine has it.
+pub fn first(level: u64, base: u64, index: u64) -> u64 {
+    let high = if level == ROOT && index >= UPPER { 0xffff << 48 } else { 0 };
+    base + index * size(level) + high
 }
 
 #[derive(Clone, Copy, PartialEq, Eq, Debug)]
@@ -118,7 +127,9 @@ fn folded(entries: &[Row], level: u64, any: bool) -> Vec<Row> {
     let mut rows: Vec<Row> = vec![];
     for entry in entries {
         let step = if matches!(entry.kind, Kind::Page { .. }) { size(level) } else { 4096 };
-        if !rows.last_mut().is_some_and(|row| row.takes(entry, step, any)) {
+        // Between the halves there are no addresses.
+        let apart = level == ROOT && entry.index == UPPER;
+        if apart || !rows.last_mut().is_some_and(|row| row.takes(entry, step, any)) {
             rows.push(entry.clone());
         }
     }
@@ -134,7 +145,7 @@ pub fn rows(window: Window, root: u64, level: u64, table: u64, base: u64, most: 
         rows = folded(&entries, level, true);
     }
     for row in rows.iter_mut().filter(|row| matches!(row.kind, Kind::Page { .. })) {
-        if let Found::Page(page) = look_up(window.bytes, window.origin, root, base + row.index * size(level)) {
+        if let Found::Page(page) = look_up(window.bytes, window.origin, root, first(level, base, row.index)) {
             row.way = Some(page.rights);
         }
     }

@@ -6,7 +6,7 @@ use crate::tree::{Picture, Table, ROOT};
 use crate::words::{bytes, count, how_large, summary, window, NAMES};
 use tablepath::Rights;
 
-const CARD: u64 = 292;
+const CARD: u64 = 324;
 const GAP: u64 = 84;
 const HEAD: u64 = 30;
 const ROW: u64 = 40;
@@ -117,7 +117,7 @@ impl Drawing<'_> {
         let last = row.index + row.count - 1;
         let index = if row.count == 1 { row.index.to_string() } else { format!("{}–{last}", row.index) };
         self.canvas.text("small mid", at(x + 34, y + 24), index);
-        self.canvas.text("first", at(x + 66, y + 17), format_args!("{:#014x}", table.range(row).0));
+        self.canvas.text("first", at(x + 66, y + 17), format_args!("{:#018x}", table.range(row).0));
         self.canvas.text("end", at(x + CARD - 10, y + 17), how_large(table.level, row, "×"));
         self.leads(row, at(x + 66, y + 33));
         self.grants(row, at(x + CARD - 10, y + 33));

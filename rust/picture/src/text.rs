@@ -6,7 +6,7 @@ use crate::words::{count, how_large, marks, places, summary, window};
 use std::fmt::Write;
 
 /// The widths of the branches with the range, and of the size.
-const RANGE: usize = 42;
+const RANGE: usize = 50;
 const SIZE: usize = 13;
 
 pub fn text(picture: &Picture) -> String {
@@ -25,7 +25,7 @@ fn lines(picture: &Picture, table: &Table, branches: &str, text: &mut String) {
     for (number, row) in table.rows.iter().enumerate() {
         let last = number + 1 == table.rows.len() && table.more == 0;
         let (first, end) = table.range(row);
-        let range = format!("{branches}{} {first:#014x}-{end:#014x}", if last { "└─" } else { "├─" });
+        let range = format!("{branches}{} {first:#018x}-{end:#018x}", if last { "└─" } else { "├─" });
         let large = how_large(table.level, row, "x");
         let line = format!("{range:RANGE$} {large:SIZE$} {}", says(picture, row));
         text.push_str(line.trim_end());
@@ -68,7 +68,7 @@ fn says(picture: &Picture, row: &Row) -> String {
             let place = if row.count == 1 { "table" } else { "one table" };
             let own = with_marks(format!("{place} at {:#x}, {rights}", row.address), accessed, false);
             match row.below {
-                Below::Again(number) => format!("{own}: as drawn from {:#014x} on", picture.tables[number].base),
+                Below::Again(number) => format!("{own}: as drawn from {:#018x} on", picture.tables[number].base),
                 Below::NotDrawn => format!("{own}: not drawn"),
                 Below::Here(number) if picture.tables[number].rows.is_empty() => format!("{own}: empty"),
                 Below::Here(_) | Below::Nothing => own,

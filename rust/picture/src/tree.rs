@@ -1,7 +1,7 @@
 //! The tables below a root, each read once at each level, from the top down. Tables that name themselves, and windows made to be hard,
 //! end here: there are four levels, and no more tables are drawn than the limits say.
 
-use crate::rows::{rows, size, Below, Kind, Row};
+use crate::rows::{first, rows, size, Below, Kind, Row};
 use std::collections::HashMap;
 use tablepath::{entry, Entry};
 
@@ -46,8 +46,8 @@ impl Table {
 
     /// The first and the last address of a row.
     pub fn range(&self, row: &Row) -> (u64, u64) {
-        let first = self.base + row.index * size(self.level);
-        (first, first + row.count * size(self.level) - 1)
+        let first = first(self.level, self.base, row.index);
+        (first, first + (row.count * size(self.level) - 1))
     }
 }
 
@@ -96,7 +96,7 @@ impl Picture {
                 Some(number) => Below::Again(*number),
                 None if self.tables.len() < limits.tables => {
                     known.insert(below, self.tables.len());
-                    self.tables.push(Table::unread(level - 1, row.address, base + row.index * size(level)));
+                    self.tables.push(Table::unread(level - 1, row.address, first(level, base, row.index)));
                     Below::Here(self.tables.len() - 1)
                 }
                 None => Below::NotDrawn,

@@ -87,7 +87,7 @@ fn without_rights(found: Found) -> Found {
 
 #[test]
 fn what_is_drawn_is_what_is_found() {
-    let (mut compared, mut pages) = (0, 0);
+    let (mut compared, mut pages, mut upper) = (0, 0, 0);
     for number in 0..WINDOWS {
         let mut random = Random::new(0x71c7, number);
         let bytes = bytes(&mut random);
@@ -95,8 +95,10 @@ fn what_is_drawn_is_what_is_found() {
         let picture = Picture::of(Window { bytes: &bytes, origin: ORIGIN }, root, LIMITS);
         let edges = picture.tables.iter().flat_map(|table| table.rows.iter().map(|row| table.range(row)));
         let edges: Vec<u64> = edges.flat_map(|(first, last)| [first, last]).collect();
-        let chance = (0..50).map(|_| random.below(1 << 48));
+        // In either half; and edges are drawn in one of them.
+        let chance = (0..50).map(|_| ((random.word() << 16) as i64 >> 16) as u64);
         for va in edges.into_iter().chain(chance) {
+            upper += va >> 63;
             let Some(says) = says(&picture, va) else { continue };
             let found = without_rights(look_up(&bytes, ORIGIN, root, va));
             assert_eq!(says, found, "window {number}, address {va:#x}");
@@ -105,6 +107,7 @@ fn what_is_drawn_is_what_is_found() {
         }
     }
     assert!(compared > 50_000 && pages > 10_000, "{compared} were compared, {pages} of them pages");
+    assert!(upper > 20_000, "{upper} of the upper half");
 }
 
 #[test]

@@ -71,6 +71,15 @@ fn pages_of_each_size() {
     assert_drawn(4, &words, include_str!("stored/sizes.txt"));
 }
 
+/// Entries of the root that are alike, on both sides of the hole; and the last page of all.
+#[test]
+fn both_halves() {
+    let mut words: Vec<_> = (254..258).map(|index| (0, index, page(1) | ALL)).collect();
+    words.extend([(0, 511, page(2) | ALL), (1, 0, 0x4000_0000 | LARGE | 7), (1, 511, 0xc000_0000 | LARGE | 7)]);
+    words.push((2, 511, 0x8000_0000 | LARGE | 7));
+    assert_drawn(3, &words, include_str!("stored/halves.txt"));
+}
+
 /// The page grants more than its way; and the way's entries were walked through.
 #[test]
 fn rights_of_the_way() {

@@ -69,16 +69,18 @@ impl From<u64> for Ticket {
     }
 }
 
-/// What an address means.
+/// What a number means as an address.
 #[must_use]
 #[derive(Clone, Copy, PartialEq, Eq, Hash, Debug)]
 pub enum Found {
     /// This page.
     Page(Page),
-    /// Nothing is mapped there.
+    /// Nothing is mapped there: it is an address, and no page has it.
     Nothing,
     /// The way leads to a table that does not lie in the window, so its bytes can't tell.
     Outside,
+    /// The number is no address: it is not canonical. So it is for whatever bytes, and for no other number.
+    NoAddress,
 }
 
 /// A page, as a walk finds it.
@@ -99,18 +101,19 @@ impl Found {
     pub const fn page(self) -> Option<Page> {
         match self {
             Found::Page(page) => Some(page),
-            Found::Nothing | Found::Outside => None,
+            Found::Nothing | Found::Outside | Found::NoAddress => None,
         }
     }
 }
 
 impl From<numbers::LookedUp> for Found {
-    /// The library answers no fourth kind.
+    /// The library answers no fifth kind.
     fn from(found: numbers::LookedUp) -> Found {
         let numbers::LookedUp { kind, base, size, frame, rights } = found;
         match kind {
             0 => Found::Nothing,
             1 => Found::Page(Page { base, size: Size::answered(size), frame, rights: Rights::answered(rights) }),
+            5 => Found::NoAddress,
             _ => Found::Outside,
         }
     }

@@ -101,7 +101,7 @@ answers! {
     }
     /// What [`look_up`] answers.
     LookedUp {
-        /// 0 nothing, 1 a page, 2 outside.
+        /// 0 nothing, 1 a page, 2 outside, 5 no address.
         kind,
         /// The page's first address.
         base,

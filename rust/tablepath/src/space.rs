@@ -87,6 +87,9 @@ impl Space {
 
     /// Maps the frame at the base: the whole page, or nothing where one of its addresses is mapped.
     ///
+    /// Addresses are the machine's, canonical: up to `0x7fff_ffff_ffff`, and from `0xffff_8000_0000_0000` on. A base that is none is refused,
+    /// [`Reason::BaseRange`], here, by [`unmap`](Space::unmap) and by [`protect`](Space::protect). The last page ends at 2^64.
+    ///
     /// A walk that begins when its stores have left the buffer finds the page. A cached upper entry of a table that is set aside may say
     /// "nothing" until its shootdown: such a fault is spurious, and INVLPG of the address ends it. Where the address was unmapped before and its
     /// shootdown is not done, a cache may still give the old page; so map a page of another size only after that.
@@ -102,6 +105,8 @@ impl Space {
     /// let page = Page { base, size: Size::Gib1, frame, rights };
     /// assert_eq!(space.look_up(&pool, base + 12345), Found::Page(page));
     /// assert_eq!(space.map(&mut pool, base + 0x1000, 0, Size::Kib4, rights), Err(Reason::Overlap));
+    /// space.map(&mut pool, 0xffff_ffff_c000_0000, frame, Size::Gib1, rights)?; // the last page of all
+    /// assert_eq!(space.map(&mut pool, 0x8000_0000_0000, frame, Size::Gib1, rights), Err(Reason::BaseRange));
     /// # Ok::<(), Reason>(())
     /// ```
     pub fn map(self, mem: &mut [u8], base: u64, frame: u64, size: Size, rights: Rights) -> Result<Mapped, Reason> {
@@ -163,9 +168,8 @@ impl Space {
     /// how many.
     ///
     /// The shootdown: a fence, so that the stores have left this processor's buffer (MFENCE, or any locked instruction; MFENCE and LFENCE where
-    /// the interrupt is sent by WRMSR, as with x2APIC); then INVLPG of each page that was unmapped since the shootdown before began, by its
-    /// canonical address, on every processor that uses these tables, and a wait until all have answered. The ticket is one that was answered
-    /// before it began. A frame is free when a shootdown that began after its own unmap is done, whatever tickets were told meanwhile.
+    /// the interrupt is sent by WRMSR, as with x2APIC); then INVLPG of each page that was unmapped since the shootdown before began, on every
+    /// processor that uses these tables, and a wait until all have answered. The ticket is one that was answered before it began. A frame is free when a shootdown that began after its own unmap is done, whatever tickets were told meanwhile.
     ///
     /// ```
     /// use tablepath::{Pages, Reason, Space, Ticket};
@@ -207,15 +211,17 @@ impl Space {
     }
 }
 
-/// What a walk from this root finds for the address, in any window; the root is given as in CR3, and no pool is needed.
+/// What a walk from this root finds for the address, in any window; the root is given as in CR3, and no pool is needed. A number that is no
+/// address, which is not canonical, is said to be none, [`Found::NoAddress`], and is not looked for.
 ///
 /// ```
 /// use tablepath::{look_up, Found};
 ///
 /// let mut window = vec![0; 4096];
 /// window[0] = 7; // entry 0 names a table at physical address 0
-/// assert_eq!(look_up(&window, 0x1000, 0x1000, 1 << 47), Found::Nothing);
+/// assert_eq!(look_up(&window, 0x1000, 0x1000, 0xffff_8000_0000_0000), Found::Nothing);
 /// assert_eq!(look_up(&window, 0x1000, 0x1000, 0), Found::Outside);
+/// assert_eq!(look_up(&window, 0x1000, 0x1000, 0x8000_0000_0000), Found::NoAddress);
 /// ```
 pub fn look_up(mem: &[u8], origin: u64, root: u64, va: u64) -> Found {
     numbers::look_up(mem, origin, root, va).into()

@@ -25,6 +25,7 @@ fn no_bytes_at_all() {
     assert_eq!(numbers::told(none, HANDLE, 1).reason, outside);
     assert_eq!(numbers::state(none, HANDLE).reason, outside);
     assert_eq!(look_up(none, 0, 0, 0), Found::Outside);
+    assert_eq!(look_up(none, 0, 0, 1 << 47), Found::NoAddress);
 }
 
 #[test]
@@ -73,7 +74,7 @@ fn each_reason_that_sound_bytes_can_give() {
     let refused = [
         (map(0x1000, 0, Size::Mib2), Reason::BaseUnaligned),
         (map(0, 0x1000, Size::Mib2), Reason::FrameUnaligned),
-        (map(1 << 48, 0, Size::Gib1), Reason::BaseRange),
+        (map(1 << 47, 0, Size::Gib1), Reason::BaseRange),
         (map(0, 1 << 52, Size::Gib1), Reason::FrameRange),
         (map(0, ORIGIN, Size::Kib4), Reason::FrameInPool),
         (map(0x4000_1000, 0, Size::Kib4), Reason::Overlap),

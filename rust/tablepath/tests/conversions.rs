@@ -49,13 +49,14 @@ fn what_a_walk_found() {
     let nothing = LookedUp::default();
     assert_eq!(Found::from(nothing), Found::Nothing);
     assert_eq!(Found::from(LookedUp { kind: 2, ..nothing }), Found::Outside);
+    assert_eq!(Found::from(LookedUp { kind: 5, ..nothing }), Found::NoAddress);
     let (base, frame) = (0x4000_0000, 0x8000_0000);
     for size in Size::ALL {
         let page = Page { base, size, frame, rights: Rights::USER };
         let found = Found::from(LookedUp { kind: 1, base, size: size.bytes(), frame, rights: 2 });
         assert_eq!((found, found.page()), (Found::Page(page), Some(page)));
     }
-    assert_eq!((Found::Nothing.page(), Found::Outside.page()), (None, None));
+    assert_eq!([Found::Nothing.page(), Found::Outside.page(), Found::NoAddress.page()], [None; 3]);
 }
 
 #[test]

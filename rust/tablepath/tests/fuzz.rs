@@ -76,6 +76,8 @@ impl Pool {
         let size = [4096, 0x20_0000, 0x4000_0000][random.below(3) as usize];
         let part = |random: &mut Random| [0, 1, 5, 511][random.below(4) as usize];
         let base = (part(random) << 39 | part(random) << 30 | part(random) << 21 | part(random) << 12) & !(size - 1);
+        // In its half; or in the hole between them, as the upper half is without the bits above.
+        let base = if random.below(16) > 0 && base >> 47 == 1 { base | 0xffff << 48 } else { base };
         let frame = match random.below(3) {
             0 => self.page(random),
             _ => 0x1_0000_0000 + size * random.below(4),

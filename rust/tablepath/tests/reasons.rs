@@ -34,7 +34,7 @@ fn as_in_c(reason: Reason) -> String {
 #[test]
 fn every_reason_is_the_headers() {
     let listed = listed();
-    assert_eq!(listed[0], ("DONE", 0, ""));
+    assert_eq!(listed[0], ("DONE", 0, "done"));
     assert_eq!(listed.len(), 1 + Reason::ALL.len());
     for (reason, (name, number, words)) in Reason::ALL.iter().zip(&listed[1..]) {
         assert_eq!((reason.number(), reason.to_string().as_str()), (*number, *words));

@@ -22,13 +22,14 @@ impl From<Answer> for LookedUp {
                 LookedUp { kind: 1, base, size, frame, rights }
             }
             Answer::Outside => LookedUp { kind: 2, base: 0, size: 0, frame: 0, rights: 0 },
+            Answer::NoAddress => LookedUp { kind: 5, base: 0, size: 0, frame: 0, rights: 0 },
         }
     }
 }
 
 impl fmt::Display for LookedUp {
     fn fmt(&self, to: &mut fmt::Formatter) -> fmt::Result {
-        let kind = ["nothing", "page", "outside"].get(self.kind as usize).unwrap_or(&"?");
+        let kind = ["nothing", "page", "outside", "?", "?", "no address"].get(self.kind as usize).unwrap_or(&"?");
         let LookedUp { kind: number, base, size, frame, rights } = self;
         write!(to, "kind {number} ({kind}), base {base:#x}, size {size:#x}, frame {frame:#x}, rights {rights:#b}")
     }
@@ -127,7 +128,7 @@ impl fmt::Display for Case {
             }
         }
         match walk.end {
-            End::NoAddress => writeln!(to, "    ends: no address from 2^48 on"),
+            End::NoAddress => writeln!(to, "    ends: it is no address, bits 47 to 63 are not alike"),
             End::Outside(kind) => {
                 writeln!(to, "    ends: the table with the {} is not wholly in the window", name(kind))
             }

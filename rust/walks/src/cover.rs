@@ -1,6 +1,7 @@
 //! What was asked: so that a run which never met a kind of answer, of damage or of window does not pass for a test of it.
 
 use crate::case::Case;
+use crate::scene::EDGES;
 use crate::words::ADDRESS;
 use model::{Answer, End, Kind, Walk};
 
@@ -30,6 +31,11 @@ const WAYS_OUT: [&str; 4] = ["table below", "table across the start", "table acr
 pub struct Cover {
     pub pairs: u64,
     no_address: u64,
+    /// Addresses of the upper half, and the edges one by one.
+    upper: u64,
+    edges: [u64; EDGES.len()],
+    /// Pages found in the upper half.
+    upper_page: [u64; 4],
     outside: [u64; 4],
     not_present: [u64; 4],
     reserved: [u64; 4],
@@ -68,13 +74,24 @@ impl Cover {
         self.pairs += 1;
         match walk.end {
             End::NoAddress => self.no_address += 1,
+            _ if case.va >> 63 == 1 => self.upper += 1,
+            _ => {}
+        }
+        if let Some(edge) = EDGES.iter().position(|edge| *edge == case.va) {
+            self.edges[edge] += 1;
+        }
+        match walk.end {
+            End::NoAddress => {}
             End::Outside(kind) => {
                 self.outside[kind as usize] += 1;
                 self.note_way_out(case, walk);
             }
             End::NotPresent(kind) => self.not_present[kind as usize] += 1,
             End::Reserved(kind) => self.reserved[kind as usize] += 1,
-            End::Page(kind) => self.page[kind as usize] += 1,
+            End::Page(kind) => {
+                self.page[kind as usize] += 1;
+                self.upper_page[kind as usize] += case.va >> 63;
+            }
         }
         if let (End::Page(kind), Answer::Page { rights, .. }) = (walk.end, walk.answer) {
             let which = usize::from(rights.writable) + 2 * usize::from(rights.user) + 4 * usize::from(rights.noexec);
@@ -144,9 +161,14 @@ impl Cover {
 
     /// How walks ended: each kind of answer, each size, and a failure of each kind at each level that can have it.
     pub fn ends(&self) -> Vec<Line> {
-        let mut lines = vec![line("from 2^48 on", self.no_address, 10_000)];
+        let mut lines = vec![
+            line("no address", self.no_address, 10_000),
+            line("of the upper half", self.upper, 200_000),
+            line("edge, rarest", least_of(&self.edges), 500),
+        ];
         for (name, kind) in SIZES {
             lines.push(line(format!("page of {name}"), self.page[kind as usize], 20_000));
+            lines.push(line(format!("page of {name} in the upper half"), self.upper_page[kind as usize], 5_000));
         }
         for (name, kind) in KINDS {
             lines.push(line(format!("{name} not present"), self.not_present[kind as usize], 5_000));

@@ -8,6 +8,20 @@ use crate::words::{page_word, table_word, ADDRESS};
 use model::Walk;
 
 const MOST_PAGES: usize = 12;
+/// Both sides of each edge of the two halves, and what might be taken for one.
+pub const EDGES: [u64; 11] = [
+    0,
+    (1 << 46) - 1,
+    1 << 46,
+    (1 << 47) - 1,
+    1 << 47,
+    (1 << 48) - 1,
+    1 << 48,
+    1 << 63,
+    0xffff_7fff_ffff_ffff,
+    0xffff_8000_0000_0000,
+    u64::MAX,
+];
 
 /// An address that a way was built for, and how many of its low bits are free within the page.
 #[derive(Clone, Copy)]
@@ -23,6 +37,11 @@ pub struct Scene {
     aims: Vec<Aim>,
     written: Vec<usize>,
     full: bool,
+}
+
+/// The address with these low 48 bits.
+fn canonical(va: u64) -> u64 {
+    ((va << 16) as i64 >> 16) as u64
 }
 
 /// A word that was changed for one question, as it was.
@@ -162,7 +181,7 @@ impl Scene {
             };
             va = va << 9 | index;
         }
-        let new = va << 12;
+        let new = canonical(va << 12);
         if self.aims.is_empty() || random.chance(1, 3) {
             return new;
         }
@@ -173,7 +192,7 @@ impl Scene {
 
     /// An address to ask about.
     fn asked(&self, random: &mut Random) -> u64 {
-        let random_48 = random.word() >> 16;
+        let random_48 = canonical(random.word() >> 16);
         let Some(aim) = (!self.aims.is_empty()).then(|| random.pick(&self.aims)) else {
             return if random.chance(1, 16) { random.word() } else { random_48 };
         };
@@ -186,12 +205,13 @@ impl Scene {
         };
         match random.below(32) {
             0 => base.wrapping_sub(1),
-            1 => base + low + 1,
-            2..=4 => inside ^ (1 + random.below(511)) << random.pick(&[39, 30, 21, 12]),
+            1 => base.wrapping_add(low + 1),
+            2..=4 => canonical(inside ^ (1 + random.below(511)) << random.pick(&[39, 30, 21, 12])),
             5 => random_48,
-            6 => inside | random.word() << 48,
-            7 => inside | 0xffff << 48,
-            8 => random.pick(&[0, (1 << 47) - 1, 1 << 47, (1 << 48) - 1, 1 << 48, 1 << 63, u64::MAX]),
+            6 => inside ^ random.word() << 47,
+            // the half's high bits are missing, or those of the other half are there
+            7 => inside ^ 0xffff << 48,
+            8 => random.pick(&EDGES),
             _ => inside,
         }
     }

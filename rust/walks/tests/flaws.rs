@@ -44,12 +44,19 @@ enum Flaw {
     OffsetInFrame,
     SizeOfTable,
     IndexMasked8,
-    NoEndAt48,
-    EndAt47,
-    SignedAddresses,
+    NoHole,
+    SignAt46,
+    SignAt48,
+    LowerHalfOnly,
+    Stripped,
+    HoleFromOneMore,
+    HoleToOneLess,
+    BaseStripped,
+    LastPageOfAllLost,
+    NoAddressIsNothing,
     // the window
     OutsideIsNothing,
-    NothingBeforeOutside,
+    OutsideBeforeNoAddress,
     OnlyEntryAsked,
     EndOneMore,
     EndOneLess,
@@ -61,25 +68,33 @@ enum Flaw {
     HighByteFirst,
     HalfWord,
     // what says nothing is not 0
-    BaseOfNothing,
+    BaseOfNoAddress,
 }
 use Flaw::*;
 
 /// From the root's entry, 3, down to the last table's, 0.
 fn walk(flaw: Flaw, case: &Case) -> LookedUp {
     let window = case.window();
-    let mut va = case.va;
-    let end = if flaw == EndAt47 { 47 } else { 48 };
-    if flaw == SignedAddresses && (va as i64) << 16 >> 16 == va as i64 {
-        va &= (1 << 48) - 1;
-    }
+    let va = case.va;
+    let extended = |bits: u32| ((va << (64 - bits)) as i64 >> (64 - bits)) as u64 == va;
+    let is_address = match flaw {
+        NoHole => true,
+        SignAt46 => extended(47),
+        SignAt48 => extended(49),
+        LowerHalfOnly => va >> 47 == 0,
+        Stripped => va >> 48 == 0,
+        HoleFromOneMore => extended(48) || va == 1 << 47,
+        HoleToOneLess => extended(48) || va == 0xffff_7fff_ffff_ffff,
+        LastPageOfAllLost => extended(48) && va >> 12 != 0xf_ffff_ffff_ffff,
+        _ => extended(48),
+    };
     let outside = if flaw == OutsideIsNothing { Answer::Nothing } else { Answer::Outside };
-    if va >> end != 0 && flaw != NoEndAt48 && flaw != NothingBeforeOutside {
-        let mut nothing = LookedUp::from(Answer::Nothing);
-        if flaw == BaseOfNothing {
-            nothing.base = va;
-        }
-        return nothing;
+    let mut none = LookedUp::from(if flaw == NoAddressIsNothing { Answer::Nothing } else { Answer::NoAddress });
+    if flaw == BaseOfNoAddress {
+        none.base = va;
+    }
+    if !is_address && flaw != OutsideBeforeNoAddress {
+        return none;
     }
     let width = match flaw {
         Width51 => 51,
@@ -102,8 +117,8 @@ fn walk(flaw: Flaw, case: &Case) -> LookedUp {
             index %= 256;
         }
         let Some(word) = read(flaw, window.bytes, window.origin, table, index) else { return outside.into() };
-        if flaw == NothingBeforeOutside && va >> 48 != 0 {
-            return Answer::Nothing.into();
+        if flaw == OutsideBeforeNoAddress && !is_address {
+            return none;
         }
         let has = |bit: u32| word >> bit & 1 == 1;
         let padding = (word % size) >> 13 << 13;
@@ -158,6 +173,7 @@ fn walk(flaw: Flaw, case: &Case) -> LookedUp {
         };
         match flaw {
             BaseNotRounded => answer.base = va / 4096 * 4096,
+            BaseStripped => answer.base %= 1 << 48,
             OffsetInFrame => answer.frame += va % size / 4096 * 4096,
             SizeOfTable => answer.size = 4096,
             RightsSwapped => answer.rights = answer.rights & 4 | answer.rights >> 1 & 1 | (answer.rights & 1) << 1,
@@ -249,11 +265,18 @@ flaws! {
     offset_in_frame: OffsetInFrame,
     size_of_table: SizeOfTable,
     index_masked_8: IndexMasked8,
-    no_end_at_48: NoEndAt48,
-    end_at_47: EndAt47,
-    signed_addresses: SignedAddresses,
+    no_hole: NoHole,
+    sign_at_46: SignAt46,
+    sign_at_48: SignAt48,
+    lower_half_only: LowerHalfOnly,
+    stripped: Stripped,
+    hole_from_one_more: HoleFromOneMore,
+    hole_to_one_less: HoleToOneLess,
+    base_stripped: BaseStripped,
+    last_page_of_all_lost: LastPageOfAllLost,
+    no_address_is_nothing: NoAddressIsNothing,
     outside_is_nothing: OutsideIsNothing,
-    nothing_before_outside: NothingBeforeOutside,
+    outside_before_no_address: OutsideBeforeNoAddress,
     only_entry_asked: OnlyEntryAsked,
     end_one_more: EndOneMore,
     end_one_less: EndOneLess,
@@ -264,7 +287,7 @@ flaws! {
     last_page_lost: LastPageLost,
     high_byte_first: HighByteFirst,
     half_word: HalfWord,
-    base_of_nothing: BaseOfNothing,
+    base_of_no_address: BaseOfNoAddress,
 }
 
 #[test]
