@@ -11,7 +11,7 @@ use Rattle.plan.specs.declared.maps.Asked.{Asked}
 use Rattle.plan.specs.declared.maps.Shape.{Shape}
 use Rattle.plan.specs.declared.maps.Shape.the-variants.{Level, Bad}
 use Rattle.tablepath.specs.Answers as the
-use Rattle.abi.specs.Answers.{mapped}
+use Rattle.abi.specs.Answers.{mappedToC}
 use Rattle.abi.specs.Calls.{siteOf, shapedSite, askedSite, misplacedBy, misplacedOf, bytesAfter, InOrder, mapAnswer, mapWrites, mapBytes}
 use Rattle.abi.specs.declared.sites.Sited.{Sited}
 use Rattle.abi.specs.declared.sites.Sited.the-variants.{At, Refused}
@@ -26,12 +26,12 @@ module _ (q : Asked) (origin pool pages root : ℕ) where
       go (Bad r) = refl
 
   module _ (s : List ℕ) (sp : Space) (e : siteOf origin pool pages root ≡ At sp) where
-    pub answer-asked : mapAnswer s q (askedSite origin pool pages root q) ≡ mapped (the.mapAnswer (holds s (sp .origin)) (memory s (sp .origin)) sp q)
-    unfolding askedSite shapedSite mapAnswer mapped the.mapAnswer the.mapSaid decideOf shapedOf
+    pub answer-asked : mapAnswer s q (askedSite origin pool pages root q) ≡ mappedToC (the.mapAnswer (holds s (sp .origin)) (memory s (sp .origin)) sp q)
+    unfolding askedSite shapedSite mapAnswer mappedToC the.mapAnswer the.mapSaid decideOf shapedOf
     answer-asked = rw e (go (shapeOf (q .size) (q .base) (q .frame)) refl)
       where
         go : (x : Shape) → shapeOf (q .size) (q .base) (q .frame) ≡ x
-            → mapAnswer s q (shapedSite x (At sp)) ≡ mapped (the.mapSaid (shapedOf (holds s (sp .origin)) (memory s (sp .origin)) sp q x))
+            → mapAnswer s q (shapedSite x (At sp)) ≡ mappedToC (the.mapSaid (shapedOf (holds s (sp .origin)) (memory s (sp .origin)) sp q x))
         go (Level n) f = rw f
         go (Bad r) f = refl
 

@@ -35,11 +35,11 @@ use Rattle.effect.proofs.Wholes.{book-opens}
 use Rattle.tablepath.specs.Answers as the
 use Rattle.abi.specs.ReasonNumbers as why
 use Rattle.abi.specs.ReasonNumbers.{reasonOf, numberOf}
-use Rattle.abi.specs.Answers.{rightsIn, mapped, unmapped, protected, told}
+use Rattle.abi.specs.Answers.{rightsIn, mappedToC, unmappedToC, protectedToC, toldToC}
 use Rattle.abi.specs.Calls.{siteOf, askedSite, shapedSite, mapSite, ask, createAnswer, mapAnswer, unmapAnswer, protectAnswer, toldAnswer}
 use Rattle.abi.specs.Relied as c
-use Rattle.abi.specs.Relied.{Numbers, spaceOf, asked, granted, WholeAt, Call, Meant, reason, tpCreate, tpMap, tpUnmap, tpProtect, tpTold}
-use Rattle.abi.specs.Reasons.{MapReasons, StartReasons, ProtectReasons, ToldReasons, Shaped, SiteReasons, CreateReasons}
+use Rattle.abi.specs.Relied.{Numbers, spaceOf, asked, granted, WholeAt, Call, KnownRights, reason, tpCreate, tpMap, tpUnmap, tpProtect, tpTold}
+use Rattle.abi.specs.Reasons.{MapReasons, StartReasons, ProtectReasons, ToldReasons, WellShaped, SiteReasons, CreateReasons}
 use Rattle.abi.specs.declared.sites.Sited.the-variants.{Refused}
 use Rattle.abi.proofs.Named.{map-answers, unmap-answers, protect-answers, told-answers}
 use Rattle.abi.proofs.Meant.{below-8, meant, rights-causes, map-given, protect-given}
@@ -47,28 +47,28 @@ use Rattle.abi.proofs.Reasons.{one-reason, never-done, never-rights}
 
 -- Answers by decisions -----------------------------------------------------------------------------------------------------------------
 
-map-number : (d : Placed) (y : Reason) → (mapped (the.mapSaid d) .reason ≡ reasonOf y) ↔ (d ≡ map.Refused y)
-unfolding mapped the.mapSaid
+map-number : (d : Placed) (y : Reason) → (mappedToC (the.mapSaid d) .reason ≡ reasonOf y) ↔ (d ≡ map.Refused y)
+unfolding mappedToC the.mapSaid
 map-number (map.Go p) y = (λ e. absurd (never-done y (sym e)), λ e. let z : _≡_ {A = ℕ} 0 1 = cc in absurd (omega arith))
 map-number (map.Refused x) y = (λ e. ap map.Refused (one-reason x y e), λ e. let same : x ≡ y = cc in ap reasonOf same)
 
-unmap-number : (b : Book) (d : Removing) (y : Reason) → (unmapped (the.unmapSaid b d) .reason ≡ reasonOf y) ↔ (d ≡ removing.Refused y)
-unfolding unmapped the.unmapSaid
+unmap-number : (b : Book) (d : Removing) (y : Reason) → (unmappedToC (the.unmapSaid b d) .reason ≡ reasonOf y) ↔ (d ≡ removing.Refused y)
+unfolding unmappedToC the.unmapSaid
 unmap-number b (removing.Go p) y = (λ e. absurd (never-done y (sym e)), λ e. let z : _≡_ {A = ℕ} 0 1 = cc in absurd (omega arith))
 unmap-number b (removing.Refused x) y = (λ e. ap removing.Refused (one-reason x y e), λ e. let same : x ≡ y = cc in ap reasonOf same)
 
-unmap-zero : (b : Book) (d : Removing) → (unmapped (the.unmapSaid b d) .reason ≡ 0) ↔ ((r : Removal) × (d ≡ removing.Go r))
-unfolding unmapped the.unmapSaid
+unmap-zero : (b : Book) (d : Removing) → (unmappedToC (the.unmapSaid b d) .reason ≡ 0) ↔ ((r : Removal) × (d ≡ removing.Go r))
+unfolding unmappedToC the.unmapSaid
 unmap-zero b (removing.Go p) = (λ e. (p, refl), λ k. refl)
 unmap-zero b (removing.Refused x) = (λ e. absurd (never-done x e), λ k. let z : _≡_ {A = ℕ} 0 1 = cc (k .1) in absurd (omega arith))
 
-protect-number : (d : Changing) (y : Reason) → (protected (the.protectSaid d) .reason ≡ reasonOf y) ↔ (d ≡ changing.Refused y)
-unfolding protected the.protectSaid
+protect-number : (d : Changing) (y : Reason) → (protectedToC (the.protectSaid d) .reason ≡ reasonOf y) ↔ (d ≡ changing.Refused y)
+unfolding protectedToC the.protectSaid
 protect-number (changing.Go p) y = (λ e. absurd (never-done y (sym e)), λ e. let z : _≡_ {A = ℕ} 0 1 = cc in absurd (omega arith))
 protect-number (changing.Refused x) y = (λ e. ap changing.Refused (one-reason x y e), λ e. let same : x ≡ y = cc in ap reasonOf same)
 
-protect-zero : (d : Changing) → (protected (the.protectSaid d) .reason ≡ 0) ↔ ((g : Change) × (d ≡ changing.Go g))
-unfolding protected the.protectSaid
+protect-zero : (d : Changing) → (protectedToC (the.protectSaid d) .reason ≡ 0) ↔ ((g : Change) × (d ≡ changing.Go g))
+unfolding protectedToC the.protectSaid
 protect-zero (changing.Go p) = (λ e. (p, refl), λ k. refl)
 protect-zero (changing.Refused x) = (λ e. absurd (never-done x e), λ k. let z : _≡_ {A = ℕ} 0 1 = cc (k .1) in absurd (omega arith))
 
@@ -106,10 +106,10 @@ module _ (s : List ℕ) (n : Numbers) (w : WholeAt s n) where
     map-for y = (λ e. let l = map-given s n base frame size rights (reasonOf y) e (never-rights y) in (l, map-by l y .0 e), λ k. map-by (k .0) y .1 (k .1))
 
     known : rights < 8 → (tpMap s n base frame size rights .reason ≡ 0) ⊎ ((y : Reason) × (tpMap s n base frame size rights .reason ≡ reasonOf y))
-    unfolding the.mapAnswer mapped the.mapSaid
+    unfolding the.mapAnswer mappedToC the.mapSaid
     known l = rw (map-answers n (w .aligned) s base frame size rights l) (go (map.decideOf (holds s (n .origin)) (memory s (n .origin)) (spaceOf n) (asked base frame size rights)))
       where
-        go : (d : Placed) → (mapped (the.mapSaid d) .reason ≡ 0) ⊎ ((y : Reason) × (mapped (the.mapSaid d) .reason ≡ reasonOf y))
+        go : (d : Placed) → (mappedToC (the.mapSaid d) .reason ≡ 0) ⊎ ((y : Reason) × (mappedToC (the.mapSaid d) .reason ≡ reasonOf y))
         go (map.Go p) = inl refl
         go (map.Refused y) = inr (y, refl)
 
@@ -154,10 +154,10 @@ module _ (s : List ℕ) (n : Numbers) (w : WholeAt s n) where
         })
 
     not-rights : rights < 8 → tpProtect s n base rights .reason ≢ numberOf why.rights
-    unfolding the.protectAnswer protected the.protectSaid
+    unfolding the.protectAnswer protectedToC the.protectSaid
     not-rights l = rw (protect-answers n (w .aligned) s base rights l) (go (protect.decideOf (holds s (n .origin)) (memory s (n .origin)) (spaceOf n) base (granted rights)))
       where
-        go : (d : Changing) → protected (the.protectSaid d) .reason ≢ numberOf why.rights
+        go : (d : Changing) → protectedToC (the.protectSaid d) .reason ≢ numberOf why.rights
         go (changing.Go p) e = omega (arith, e)
         go (changing.Refused y) e = never-rights y e
 
@@ -176,7 +176,7 @@ module _ (s : List ℕ) (n : Numbers) (w : WholeAt s n) where
 
   -- TOLD
   pub told-causes : (ticket : ℕ) → ToldReasons (tpTold s n ticket .reason) (bookOf (memory s (n .origin)) (spaceOf n)) ticket
-  unfolding the.toldAnswer the.toldSaid the.dueSaid told
+  unfolding the.toldAnswer the.toldSaid the.dueSaid toldToC
   told-causes ticket =
       let k = told-exactly (n .pages) (bookOf (memory s (n .origin)) (spaceOf n)) ticket (w .whole .booked .sound) in
       rw (told-answers n (w .aligned) s ticket, book-opens (w .whole)) (record {
@@ -188,17 +188,17 @@ module _ (s : List ℕ) (n : Numbers) (w : WholeAt s n) where
       none : {A : Type 0} → _≡_ {A = ℕ} 0 1 → A
       none z = absurd (omega arith)
 
-      zero : (d : Due) → (told (the.dueSaid d) .reason ≡ 0) ↔ ((k : ℕ) × (d ≡ due.Pages k))
+      zero : (d : Due) → (toldToC (the.dueSaid d) .reason ≡ 0) ↔ ((k : ℕ) × (d ≡ due.Pages k))
       zero (due.Pages k) = (λ e. (k, refl), λ x. refl)
       zero due.Unknown = (λ e. absurd (omega arith), λ x. none (cc (x .1)))
       zero due.Spent = (λ e. absurd (omega arith), λ x. none (cc (x .1)))
 
-      strange : (d : Due) → (told (the.dueSaid d) .reason ≡ numberOf why.unknown) ↔ (d ≡ due.Unknown)
+      strange : (d : Due) → (toldToC (the.dueSaid d) .reason ≡ numberOf why.unknown) ↔ (d ≡ due.Unknown)
       strange (due.Pages k) = (λ e. absurd (omega arith), λ e. none cc)
       strange due.Unknown = (λ e. refl, λ e. refl)
       strange due.Spent = (λ e. absurd (omega arith), λ e. none cc)
 
-      late : (d : Due) → (told (the.dueSaid d) .reason ≡ numberOf why.spent) ↔ (d ≡ due.Spent)
+      late : (d : Due) → (toldToC (the.dueSaid d) .reason ≡ numberOf why.spent) ↔ (d ≡ due.Spent)
       late (due.Pages k) = (λ e. absurd (omega arith), λ e. none cc)
       late due.Unknown = (λ e. absurd (omega arith), λ e. none cc)
       late due.Spent = (λ e. refl, λ e. refl)
@@ -207,7 +207,7 @@ module _ (s : List ℕ) (n : Numbers) (w : WholeAt s n) where
 
 module _ (s : List ℕ) (n : Numbers) where
   -- what every call says of it
-  refused-says : (x : Call) → Meant x → Shaped x → (k : ℕ) → siteOf (n .origin) (n .pool) (n .pages) (n .root) ≡ Refused k → reason s n x ≡ k
+  refused-says : (x : Call) → KnownRights x → WellShaped x → (k : ℕ) → siteOf (n .origin) (n .pool) (n .pages) (n .root) ≡ Refused k → reason s n x ≡ k
   unfolding reason askedSite shapedSite mapAnswer unmapAnswer protectAnswer toldAnswer
   refused-says (c.map base frame size rights) m l k e =
       let site : mapSite (n .origin) (n .pool) (n .pages) (n .root) base frame size rights ≡ Refused k = meant rights _ m ∙ rw (l .1) e in
@@ -224,7 +224,7 @@ module _ (s : List ℕ) (n : Numbers) where
       ap (λ x. mapAnswer s (ask base frame size rights) x .reason) site
 
   -- then the space
-  pub site-causes : (x : Call) → Meant x → Shaped x → SiteReasons (reason s n x) n
+  pub site-causes : (x : Call) → KnownRights x → WellShaped x → SiteReasons (reason s n x) n
   unfolding siteOf
   site-causes x m l = record {
     pool-unaligned = λ p. refused-says x m l (numberOf why.pool-unaligned) (rw (ne-eqb _ _ p));

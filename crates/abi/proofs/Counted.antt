@@ -12,7 +12,7 @@ use Rattle.effect.proofs.Wholes.{owned, book-opens}
 use Rattle.tablepath.specs.Calls as calls
 use Rattle.tablepath.specs.Tickets.{Handed}
 use Rattle.tablepath.proofs.Moments.{state-after-call}
-use Rattle.abi.specs.Answers.{counted}
+use Rattle.abi.specs.Answers.{countedToC}
 use Rattle.abi.specs.Relied as c
 use Rattle.abi.specs.Relied.{Numbers, WholeAt, spaceOf, granted, callOf, leaves, tpUnmap, tpProtect, tpState}
 use Rattle.abi.specs.Reasons.{StateCounts}
@@ -21,7 +21,7 @@ use Rattle.abi.proofs.Named.{call-leaves, state-answers}
 use Rattle.abi.proofs.Says.{unmap-says, protect-says}
 
 pub state-counts : (s : List ℕ) (n : Numbers) (w : WholeAt s n) → StateCounts (tpState s n) n (bookOf (memory s (n .origin)) (spaceOf n)) (w .role)
-unfolding counted stateOf statedOf countedOf
+unfolding countedToC stateOf statedOf countedOf
 state-counts s n w =
     rw (state-answers n (w .aligned) s, book-opens (w .whole)) (record {
       done = refl;
@@ -35,7 +35,7 @@ state-counts s n w =
 module _ (s : List ℕ) (n : Numbers) (w : WholeAt s n) where
   -- STATE AFTER UNMAP answers its ticket
   pub unmap-then-state : (base : ℕ) → tpUnmap s n base .reason ≡ 0 → tpState (leaves s n (c.unmap base)) n .ticket ≡ tpUnmap s n base .ticket
-  unfolding Handed callOf counted
+  unfolding Handed callOf countedToC
   unmap-then-state base e =
       let done = unmap-says s n (w .aligned) base .done e in
       let k = state-after-call s (spaceOf n) (w .role) (w .whole) (calls.unmap base) (tpUnmap s n base .ticket) (_, done, refl) in
@@ -44,7 +44,7 @@ module _ (s : List ℕ) (n : Numbers) (w : WholeAt s n) where
   -- STATE AFTER PROTECT
   pub protect-then-state : (base rights : ℕ) → tpProtect s n base rights .reason ≡ 0
       → tpState (leaves s n (c.protect base rights)) n .ticket ≡ tpProtect s n base rights .ticket
-  unfolding Handed callOf counted
+  unfolding Handed callOf countedToC
   protect-then-state base rights e =
       let l = protect-meant s n base rights e in
       let done = protect-says s n (w .aligned) base rights l .done e in

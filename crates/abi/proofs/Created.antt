@@ -25,7 +25,7 @@ use Rattle.tablepath.proofs.Witness.{nothing-yet}
 use Rattle.tablepath.specs.Looks.{WholeBytes}
 use Rattle.tablepath.proofs.Wholes.{create-whole}
 use Rattle.abi.specs.ReasonNumbers.{poolReason, numberOf, pool-unaligned}
-use Rattle.abi.specs.Answers.{created, lookedUp}
+use Rattle.abi.specs.Answers.{createdToC, lookedUpToC}
 use Rattle.abi.specs.Calls as call
 use Rattle.abi.specs.Calls.{createAnswer}
 use Rattle.abi.specs.Relied.{WholeAt, tpCreate, createLeaves, tpLookUp, nothing, newNumbers, CreateDone}
@@ -39,12 +39,12 @@ module _ (s : List ℕ) (origin pool pages : ℕ) where
   fits x y = cond x (cond y (roomOf (holds s origin) (pool / 4096) pages) (fit.Refused LengthUnaligned)) (fit.Refused OriginUnaligned)
 
   -- OF A POOL AT A PAGE BOUNDARY, it is the operation: the answer and the bytes
-  create-answers : pool % 4096 ≡ 0 → tpCreate s origin pool pages ≡ created (createdOf (length s) (holds s origin) origin (pool / 4096) pages)
-  unfolding createAnswer created createdOf createdIn mayCreate poolReason fits
+  create-answers : pool % 4096 ≡ 0 → tpCreate s origin pool pages ≡ createdToC (createdOf (length s) (holds s origin) origin (pool / 4096) pages)
+  unfolding createAnswer createdToC createdOf createdIn mayCreate poolReason fits
   create-answers a = rw (eq-eqb _ _ a) (go (eqb (origin % 4096) 0) (eqb (length s % 4096) 0))
     where
-      go : (x y : Bool) → cond x (cond y (created (createdIn (pool / 4096) pages (fits x y))) (record { reason = poolReason LengthUnaligned; root = 0 })) (record { reason = poolReason OriginUnaligned; root = 0 })
-          ≡ created (createdIn (pool / 4096) pages (fits x y))
+      go : (x y : Bool) → cond x (cond y (createdToC (createdIn (pool / 4096) pages (fits x y))) (record { reason = poolReason LengthUnaligned; root = 0 })) (record { reason = poolReason OriginUnaligned; root = 0 })
+          ≡ createdToC (createdIn (pool / 4096) pages (fits x y))
       go true true = refl
       go true false = refl
       go false y = refl
@@ -70,15 +70,15 @@ module _ (s : List ℕ) (origin pool pages : ℕ) where
   done-aligned e = go (eqb (origin % 4096) 0) (eqb (length s % 4096) 0) (eqb (pool % 4096) 0) refl e
     where
       go : (x y z : Bool) → eqb (pool % 4096) 0 ≡ z
-          → cond x (cond y (cond z (created (createdOf (length s) (holds s origin) origin (pool / 4096) pages)) (record { reason = numberOf pool-unaligned; root = 0 })) (record { reason = poolReason LengthUnaligned; root = 0 })) (record { reason = poolReason OriginUnaligned; root = 0 }) .reason ≡ 0
+          → cond x (cond y (cond z (createdToC (createdOf (length s) (holds s origin) origin (pool / 4096) pages)) (record { reason = numberOf pool-unaligned; root = 0 })) (record { reason = poolReason LengthUnaligned; root = 0 })) (record { reason = poolReason OriginUnaligned; root = 0 }) .reason ≡ 0
           → pool % 4096 ≡ 0
       go x y true f k = eqb-true _ _ f
       go true true false f k = absurd (omega arith)
       go true false false f k = absurd (omega arith)
       go false y false f k = absurd (omega arith)
 
-  root-page : (a : ofPool.Created) → created a .root % 4096 ≡ 0
-  unfolding created
+  root-page : (a : ofPool.Created) → createdToC a .root % 4096 ≡ 0
+  unfolding createdToC
   root-page (create.Root p) = omega arith
   root-page (create.Refused y) = refl
 
@@ -105,4 +105,4 @@ module _ (s : List ℕ) (origin pool pages : ℕ) where
       empty : (va : ℕ) → canonical va ≡ true → tpLookUp (createLeaves s origin pool pages) (newNumbers s origin pool pages) va ≡ nothing
       empty va u =
           looks (newNumbers s origin pool pages) (whole .aligned) (createLeaves s origin pool pages) va
-          ∙ ap lookedUp (rw root-is (nothing-yet (k .1) va u)) ∙ nothing-is
+          ∙ ap lookedUpToC (rw root-is (nothing-yet (k .1) va u)) ∙ nothing-is

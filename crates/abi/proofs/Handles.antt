@@ -15,10 +15,10 @@ use Rattle.plan.specs.declared.maps.Shape.the-variants.{Level, Bad}
 use Rattle.tablepath.specs.Handles as the
 use Rattle.tablepath.proofs.Handles.{other-numbers, other-first, others-kept}
 use Rattle.abi.specs.ReasonNumbers.{numberOf, pool-unaligned, root-unaligned}
-use Rattle.abi.specs.Answers.{rightsIn, mapped, unmapped, protected, told}
+use Rattle.abi.specs.Answers.{rightsIn, mappedToC, unmappedToC, protectedToC, toldToC}
 use Rattle.abi.specs.Calls.{siteOf, shapedSite, askedSite, ask, mapAnswer, unmapAnswer, protectAnswer, toldAnswer}
 use Rattle.abi.specs.Relied as c
-use Rattle.abi.specs.Relied.{Numbers, Aligned, spaceOf, WholeAt, Call, callOf, leaves, reason}
+use Rattle.abi.specs.Relied.{Numbers, AlignedNumbers, spaceOf, WholeAt, Call, callOf, leaves, reason}
 use Rattle.abi.specs.Handles.{Rejected, Disjoint}
 use Rattle.abi.specs.declared.sites.Sited.{Sited}
 use Rattle.abi.specs.declared.sites.Sited.the-variants.{At, Refused}
@@ -29,16 +29,16 @@ use Rattle.abi.proofs.Meant.{meant, meant-or-same, map-meant, protect-m
 
 module _ (s : List ℕ) (n : Numbers) where
   -- what tablepath rejects has a reason
-  given : Aligned n → (x : Call) → the.Rejected (holds s (n .origin)) (memory s (n .origin)) (spaceOf n) (callOf x) → reason s n x ≢ 0
-  unfolding reason callOf mapped unmapped protected told
+  given : AlignedNumbers n → (x : Call) → the.Rejected (holds s (n .origin)) (memory s (n .origin)) (spaceOf n) (callOf x) → reason s n x ≢ 0
+  unfolding reason callOf mappedToC unmappedToC protectedToC toldToC
   given a (c.map base frame size rights) k e =
-      never-done (k .refused .0) (ap (λ y. mapped y .reason) (sym (k .refused .1)) ∙ ap (λ y. y .reason) (sym (map-answers n a s base frame size rights (map-meant s n base frame size rights e))) ∙ e)
+      never-done (k .refused .0) (ap (λ y. mappedToC y .reason) (sym (k .refused .1)) ∙ ap (λ y. y .reason) (sym (map-answers n a s base frame size rights (map-meant s n base frame size rights e))) ∙ e)
   given a (c.unmap base) k e =
-      never-done (k .refused .0) (ap (λ y. unmapped y .reason) (sym (k .refused .1)) ∙ ap (λ y. y .reason) (sym (unmap-answers n a s base)) ∙ e)
+      never-done (k .refused .0) (ap (λ y. unmappedToC y .reason) (sym (k .refused .1)) ∙ ap (λ y. y .reason) (sym (unmap-answers n a s base)) ∙ e)
   given a (c.protect base rights) k e =
-      never-done (k .refused .0) (ap (λ y. protected y .reason) (sym (k .refused .1)) ∙ ap (λ y. y .reason) (sym (protect-answers n a s base rights (protect-meant s n base rights e))) ∙ e)
+      never-done (k .refused .0) (ap (λ y. protectedToC y .reason) (sym (k .refused .1)) ∙ ap (λ y. y .reason) (sym (protect-answers n a s base rights (protect-meant s n base rights e))) ∙ e)
   given a (c.told ticket) k e =
-      pool-never-done (k .refused .0) (ap (λ y. told y .reason) (sym (k .refused .1)) ∙ ap (λ y. y .reason) (sym (told-answers n a s ticket)) ∙ e)
+      pool-never-done (k .refused .0) (ap (λ y. toldToC y .reason) (sym (k .refused .1)) ∙ ap (λ y. y .reason) (sym (told-answers n a s ticket)) ∙ e)
 
   -- and so have numbers that name no space
   shaped-astray : (q : Asked) (z : Shape) (y : ℕ) → y ≢ 0 → mapAnswer s q (shapedSite z (Refused y)) .reason ≢ 0
@@ -64,7 +64,7 @@ module _ (s : List ℕ) (n : Numbers) where
 
   -- A CALL IS REJECTED where its numbers are not aligned, or tablepath rejects it
   data Alignment : Type 0 where
-    aligned : Aligned n → Alignment
+    aligned : AlignedNumbers n → Alignment
     unaligned : (y : ℕ) → y ≢ 0 → siteOf (n .origin) (n .pool) (n .pages) (n .root) ≡ Refused y → Alignment
 
   alignment : Alignment
@@ -76,7 +76,7 @@ module _ (s : List ℕ) (n : Numbers) where
       go (yes a) (no b) = unaligned (numberOf root-unaligned) (λ e. omega arith) (rw (eq-eqb _ _ a, ne-eqb _ _ b))
       go (no a) b = unaligned (numberOf pool-unaligned) (λ e. omega arith) (rw (ne-eqb _ _ a))
 
-  rejects : (Aligned n → (x : Call) → the.Rejected (holds s (n .origin)) (memory s (n .origin)) (spaceOf n) (callOf x)) → (x : Call) → Rejected s n x
+  rejects : (AlignedNumbers n → (x : Call) → the.Rejected (holds s (n .origin)) (memory s (n .origin)) (spaceOf n) (callOf x)) → (x : Call) → Rejected s n x
   rejects f x = go alignment
     where
       go : Alignment → Rejected s n x
@@ -92,7 +92,7 @@ module _ (s : List ℕ) (n : Numbers) (w : WholeAt s n) (other : Numbers) (same 
   pub other-handle : other .pool ≡ n .pool → (other .pages ≢ n .pages) ⊎ (other .root ≢ n .root) → (x : Call) → Rejected s other x
   other-handle at d = rejects s other (λ a x. here x (other-numbers (w .whole) (spaceOf other) (ap (λ y. y / 4096) at) (pages a d) (callOf x)))
     where
-      pages : Aligned other → (other .pages ≢ n .pages) ⊎ (other .root ≢ n .root) → (other .pages ≢ n .pages) ⊎ (other .root / 4096 ≢ n .root / 4096)
+      pages : AlignedNumbers other → (other .pages ≢ n .pages) ⊎ (other .root ≢ n .root) → (other .pages ≢ n .pages) ⊎ (other .root / 4096 ≢ n .root / 4096)
       pages a (inl x) = inl x
       pages a (inr x) = inr (λ e. x (omega (arith, e, a .root, w .aligned .root)))
 
@@ -104,7 +104,7 @@ module _ (s : List ℕ) (n : Numbers) (w : WholeAt s n) (other : Numbers) (same 
   pub other-call-keeps : Disjoint n other → (x : Call) → WholeAt (leaves s other x) n
   other-call-keeps d x = go (alignment s other)
     where
-      apart : Aligned other → Disjoint n other → the.Disjoint (spaceOf n) (spaceOf other)
+      apart : AlignedNumbers other → Disjoint n other → the.Disjoint (spaceOf n) (spaceOf other)
       apart a (inl u) = inl (omega (arith, u, a .pool, w .aligned .pool))
       apart a (inr u) = inr (omega (arith, u, a .pool, w .aligned .pool))
 

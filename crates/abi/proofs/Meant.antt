@@ -12,7 +12,7 @@ use Rattle.abi.specs.ReasonNumbers.{numberOf}
 use Rattle.abi.specs.Answers.{rightsIn}
 use Rattle.abi.specs.Calls.{siteOf, askedSite, ask, rightsSite, bytesAfter, mapAnswer, mapWrites, protectAnswer, protectWrites}
 use Rattle.abi.specs.Relied as c
-use Rattle.abi.specs.Relied.{Numbers, Call, Meant, leaves, reason, tpMap, tpProtect}
+use Rattle.abi.specs.Relied.{Numbers, Call, KnownRights, leaves, reason, tpMap, tpProtect}
 use Rattle.abi.specs.declared.sites.Sited.{Sited}
 use Rattle.abi.specs.declared.sites.Sited.the-variants.{Refused}
 
@@ -33,7 +33,7 @@ meaningless rights x l = rw (le-ltb rights 8 l)
 
 module _ (s : List ℕ) (n : Numbers) where
   -- THE REASON
-  pub rights-causes : (x : Call) → ¬ Meant x → reason s n x ≡ numberOf why.rights
+  pub rights-causes : (x : Call) → ¬ KnownRights x → reason s n x ≡ numberOf why.rights
   unfolding reason mapAnswer protectAnswer
   rights-causes (c.map base frame size rights) k =
       ap (λ x. mapAnswer s (ask base frame size rights) x .reason)
@@ -44,7 +44,7 @@ module _ (s : List ℕ) (n : Numbers) where
   rights-causes (c.told ticket) k = absurd (k tt)
 
   -- a call that means something, or one that leaves every byte
-  pub meant-or-same : (x : Call) → Meant x ⊎ (leaves s n x ≡ s)
+  pub meant-or-same : (x : Call) → KnownRights x ⊎ (leaves s n x ≡ s)
   unfolding leaves bytesAfter
   meant-or-same (c.map base frame size rights) = go (below-8 rights)
     where

@@ -13,10 +13,10 @@ use Rattle.entry.specs.Words.{flag}
 use Rattle.pool.specs.State.{stateOf}
 use Rattle.tablepath.specs.Calls.{callWrites}
 use Rattle.tablepath.specs.Answers as the
-use Rattle.abi.specs.Answers.{rightsIn, rightsWord, mapped, unmapped, protected, told, counted}
+use Rattle.abi.specs.Answers.{rightsIn, rightsWord, mappedToC, unmappedToC, protectedToC, toldToC, countedToC}
 use Rattle.abi.specs.Calls.{siteOf, askedSite, ask, bytesAfter, unmapAnswer, protectAnswer, toldAnswer, stateAnswer}
 use Rattle.abi.specs.Relied as c
-use Rattle.abi.specs.Relied.{Numbers, Aligned, spaceOf, Call, Meant, callOf, granted, asked, leaves, tpMap, tpUnmap, tpProtect, tpTold, tpState}
+use Rattle.abi.specs.Relied.{Numbers, AlignedNumbers, spaceOf, Call, KnownRights, callOf, granted, asked, leaves, tpMap, tpUnmap, tpProtect, tpTold, tpState}
 use Rattle.abi.specs.declared.sites.Sited.the-variants.{At}
 use Rattle.abi.proofs.Asked.{answer-asked, bytes-asked}
 use Rattle.abi.proofs.Meant.{meant}
@@ -46,14 +46,14 @@ rights-back w =
 
 -- Calls ------------------------------------------------------------------------------------------------------------------------------
 
-module _ (n : Numbers) (a : Aligned n) where
+module _ (n : Numbers) (a : AlignedNumbers n) where
   pub named : siteOf (n .origin) (n .pool) (n .pages) (n .root) ≡ At (spaceOf n)
   unfolding siteOf
   named = rw (eq-eqb _ _ (a .pool), eq-eqb _ _ (a .root))
 
   module _ (s : List ℕ) where
     -- the bytes
-    pub call-leaves : (x : Call) → Meant x → leaves s n x ≡ carried s (n .origin) (callWrites (holds s (n .origin)) (memory s (n .origin)) (spaceOf n) (callOf x))
+    pub call-leaves : (x : Call) → KnownRights x → leaves s n x ≡ carried s (n .origin) (callWrites (holds s (n .origin)) (memory s (n .origin)) (spaceOf n) (callOf x))
     unfolding leaves callOf callWrites bytesAfter
     call-leaves (c.map base frame size rights) l =
         rw (meant rights (askedSite (n .origin) (n .pool) (n .pages) (n .root) (ask base frame size rights)) l)
@@ -64,24 +64,24 @@ module _ (n : Numbers) (a : Aligned n) where
 
     -- and the answers
     pub map-answers : (base frame size rights : ℕ) → rights < 8 → tpMap s n base frame size rights
-        ≡ mapped (the.mapAnswer (holds s (n .origin)) (memory s (n .origin)) (spaceOf n) (asked base frame size rights))
+        ≡ mappedToC (the.mapAnswer (holds s (n .origin)) (memory s (n .origin)) (spaceOf n) (asked base frame size rights))
     map-answers base frame size rights l =
         rw (meant rights (askedSite (n .origin) (n .pool) (n .pages) (n .root) (ask base frame size rights)) l)
         (answer-asked (ask base frame size rights) (n .origin) (n .pool) (n .pages) (n .root) s (spaceOf n) named ∙ rw (rights-granted rights))
 
-    pub unmap-answers : (base : ℕ) → tpUnmap s n base ≡ unmapped (the.unmapAnswer (holds s (n .origin)) (memory s (n .origin)) (spaceOf n) base)
+    pub unmap-answers : (base : ℕ) → tpUnmap s n base ≡ unmappedToC (the.unmapAnswer (holds s (n .origin)) (memory s (n .origin)) (spaceOf n) base)
     unfolding unmapAnswer
     unmap-answers base = rw named
 
     pub protect-answers : (base rights : ℕ) → rights < 8 → tpProtect s n base rights
-        ≡ protected (the.protectAnswer (holds s (n .origin)) (memory s (n .origin)) (spaceOf n) base (granted rights))
+        ≡ protectedToC (the.protectAnswer (holds s (n .origin)) (memory s (n .origin)) (spaceOf n) base (granted rights))
     unfolding protectAnswer
     protect-answers base rights l = rw (meant rights (siteOf (n .origin) (n .pool) (n .pages) (n .root)) l, named, rights-granted rights)
 
-    pub told-answers : (ticket : ℕ) → tpTold s n ticket ≡ told (the.toldAnswer (holds s (n .origin)) (memory s (n .origin)) (spaceOf n) ticket)
+    pub told-answers : (ticket : ℕ) → tpTold s n ticket ≡ toldToC (the.toldAnswer (holds s (n .origin)) (memory s (n .origin)) (spaceOf n) ticket)
     unfolding toldAnswer
     told-answers ticket = rw named
 
-    pub state-answers : tpState s n ≡ counted (stateOf (holds s (n .origin)) (memory s (n .origin)) (spaceOf n))
+    pub state-answers : tpState s n ≡ countedToC (stateOf (holds s (n .origin)) (memory s (n .origin)) (spaceOf n))
     unfolding stateAnswer
     state-answers = rw named

@@ -8,10 +8,10 @@ use Rattle.pool.specs.declared.Reason as inPool
 use Rattle.pool.specs.declared.Reason.the-variants as pool
 use Rattle.plan.specs.declared.Reason.{Reason}
 use Rattle.plan.specs.declared.Reason.the-variants as plan
-use Rattle.abi.specs.ReasonNumbers.{Why, done, refused, pool-unaligned, root-unaligned, unknown, spent, rights, pointer, reasonOf, poolReason, numberOf, header}
+use Rattle.abi.specs.ReasonNumbers.{Outcome, done, refused, pool-unaligned, root-unaligned, unknown, spent, rights, pointer, reasonOf, poolReason, numberOf, header}
 
 -- THE HEADER'S PLACE of a reason is its number.
-pub in-header : (y : Why) → getD header (numberOf y) done ≡ y
+pub in-header : (y : Outcome) → getD header (numberOf y) done ≡ y
 unfolding header reasonOf poolReason
 -- tools/reasons: in-header
 in-header done = refl
@@ -45,7 +45,7 @@ in-header pointer = refl
 -- tools/reasons: end
 
 -- ONE TO ONE
-pub one-number : (x y : Why) → numberOf x ≡ numberOf y → x ≡ y
+pub one-number : (x y : Outcome) → numberOf x ≡ numberOf y → x ≡ y
 one-number x y e = sym (in-header x) ∙ (ap (λ n. getD header n done) e ∙ in-header y)
 
 -- of the operations' reasons, and of the pool's

@@ -30,7 +30,7 @@ use Rattle.plan.specs.declared.protects.Changing.the-variants as changing
 use Rattle.tablepath.specs.Answers as the
 use Rattle.pool.specs.declared.Reason.the-variants.{OriginUnaligned, LengthUnaligned}
 use Rattle.abi.specs.ReasonNumbers.{poolReason, numberOf, pool-unaligned}
-use Rattle.abi.specs.Answers.{rightsIn, created, mapped, unmapped, protected, told}
+use Rattle.abi.specs.Answers.{rightsIn, createdToC, mappedToC, unmappedToC, protectedToC, toldToC}
 use Rattle.abi.specs.Calls as call
 use Rattle.abi.specs.Calls.{siteOf, mapSite, protectSite, ask, bytesAfter, createAnswer, mapAnswer, mapBytes, unmapAnswer, unmapBytes, protectAnswer, protectBytes, toldAnswer, toldBytes}
 use Rattle.abi.specs.Relied as c
@@ -46,11 +46,11 @@ module _ (s : List ℕ) where
   same e = record { bytes = refl; zeros = e }
 
   map-refused : (q : Asked) (x : Sited) → mapAnswer s q x .reason ≢ 0 → Untouched s (mapBytes s q x) (mapAnswer s q x .tables ∷ [])
-  unfolding mapAnswer bytesAfter mapped the.mapAnswer the.mapWrites the.mapSaid map.didOf carried
+  unfolding mapAnswer bytesAfter mappedToC the.mapAnswer the.mapWrites the.mapSaid map.didOf carried
   map-refused q (Refused y) k = same refl
   map-refused q (At sp) k = go (map.decideOf (holds s (sp .origin)) (memory s (sp .origin)) sp q) k
     where
-      go : (d : Placed) → mapped (the.mapSaid d) .reason ≢ 0 → Untouched s (carried s (sp .origin) (map.didOf sp d)) (mapped (the.mapSaid d) .tables ∷ [])
+      go : (d : Placed) → mappedToC (the.mapSaid d) .reason ≢ 0 → Untouched s (carried s (sp .origin) (map.didOf sp d)) (mappedToC (the.mapSaid d) .tables ∷ [])
       go (map.Go p) k = absurd (k refl)
       go (map.Refused r) k = same refl
 
@@ -59,12 +59,12 @@ module _ (s : List ℕ) where
   unmapFields x = x .frame ∷ x .size ∷ x .aside ∷ x .ticket ∷ []
 
   unmap-refused : (base : ℕ) (x : Sited) → unmapAnswer s base x .reason ≢ 0 → Untouched s (unmapBytes s base x) (unmapFields (unmapAnswer s base x))
-  unfolding unmapAnswer bytesAfter unmapped unmapFields the.unmapAnswer the.unmapWrites the.unmapSaid unmap.didOf carried
+  unfolding unmapAnswer bytesAfter unmappedToC unmapFields the.unmapAnswer the.unmapWrites the.unmapSaid unmap.didOf carried
   unmap-refused base (Refused y) k = same refl
   unmap-refused base (At sp) k = go (unmap.decideOf (holds s (sp .origin)) (memory s (sp .origin)) sp base) k
     where
-      go : (d : Removing) → unmapped (the.unmapSaid (bookOf (memory s (sp .origin)) sp) d) .reason ≢ 0
-          → Untouched s (carried s (sp .origin) (unmap.didOf sp base d)) (unmapFields (unmapped (the.unmapSaid (bookOf (memory s (sp .origin)) sp) d)))
+      go : (d : Removing) → unmappedToC (the.unmapSaid (bookOf (memory s (sp .origin)) sp) d) .reason ≢ 0
+          → Untouched s (carried s (sp .origin) (unmap.didOf sp base d)) (unmapFields (unmappedToC (the.unmapSaid (bookOf (memory s (sp .origin)) sp) d)))
       go (removing.Go r) k = absurd (k refl)
       go (removing.Refused y) k = same refl
 
@@ -73,27 +73,27 @@ module _ (s : List ℕ) where
 
   protect-refused : (base : ℕ) (r : Rights) (x : Sited) → protectAnswer s base r x .reason ≢ 0
       → Untouched s (protectBytes s base r x) (protectFields (protectAnswer s base r x))
-  unfolding protectAnswer bytesAfter protected protectFields the.protectAnswer the.protectWrites the.protectSaid protect.didOf carried
+  unfolding protectAnswer bytesAfter protectedToC protectFields the.protectAnswer the.protectWrites the.protectSaid protect.didOf carried
   protect-refused base r (Refused y) k = same refl
   protect-refused base r (At sp) k = go (protect.decideOf (holds s (sp .origin)) (memory s (sp .origin)) sp base r) k
     where
-      go : (d : Changing) → protected (the.protectSaid d) .reason ≢ 0
-          → Untouched s (carried s (sp .origin) (protect.didOf d)) (protectFields (protected (the.protectSaid d)))
+      go : (d : Changing) → protectedToC (the.protectSaid d) .reason ≢ 0
+          → Untouched s (carried s (sp .origin) (protect.didOf d)) (protectFields (protectedToC (the.protectSaid d)))
       go (changing.Go g) k = absurd (k refl)
       go (changing.Refused y) k = same refl
 
   told-refused : (ticket : ℕ) (x : Sited) → toldAnswer s ticket x .reason ≢ 0 → Untouched s (toldBytes s ticket x) (toldAnswer s ticket x .released ∷ [])
-  unfolding toldAnswer bytesAfter told the.toldAnswer the.toldWrites the.toldSaid the.toldDid the.dueSaid the.dueDid carried
+  unfolding toldAnswer bytesAfter toldToC the.toldAnswer the.toldWrites the.toldSaid the.toldDid the.dueSaid the.dueDid carried
   told-refused ticket (Refused y) k = same refl
   told-refused ticket (At sp) k = go (openedOf (holds s (sp .origin)) (memory s (sp .origin)) sp) k
     where
-      due-refused : (b : Book) (d : Due) → told (the.dueSaid d) .reason ≢ 0 → Untouched s (carried s (sp .origin) (the.dueDid sp b d)) (told (the.dueSaid d) .released ∷ [])
+      due-refused : (b : Book) (d : Due) → toldToC (the.dueSaid d) .reason ≢ 0 → Untouched s (carried s (sp .origin) (the.dueDid sp b d)) (toldToC (the.dueSaid d) .released ∷ [])
       due-refused b (due.Pages n) k = absurd (k refl)
       due-refused b due.Unknown k = same refl
       due-refused b due.Spent k = same refl
 
-      go : (o : Opened) → told (the.toldSaid ticket o) .reason ≢ 0
-          → Untouched s (carried s (sp .origin) (the.toldDid sp ticket o)) (told (the.toldSaid ticket o) .released ∷ [])
+      go : (o : Opened) → toldToC (the.toldSaid ticket o) .reason ≢ 0
+          → Untouched s (carried s (sp .origin) (the.toldDid sp ticket o)) (toldToC (the.toldSaid ticket o) .released ∷ [])
       go (opened.Book b) k = due-refused b (dueOf b ticket) k
       go (opened.Refused r) k = same refl
 
@@ -108,13 +108,13 @@ module _ (s : List ℕ) where
   -- CREATE
   pub create-refused : (origin pool pages : ℕ) → tpCreate s origin pool pages .reason ≢ 0
       → Untouched s (createLeaves s origin pool pages) (tpCreate s origin pool pages .root ∷ [])
-  unfolding createAnswer call.createWrites created createdOf createdIn createWrites createIn carried
+  unfolding createAnswer call.createWrites createdToC createdOf createdIn createWrites createIn carried
   create-refused origin pool pages k =
       go (eqb (origin % 4096) 0) (eqb (length s % 4096) 0) (eqb (pool % 4096) 0) (mayCreate (length s) (holds s origin) origin (pool / 4096) pages) k
     where
       answer : Bool → Bool → Bool → Fit → Created
       answer x y z f =
-          cond x (cond y (cond z (created (createdIn (pool / 4096) pages f)) (record { reason = numberOf pool-unaligned; root = 0 })) (record { reason = poolReason LengthUnaligned; root = 0 }))
+          cond x (cond y (cond z (createdToC (createdIn (pool / 4096) pages f)) (record { reason = numberOf pool-unaligned; root = 0 })) (record { reason = poolReason LengthUnaligned; root = 0 }))
           (record { reason = poolReason OriginUnaligned; root = 0 })
 
       bytes : Bool → Bool → Bool → Fit → List ℕ

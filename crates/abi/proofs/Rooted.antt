@@ -10,12 +10,12 @@ use Rattle.pool.specs.declared.Fit.the-variants as fit
 use Rattle.pool.specs.declared.Created.{Created}
 use Rattle.pool.specs.declared.Created.the-variants as made
 use Rattle.pool.proofs.Opening.{may-fit, fit-small}
-use Rattle.abi.specs.Answers.{Low}
+use Rattle.abi.specs.Answers.{LowRoot}
 
 same-root : (p q : ℕ) → made.Root p ≡ made.Root q → p ≡ q
 same-root p q e = cc
 
-pub root-low : (len : ℕ) (s : List ℕ) (origin first pages : ℕ) (c : Created) → c ≡ createdOf len (holds s origin) origin first pages → Low c
+pub root-low : (len : ℕ) (s : List ℕ) (origin first pages : ℕ) (c : Created) → c ≡ createdOf len (holds s origin) origin first pages → LowRoot c
 unfolding createdOf createdIn
 root-low len s origin first pages c d p e = go (mayCreate len (holds s origin) origin first pages) refl (sym d ∙ e)
   where

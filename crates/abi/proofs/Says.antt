@@ -27,8 +27,8 @@ use Rattle.tablepath.specs.declared.Protected.the-variants as protect
 use Rattle.tablepath.specs.declared.Report.{Report}
 use Rattle.tablepath.specs.declared.Report.the-variants as report
 use Rattle.abi.specs.ReasonNumbers.{reasonOf, poolReason, numberOf}
-use Rattle.abi.specs.Answers.{rightsWord, created, mapped, unmapped, protected, told, uncounted, counted, lookedUp}
-use Rattle.abi.specs.Relied.{Numbers, Aligned, spaceOf, granted, asked, tpMap, tpUnmap, tpProtect, tpTold, tpState, tpLookUp}
+use Rattle.abi.specs.Answers.{rightsWord, createdToC, mappedToC, unmappedToC, protectedToC, toldToC, uncounted, countedToC, lookedUpToC}
+use Rattle.abi.specs.Relied.{Numbers, AlignedNumbers, spaceOf, granted, asked, tpMap, tpUnmap, tpProtect, tpTold, tpState, tpLookUp}
 use Rattle.abi.specs.ReasonNumbers as why
 use Rattle.abi.specs.Reasons.{CreateSays, MapSays, UnmapSays, ProtectSays, ToldSays, StateSays, LookUpSays}
 use Rattle.abi.proofs.Named.{rights-granted, map-answers, unmap-answers, protect-answers, told-answers, state-answers}
@@ -40,8 +40,8 @@ clash e = absurd (omega arith)
 
 -- Structs --------------------------------------------------------------------------------------------------------------------------
 
-pub created-says : (a : ofPool.Created) → CreateSays (created a) a
-unfolding created
+pub created-says : (a : ofPool.Created) → CreateSays (createdToC a) a
+unfolding createdToC
 created-says (create.Root p) = record { done = λ e. ap create.Root (omega arith); refused = λ y e. absurd (pool-never-done y (sym e)); known = inl refl }
 created-says (create.Refused z) = record {
   done = λ e. absurd (pool-never-done z e);
@@ -49,28 +49,28 @@ created-says (create.Refused z) = record {
   known = inr (z, refl);
 }
 
-mapped-says : (a : ofMap.Mapped) → MapSays (mapped a) a
-unfolding mapped
+mapped-says : (a : ofMap.Mapped) → MapSays (mappedToC a) a
+unfolding mappedToC
 mapped-says (map.Done k) = record { done = λ e. refl; refused = λ y e. absurd (never-done y (sym e)); known = inl refl }
 mapped-says (map.Refused z) = record { done = λ e. absurd (never-done z e); refused = λ y e. ap map.Refused (one-reason z y e); known = inr (z, refl) }
 
-unmapped-says : (a : ofUnmap.Unmapped) → UnmapSays (unmapped a) a
-unfolding unmapped
+unmapped-says : (a : ofUnmap.Unmapped) → UnmapSays (unmappedToC a) a
+unfolding unmappedToC
 unmapped-says (unmap.Done g) = record { done = λ e. refl; refused = λ y e. absurd (never-done y (sym e)); known = inl refl }
 unmapped-says (unmap.Refused z) = record { done = λ e. absurd (never-done z e); refused = λ y e. ap unmap.Refused (one-reason z y e); known = inr (z, refl) }
 
-protected-says : (a : ofProtect.Protected) → ProtectSays (protected a) a
-unfolding protected
+protected-says : (a : ofProtect.Protected) → ProtectSays (protectedToC a) a
+unfolding protectedToC
 protected-says (protect.Done g) = record { done = λ e. refl; refused = λ y e. absurd (never-done y (sym e)); known = inl refl }
 protected-says (protect.Refused z) = record { done = λ e. absurd (never-done z e); refused = λ y e. ap protect.Refused (one-reason z y e); known = inr (z, refl) }
 
 -- a reason of the pool is neither of told's own
-not-told : (y : inPool.Reason) (x : why.Why) → poolReason y ≡ numberOf x → why.refused (plan.Pool y) ≡ x
+not-told : (y : inPool.Reason) (x : why.Outcome) → poolReason y ≡ numberOf x → why.refused (plan.Pool y) ≡ x
 unfolding reasonOf
 not-told y x e = one-number (why.refused (plan.Pool y)) x e
 
-told-struct : (a : Report) → ToldSays (told a) a
-unfolding told
+told-struct : (a : Report) → ToldSays (toldToC a) a
+unfolding toldToC
 told-struct (report.Released k) = record {
   done = λ e. refl;
   unknown = λ e. absurd (omega arith);
@@ -100,8 +100,8 @@ told-struct (report.Refused z) = record {
   known = inr (inr (inr (z, refl)));
 }
 
-counted-says : (a : Stated) → StateSays (counted a) a
-unfolding counted uncounted
+counted-says : (a : Stated) → StateSays (countedToC a) a
+unfolding countedToC uncounted
 counted-says (state.Counts k) = record { done = λ e. refl; refused = λ y e. absurd (pool-never-done y (sym e)); known = inl refl }
 counted-says (state.Refused z) = record {
   done = λ e. absurd (pool-never-done z e);
@@ -109,8 +109,8 @@ counted-says (state.Refused z) = record {
   known = inr (z, refl);
 }
 
-looked-up-says : (a : Found) → LookUpSays (lookedUp a) a
-unfolding lookedUp
+looked-up-says : (a : Found) → LookUpSays (lookedUpToC a) a
+unfolding lookedUpToC
 looked-up-says (found.Page b s f r) = record {
   nothing = λ e. absurd (omega arith);
   page = λ e. ap (found.Page b s f) (sym (rights-told r) ∙ rights-granted (rightsWord r));
@@ -153,12 +153,12 @@ module _ (s : List ℕ) where
 
   -- NO ADDRESS is answered exactly for a number that is not canonical
   pub look-up-address : (n : Numbers) (va : ℕ) → (tpLookUp s n va .kind ≡ 5) ↔ (canonical va ≡ false)
-  unfolding lookedUp
+  unfolding lookedUpToC
   look-up-address n va =
       let k = no-address-only (holds s (n .origin)) (memory s (n .origin)) (n .root) va in
-      (λ e. k .0 (look-up-says n va .no-address e), λ e. ap (λ f. lookedUp f .kind) (k .1 e))
+      (λ e. k .0 (look-up-says n va .no-address e), λ e. ap (λ f. lookedUpToC f .kind) (k .1 e))
 
-  module _ (n : Numbers) (a : Aligned n) where
+  module _ (n : Numbers) (a : AlignedNumbers n) where
     pub map-says : (base frame size rights : ℕ) → rights < 8 → MapSays (tpMap s n base frame size rights)
         (the.mapAnswer (holds s (n .origin)) (memory s (n .origin)) (spaceOf n) (asked base frame size rights))
     map-says base frame size rights l = rw (map-answers n a s base frame size rights l) (mapped-says _)

@@ -15,7 +15,7 @@ use Rattle.tablepath.specs.Answers as the
 use Rattle.tablepath.proofs.Handed.{here-answer, here-writes}
 use Rattle.plan.specs.declared.Reason.the-variants as plan
 use Rattle.abi.specs.ReasonNumbers.{reasonOf}
-use Rattle.abi.specs.Answers.{mapped}
+use Rattle.abi.specs.Answers.{mappedToC}
 use Rattle.abi.specs.Calls.{siteOf, askedSite, bytesAfter, InOrder, mapAnswer, mapWrites, AtOnce}
 use Rattle.abi.specs.declared.answers.Mapped.{Mapped}
 use Rattle.abi.specs.declared.sites.Sited.{Sited}
@@ -29,20 +29,20 @@ module _ (q : Asked) (origin pool pages root left rest : ℕ) (s after : List �
     pub order : InOrder (askedSite origin pool pages root q) (mapWrites s q) left rest s after
 
   pub done : AtOnce left rest s after q (siteOf origin pool pages root) Done → Answered (record { reason = 0; tables = 0 })
-  unfolding mapped
+  unfolding mappedToC
   done = go (siteOf origin pool pages root) refl
     where
       go : (x : Sited) → siteOf origin pool pages root ≡ x → AtOnce left rest s after q x Done → Answered (record { reason = 0; tables = 0 })
       go (At sp) e k =
           let l = placing-here (decideOf (holds s (sp .origin)) (memory s (sp .origin)) sp q) (k .leaf) (k .decided) in
           record {
-            answer = sym (answer-asked q origin pool pages root s sp e ∙ ap mapped (sym (here-answer _ _ sp q (k .leaf) l)));
+            answer = sym (answer-asked q origin pool pages root s sp e ∙ ap mappedToC (sym (here-answer _ _ sp q (k .leaf) l)));
             order = order-asked q origin pool pages root s sp e left rest after (wrote-as _ _ _ left rest s after (here-writes _ _ sp q (k .leaf) l) (k .order));
           }
       go (Refused y) e k = let z : _≡_ {A = ℕ} 0 1 = cc (k .0) in absurd (omega arith)
 
   pub overlap : AtOnce left rest s after q (siteOf origin pool pages root) Overlap → Answered (record { reason = reasonOf plan.Overlap; tables = 0 })
-  unfolding mapped reasonOf the.mapAnswer the.mapSaid the.mapWrites didOf
+  unfolding mappedToC reasonOf the.mapAnswer the.mapSaid the.mapWrites didOf
   overlap = go (siteOf origin pool pages root) refl
     where
       go : (x : Sited) → siteOf origin pool pages root ≡ x → AtOnce left rest s after q x Overlap → Answered (record { reason = reasonOf plan.Overlap; tables = 0 })

@@ -10,7 +10,7 @@ use Rattle.pool.specs.Book.{roomOf}
 use Rattle.pool.specs.Create.{createdOf, createdIn, mayCreate}
 use Rattle.tablepath.specs.Answers as the
 use Rattle.tablepath.proofs.Witness.{one-page, goes}
-use Rattle.abi.specs.Answers.{created, mapped}
+use Rattle.abi.specs.Answers.{createdToC, mappedToC}
 use Rattle.abi.specs.Calls.{createAnswer}
 use Rattle.abi.specs.Relied.{Numbers, granted, WholeAt, tpCreate, createLeaves, tpMap}
 use Rattle.abi.proofs.Created.{create-leaves, create-done}
@@ -19,7 +19,7 @@ use Rattle.abi.proofs.Named.{map-answers}
 module _ (s : List ℕ) (e : length s ≡ 20480) where
   -- the root lies behind the book, which is one page
   pub five-made : tpCreate s 0 0 5 ≡ record { reason = 0; root = 4096 }
-  unfolding createAnswer created createdOf createdIn mayCreate roomOf holds
+  unfolding createAnswer createdToC createdOf createdIn mayCreate roomOf holds
   five-made = rw (e, one-page, one-page)
 
   abbrev five : Numbers
@@ -30,5 +30,5 @@ module _ (s : List ℕ) (e : length s ≡ 20480) where
 
   -- writable, for users
   pub five-mapped : tpMap (createLeaves s 0 0 5) five 0 1048576 4096 3 .reason ≡ 0
-  unfolding granted bit mapped the.mapAnswer the.mapSaid
+  unfolding granted bit mappedToC the.mapAnswer the.mapSaid
   five-mapped = rw (map-answers five (five-whole .aligned) (createLeaves s 0 0 5) 0 1048576 4096 3 (omega arith), create-leaves s 0 0 5 refl, rw one-page at (goes s e .1))

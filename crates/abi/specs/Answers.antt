@@ -40,41 +40,41 @@ rightsIn w = record { writable = eqb (w % 2) 1; user = eqb (w / 2 % 2) 1; noexec
 -- Answers -----------------------------------------------------------------------------------------------------------------------
 
 -- a root in a page whose number has 40 bits
-abbrev pub Low : ofPool.Created → Type 0
-Low c = (p : ℕ) → c ≡ create.Root p → p < pageCount
+abbrev pub LowRoot : ofPool.Created → Type 0
+LowRoot c = (p : ℕ) → c ≡ create.Root p → p < pageCount
 
 -- the root's physical address
-unfoldable pub created : ofPool.Created → Created
-created (create.Root p) = record { reason = 0; root = 4096 * p }
-created (create.Refused y) = record { reason = poolReason y; root = 0 }
+unfoldable pub createdToC : ofPool.Created → Created
+createdToC (create.Root p) = record { reason = 0; root = 4096 * p }
+createdToC (create.Refused y) = record { reason = poolReason y; root = 0 }
 
-unfoldable pub mapped : ofMap.Mapped → Mapped
-mapped (map.Done n) = record { reason = 0; tables = n }
-mapped (map.Refused y) = record { reason = reasonOf y; tables = 0 }
+unfoldable pub mappedToC : ofMap.Mapped → Mapped
+mappedToC (map.Done n) = record { reason = 0; tables = n }
+mappedToC (map.Refused y) = record { reason = reasonOf y; tables = 0 }
 
-unfoldable pub unmapped : ofUnmap.Unmapped → Unmapped
-unmapped (unmap.Done g) = record { reason = 0; frame = g .frame; size = g .size; aside = g .aside; ticket = g .ticket }
-unmapped (unmap.Refused y) = record { reason = reasonOf y; frame = 0; size = 0; aside = 0; ticket = 0 }
+unfoldable pub unmappedToC : ofUnmap.Unmapped → Unmapped
+unmappedToC (unmap.Done g) = record { reason = 0; frame = g .frame; size = g .size; aside = g .aside; ticket = g .ticket }
+unmappedToC (unmap.Refused y) = record { reason = reasonOf y; frame = 0; size = 0; aside = 0; ticket = 0 }
 
-unfoldable pub protected : ofProtect.Protected → Protected
-protected (protect.Done s) = record { reason = 0; frame = s .frame; size = s .size; ticket = s .ticket }
-protected (protect.Refused y) = record { reason = reasonOf y; frame = 0; size = 0; ticket = 0 }
+unfoldable pub protectedToC : ofProtect.Protected → Protected
+protectedToC (protect.Done s) = record { reason = 0; frame = s .frame; size = s .size; ticket = s .ticket }
+protectedToC (protect.Refused y) = record { reason = reasonOf y; frame = 0; size = 0; ticket = 0 }
 
-unfoldable pub told : Report → Told
-told (report.Released k) = record { reason = 0; released = k }
-told report.Unknown = record { reason = numberOf unknown; released = 0 }
-told report.Spent = record { reason = numberOf spent; released = 0 }
-told (report.Refused y) = record { reason = poolReason y; released = 0 }
+unfoldable pub toldToC : Report → Told
+toldToC (report.Released k) = record { reason = 0; released = k }
+toldToC report.Unknown = record { reason = numberOf unknown; released = 0 }
+toldToC report.Spent = record { reason = numberOf spent; released = 0 }
+toldToC (report.Refused y) = record { reason = poolReason y; released = 0 }
 
 unfoldable pub uncounted : ℕ → Counts
 uncounted y = record { reason = y; pages = 0; free = 0; aside = 0; tables = 0; ticket = 0 }
 
-unfoldable pub counted : Stated → Counts
-counted (state.Counts c) = record { reason = 0; pages = c .pages; free = c .free; aside = c .aside; tables = c .tables; ticket = c .ticket }
-counted (state.Refused y) = uncounted (poolReason y)
+unfoldable pub countedToC : Stated → Counts
+countedToC (state.Counts c) = record { reason = 0; pages = c .pages; free = c .free; aside = c .aside; tables = c .tables; ticket = c .ticket }
+countedToC (state.Refused y) = uncounted (poolReason y)
 
-unfoldable pub lookedUp : Found → LookedUp
-lookedUp (Page b s f r) = record { kind = 1; base = b; size = s; frame = f; rights = rightsWord r }
-lookedUp Nothing = record { kind = 0; base = 0; size = 0; frame = 0; rights = 0 }
-lookedUp Outside = record { kind = 2; base = 0; size = 0; frame = 0; rights = 0 }
-lookedUp NoAddress = record { kind = 5; base = 0; size = 0; frame = 0; rights = 0 }
+unfoldable pub lookedUpToC : Found → LookedUp
+lookedUpToC (Page b s f r) = record { kind = 1; base = b; size = s; frame = f; rights = rightsWord r }
+lookedUpToC Nothing = record { kind = 0; base = 0; size = 0; frame = 0; rights = 0 }
+lookedUpToC Outside = record { kind = 2; base = 0; size = 0; frame = 0; rights = 0 }
+lookedUpToC NoAddress = record { kind = 5; base = 0; size = 0; frame = 0; rights = 0 }

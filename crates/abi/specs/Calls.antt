@@ -23,7 +23,7 @@ use Rattle.tablepath.specs.Answers as the
 use Rattle.tablepath.specs.Looks.{inWindow}
 use Rattle.abi.specs.ReasonNumbers as why
 use Rattle.abi.specs.ReasonNumbers.{reasonOf, poolReason, numberOf, pool-unaligned, root-unaligned}
-use Rattle.abi.specs.Answers.{rightsIn, created, mapped, unmapped, protected, told, uncounted, counted, lookedUp}
+use Rattle.abi.specs.Answers.{rightsIn, createdToC, mappedToC, unmappedToC, protectedToC, toldToC, uncounted, countedToC, lookedUpToC}
 use Rattle.abi.specs.declared.answers.Created.{Created}
 use Rattle.abi.specs.declared.answers.Mapped.{Mapped}
 use Rattle.abi.specs.declared.answers.Unmapped.{Unmapped}
@@ -92,7 +92,7 @@ createAnswer s origin pool pages =
     cond (eqb (origin % 4096) 0)
     (cond (eqb (length s % 4096) 0)
     (cond (eqb (pool % 4096) 0)
-    (created (the.createAnswer s origin (pool / 4096) pages))
+    (createdToC (the.createAnswer s origin (pool / 4096) pages))
     (record { reason = numberOf pool-unaligned; root = 0 }))
     (record { reason = poolReason LengthUnaligned; root = 0 }))
     (record { reason = poolReason OriginUnaligned; root = 0 })
@@ -111,7 +111,7 @@ createBytes s origin pool pages = carried s origin (createWrites s origin pool p
 -- Map ---------------------------------------------------------------------------------------------------------------------------
 
 unfoldable pub mapAnswer : List ℕ → Asked → Sited → Mapped
-mapAnswer s q (At sp) = mapped (inWindow s (sp .origin) the.mapAnswer sp q)
+mapAnswer s q (At sp) = mappedToC (inWindow s (sp .origin) the.mapAnswer sp q)
 mapAnswer s q (Refused y) = record { reason = y; tables = 0 }
 
 abbrev pub mapWrites : List ℕ → Asked → Space → List Write
@@ -128,7 +128,7 @@ AtOnce left rest s after q (Refused y) o = (o ≡ Unsaid) × (after ≡ s) × (r
 -- Unmap -------------------------------------------------------------------------------------------------------------------------
 
 unfoldable pub unmapAnswer : List ℕ → ℕ → Sited → Unmapped
-unmapAnswer s base (At sp) = unmapped (inWindow s (sp .origin) the.unmapAnswer sp base)
+unmapAnswer s base (At sp) = unmappedToC (inWindow s (sp .origin) the.unmapAnswer sp base)
 unmapAnswer s base (Refused y) = record { reason = y; frame = 0; size = 0; aside = 0; ticket = 0 }
 
 abbrev pub unmapWrites : List ℕ → ℕ → Space → List Write
@@ -140,7 +140,7 @@ unmapBytes s base x = bytesAfter s x (unmapWrites s base)
 -- Protect -----------------------------------------------------------------------------------------------------------------------
 
 unfoldable pub protectAnswer : List ℕ → ℕ → Rights → Sited → Protected
-protectAnswer s base r (At sp) = protected (inWindow s (sp .origin) the.protectAnswer sp base r)
+protectAnswer s base r (At sp) = protectedToC (inWindow s (sp .origin) the.protectAnswer sp base r)
 protectAnswer s base r (Refused y) = record { reason = y; frame = 0; size = 0; ticket = 0 }
 
 abbrev pub protectWrites : List ℕ → ℕ → Rights → Space → List Write
@@ -152,7 +152,7 @@ protectBytes s base r x = bytesAfter s x (protectWrites s base r)
 -- Told --------------------------------------------------------------------------------------------------------------------------
 
 unfoldable pub toldAnswer : List ℕ → ℕ → Sited → Told
-toldAnswer s ticket (At sp) = told (inWindow s (sp .origin) the.toldAnswer sp ticket)
+toldAnswer s ticket (At sp) = toldToC (inWindow s (sp .origin) the.toldAnswer sp ticket)
 toldAnswer s ticket (Refused y) = record { reason = y; released = 0 }
 
 abbrev pub toldWrites : List ℕ → ℕ → Space → List Write
@@ -164,11 +164,11 @@ toldBytes s ticket x = bytesAfter s x (toldWrites s ticket)
 -- State -------------------------------------------------------------------------------------------------------------------------
 
 unfoldable pub stateAnswer : List ℕ → Sited → Counts
-stateAnswer s (At sp) = counted (inWindow s (sp .origin) stateOf sp)
+stateAnswer s (At sp) = countedToC (inWindow s (sp .origin) stateOf sp)
 stateAnswer s (Refused y) = uncounted y
 
 -- Look-up -----------------------------------------------------------------------------------------------------------------------
 
 -- the root is given as in CR3
 abbrev pub lookUpAnswer : List ℕ → ℕ → ℕ → ℕ → LookedUp
-lookUpAnswer s origin root va = lookedUp (inWindow s origin walk root va)
+lookUpAnswer s origin root va = lookedUpToC (inWindow s origin walk root va)

@@ -33,17 +33,17 @@ reasonOf plan.BadList = 11
 
 -- what the field `reason` says: done, an operation's own reason (the pool's among them), or one of six more, the last of which
 -- the header says, and not the library
-pub data Why : Type 0 where
-  done : Why
-  refused : Reason → Why
-  pool-unaligned : Why
-  root-unaligned : Why
-  unknown : Why
-  spent : Why
-  rights : Why
-  pointer : Why
+pub data Outcome : Type 0 where
+  done : Outcome
+  refused : Reason → Outcome
+  pool-unaligned : Outcome
+  root-unaligned : Outcome
+  unknown : Outcome
+  spent : Outcome
+  rights : Outcome
+  pointer : Outcome
 
-abbrev pub numberOf : Why → ℕ
+abbrev pub numberOf : Outcome → ℕ
 numberOf done = 0
 numberOf (refused y) = reasonOf y
 numberOf pool-unaligned = 14
@@ -54,7 +54,7 @@ numberOf rights = 25
 numberOf pointer = 26
 
 -- THE HEADER'S enum tp_reason, from 0 on
-unfoldable pub header : List Why
+unfoldable pub header : List Outcome
 header =
     -- tools/reasons: header
     done ∷ refused plan.Size ∷ refused plan.BaseUnaligned ∷ refused plan.FrameUnaligned ∷ refused plan.BaseRange ∷ refused plan.FrameRange

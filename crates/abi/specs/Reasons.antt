@@ -122,11 +122,11 @@ pub record StateCounts (x : Counts) (n : Numbers) (b : Book) (role : ℕ → Rol
 -- Numbers that name no space, whatever the bytes -----------------------------------------------------------------------------------------
 
 -- after the rights, map looks at its size, alignments and ranges; of the others nothing else is looked at before the space
-abbrev pub Shaped : Call → Type 0
-Shaped (c.map base frame size w) = (l : ℕ) × (shapeOf size base frame ≡ Level l)
-Shaped (c.unmap base) = Unit {0}
-Shaped (c.protect base w) = Unit {0}
-Shaped (c.told ticket) = Unit {0}
+abbrev pub WellShaped : Call → Type 0
+WellShaped (c.map base frame size w) = (l : ℕ) × (shapeOf size base frame ≡ Level l)
+WellShaped (c.unmap base) = Unit {0}
+WellShaped (c.protect base w) = Unit {0}
+WellShaped (c.told ticket) = Unit {0}
 
 pub record SiteReasons (k : ℕ) (n : Numbers) : Type 0 where
   pub pool-unaligned : n .pool % 4096 ≢ 0 → k ≡ numberOf pool-unaligned

@@ -85,11 +85,11 @@ others s n (protect base rights) = let x = tpProtect s n base rights in x .frame
 others s n (told ticket) = tpTold s n ticket .released ∷ []
 
 -- the rights that are asked have no bit that means nothing
-abbrev pub Meant : Call → Type 0
-Meant (map base frame size rights) = rights < 8
-Meant (unmap base) = Unit {0}
-Meant (protect base rights) = rights < 8
-Meant (told ticket) = Unit {0}
+abbrev pub KnownRights : Call → Type 0
+KnownRights (map base frame size rights) = rights < 8
+KnownRights (unmap base) = Unit {0}
+KnownRights (protect base rights) = rights < 8
+KnownRights (told ticket) = Unit {0}
 
 -- TP_WRITABLE is bit 0, TP_USER bit 1, TP_NO_EXECUTE bit 2
 unfoldable pub granted : ℕ → Rights
@@ -112,13 +112,13 @@ abbrev pub spaceOf : Numbers → Space
 spaceOf n = record { origin = n .origin; first = n .pool / 4096; pages = n .pages; root = n .root / 4096 }
 
 -- the pool and the root lie at page boundaries
-pub record Aligned (n : Numbers) : Type 0 where
+pub record AlignedNumbers (n : Numbers) : Type 0 where
   pub pool : n .pool % 4096 ≡ 0
   pub root : n .root % 4096 ≡ 0
 
 -- these numbers name a space that is whole in these bytes
 pub record WholeAt (s : List ℕ) (n : Numbers) : Type 0 where
-  pub aligned : Aligned n
+  pub aligned : AlignedNumbers n
   pub role : ℕ → Role
   pub whole : WholeBytes s (spaceOf n) role
 

@@ -97,7 +97,7 @@ pub fn rights(w: u64) -> Rights
 }
 
 pub fn of_create(c: pool::Created) -> Created
-    ensures { λ r. ⌜ (the.Low c → r ≡ the.created c) ⌝ }
+    ensures { λ r. ⌜ (the.LowRoot c → r ≡ the.createdToC c) ⌝ }
 {
     match c {
         pool::Created::Refused(y) => Created {
@@ -117,7 +117,7 @@ pub fn of_create(c: pool::Created) -> Created
 }
 
 pub fn of_map(a: tablepath::Mapped) -> Mapped
-    ensures { λ r. ⌜ r ≡ the.mapped a ⌝ }
+    ensures { λ r. ⌜ r ≡ the.mappedToC a ⌝ }
 {
     match a {
         tablepath::Mapped::Refused(y) => Mapped {
@@ -132,7 +132,7 @@ pub fn of_map(a: tablepath::Mapped) -> Mapped
 }
 
 pub fn of_unmap(a: tablepath::Unmapped) -> Unmapped
-    ensures { λ r. ⌜ r ≡ the.unmapped a ⌝ }
+    ensures { λ r. ⌜ r ≡ the.unmappedToC a ⌝ }
 {
     match a {
         tablepath::Unmapped::Refused(y) => Unmapped {
@@ -153,7 +153,7 @@ pub fn of_unmap(a: tablepath::Unmapped) -> Unmapped
 }
 
 pub fn of_protect(a: tablepath::Protected) -> Protected
-    ensures { λ r. ⌜ r ≡ the.protected a ⌝ }
+    ensures { λ r. ⌜ r ≡ the.protectedToC a ⌝ }
 {
     match a {
         tablepath::Protected::Refused(y) => Protected {
@@ -172,7 +172,7 @@ pub fn of_protect(a: tablepath::Protected) -> Protected
 }
 
 pub fn of_told(a: tablepath::Report) -> Told
-    ensures { λ r. ⌜ r ≡ the.told a ⌝ }
+    ensures { λ r. ⌜ r ≡ the.toldToC a ⌝ }
 {
     match a {
         tablepath::Report::Refused(y) => Told {
@@ -209,7 +209,7 @@ pub fn uncounted(y: u64) -> Counts
 }
 
 pub fn of_state(a: pool::Stated) -> Counts
-    ensures { λ r. ⌜ r ≡ the.counted a ⌝ }
+    ensures { λ r. ⌜ r ≡ the.countedToC a ⌝ }
 {
     match a {
         pool::Stated::Refused(y) => uncounted(crate::numbers::pool_reason(y)),
@@ -225,7 +225,7 @@ pub fn of_state(a: pool::Stated) -> Counts
 }
 
 pub fn of_look_up(f: Found) -> LookedUp
-    ensures { λ r. ⌜ r ≡ the.lookedUp f ⌝ }
+    ensures { λ r. ⌜ r ≡ the.lookedUpToC f ⌝ }
 {
     match f {
         Found::Page {

@@ -6,11 +6,11 @@ use pool::Space;
 use reasons::not_released;
 use reasons::pool_refused;
 use reasons::refused;
+use tablepath::Altered;
 use tablepath::Gone;
 use tablepath::Mapped;
 use tablepath::Protected;
 use tablepath::Report;
-use tablepath::Same;
 use tablepath::Unmapped;
 use walk::Found;
 use window::book;
@@ -99,7 +99,7 @@ pub fn unmap(mem: &mut [u8], space: Space, base: u64) {
     }
 }
 
-fn still(s: Same) {
+fn still(s: Altered) {
     say::text(b"    done: it is ");
     say::frame(s.size, s.frame);
     say::with_number(b"; ticket ", s.ticket);

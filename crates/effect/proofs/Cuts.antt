@@ -25,7 +25,7 @@ use Rattle.pool.specs.declared.Space.{Space}
 use Rattle.pool.specs.declared.Book.{Book}
 use Rattle.pool.proofs.Booked.{Beside, book-beside, numbered-beside, booked-beside}
 use Rattle.plan.specs.declared.descent.Way.{Way}
-use Rattle.plan.specs.declared.finding.Spot.{Spot}
+use Rattle.plan.specs.declared.finding.PageEntry.{PageEntry}
 use Rattle.plan.specs.declared.unmaps.Removal.{Removal}
 use Rattle.word.specs.Scan.{besidesOf}
 use Rattle.plan.specs.Unmap.{cutWrites, cutBook, book1, book2, writesOf}
@@ -34,7 +34,7 @@ use Rattle.effect.specs.Whole.{Whole}
 use Rattle.effect.proofs.Emptying.{tableAt, levelAt, Empty, Emptied, keeps-no, keeps-yes}
 use Rattle.effect.proofs.Located.{Located}
 use Rattle.effect.proofs.Rising.{aside-none, aside-one, aside-more, Rising, cutting, rising-step}
-use Rattle.effect.proofs.Trace.{Names}
+use Rattle.effect.proofs.Trace.{NamesTable}
 use Rattle.effect.proofs.Wholes.{root-low, live-in, live-held, in-beside, in-of-pool}
 
 -- One cut of a plan ----------------------------------------------------------------------------------------------------------------
@@ -83,7 +83,7 @@ pub cuts : Space → (ℕ → ℕ) → ℕ → Way → ℕ → List Write
 cuts sp m va y zero = clear va y
 cuts sp m va y (suc j) = cuts sp m va y j ++ cutting sp (tableAt y (suc j)) (indexOf (suc (levelAt y j)) va) (tableAt y j) (bookOf (after m (cuts sp m va y j)) sp)
 
--- none of it is the mark: the numbers of the tables are small
+-- none of it is the signature: the numbers of the tables are small
 pub cuts-unmarking : (sp : Space) (m : ℕ → ℕ) (va : ℕ) (y : Way) (n : ℕ) → ((j : ℕ) → j < n → tableAt y j < 2 ^ 40) → Unmarking (cuts sp m va y n)
 unfolding cuts cutting
 cuts-unmarking sp m va y zero u = unmarking-one _ _ 0 (λ e. omega arith)
@@ -97,12 +97,12 @@ cutRoles role y zero = role
 cutRoles role y (suc j) = set (cutRoles role y j) (tableAt y j) aside
 
 -- the removal of a page, with n tables
-abbrev pub removal : Spot → ℕ → Book → Removal
-removal s n b = record { spot = s; empties = n; book = b }
+abbrev pub removal : PageEntry → ℕ → Book → Removal
+removal s n b = record { page = s; empties = n; book = b }
 
-module _ {h : ℕ → Bool} {sp : Space} {m : ℕ → ℕ} {role : ℕ → Role} (w : Whole h sp m role) (va : ℕ) (s : Spot) (k : Located (settingOf h sp) m role va s) where
+module _ {h : ℕ → Bool} {sp : Space} {m : ℕ → ℕ} {role : ℕ → Role} (w : Whole h sp m role) (va : ℕ) (s : PageEntry) (k : Located (settingOf h sp) m role va s) where
   -- the tables of the way name each other, and the walk comes to each
-  names-at : (j : ℕ) → levelAt (s .way) j < 3 → Names (settingOf h sp) m va (suc (levelAt (s .way) j)) (tableAt (s .way) (suc j)) (tableAt (s .way) j)
+  names-at : (j : ℕ) → levelAt (s .way) j < 3 → NamesTable (settingOf h sp) m va (suc (levelAt (s .way) j)) (tableAt (s .way) (suc j)) (tableAt (s .way) j)
   names-at zero u = k .traced .second u
   names-at (suc zero) u = k .traced .third (omega arith)
   names-at (suc (suc zero)) u = k .traced .fourth (omega arith)

@@ -7,26 +7,26 @@ use native.Mathlib.Omega.{arith}
 use borrow.Author.Tests.{le-leb, lt-leb}
 use Rattle.entry.specs.declared.Rights.{Rights}
 use Rattle.tables.specs.Roles.{Role}
-use Rattle.pool.specs.Book.{Sound, bookOf, ticketOf, ticketIn, dueOf}
+use Rattle.pool.specs.Book.{AddsUp, bookOf, ticketOf, ticketIn, dueOf}
 use Rattle.pool.specs.Booked.{settingOf}
 use Rattle.pool.specs.declared.Book.{Book}
 use Rattle.pool.specs.declared.Due.the-variants as due
 use Rattle.pool.specs.declared.Space.{Space}
 use Rattle.plan.specs.declared.Reason.{Reason}
-use Rattle.plan.specs.declared.finding.Spot.{Spot}
+use Rattle.plan.specs.declared.finding.PageEntry.{PageEntry}
 use Rattle.plan.specs.declared.finding.Sought.the-variants as sought
 use Rattle.plan.specs.declared.protects.Change.{Change}
 use Rattle.plan.specs.declared.protects.Changing.the-variants as changing
 use Rattle.plan.specs.declared.unmaps.Removal.{Removal}
 use Rattle.plan.specs.declared.unmaps.Removing.the-variants as removing
-use Rattle.plan.specs.Find.{foundOf}
+use Rattle.plan.specs.Find.{findOf}
 use Rattle.plan.specs.Protect as protect
 use Rattle.effect.specs.Exactly.{UnmapExactly, ProtectExactly, ToldExactly}
 use Rattle.effect.specs.StartsAt.{NotThere}
 use Rattle.effect.specs.Whole.{Whole}
 use Rattle.plan.proofs.Found.{found-at}
 use Rattle.effect.proofs.Located.{located}
-use Rattle.effect.proofs.Searching.{nowhere, not-there-once, Verdict, there, missing, verdict}
+use Rattle.effect.proofs.Searching.{nowhere, not-there-once, FindVerdict, there, missing, verdict}
 use Rattle.effect.proofs.UnmapDone.{refused-so, unmap-decided}
 
 -- a decision to go on, and a refusal, are two things; and of each there is one
@@ -42,12 +42,12 @@ change-no c y e = let z : _≡_ {A = ℕ} 0 1 = cc in omega arith
 one-cause : (x y : Reason) → changing.Refused x ≡ changing.Refused y → y ≡ x
 one-cause x y e = cc
 
-changes : (h : ℕ → Bool) (m : ℕ → ℕ) (sp : Space) (va : ℕ) (rights : Rights) (s : Spot) → foundOf h m sp va ≡ sought.Found s
+changes : (h : ℕ → Bool) (m : ℕ → ℕ) (sp : Space) (va : ℕ) (rights : Rights) (s : PageEntry) → findOf h m sp va ≡ sought.Found s
     → protect.decideOf h m sp va rights ≡ changing.Go (protect.changeOf va s rights (ticketIn (bookOf m sp)))
 unfolding protect.decideOf protect.changingOf
 changes h m sp va rights s f = rw f
 
-changes-not : (h : ℕ → Bool) (m : ℕ → ℕ) (sp : Space) (va : ℕ) (rights : Rights) (y : Reason) → foundOf h m sp va ≡ sought.Refused y
+changes-not : (h : ℕ → Bool) (m : ℕ → ℕ) (sp : Space) (va : ℕ) (rights : Rights) (y : Reason) → findOf h m sp va ≡ sought.Refused y
     → protect.decideOf h m sp va rights ≡ changing.Refused y
 unfolding protect.decideOf protect.changingOf
 changes-not h m sp va rights y f = rw f
@@ -57,7 +57,7 @@ module _ {h : ℕ → Bool} {sp : Space} {m : ℕ → ℕ} {role : ℕ → Role}
   pub unmap-exactly : UnmapExactly h sp m va
   unmap-exactly = go (verdict w va)
     where
-      go : Verdict w va → UnmapExactly h sp m va
+      go : FindVerdict w va → UnmapExactly h sp m va
       go (there s f a) =
           let d = unmap-decided w va s (located w (found-at h m sp va s f)) f in
           record {
@@ -78,7 +78,7 @@ module _ {h : ℕ → Bool} {sp : Space} {m : ℕ → ℕ} {role : ℕ → Role}
   pub protect-exactly : (rights : Rights) → ProtectExactly h sp m va rights
   protect-exactly rights = go (verdict w va)
     where
-      go : Verdict w va → ProtectExactly h sp m va rights
+      go : FindVerdict w va → ProtectExactly h sp m va rights
       go (there s f a) =
           let d = changes h m sp va rights s f in
           record {
@@ -96,7 +96,7 @@ module _ {h : ℕ → Bool} {sp : Space} {m : ℕ → ℕ} {role : ℕ → Role}
           }
 
 -- TOLD, by the three tests of a ticket
-pub told-exactly : (pages : ℕ) (b : Book) (t : ℕ) → Sound pages b → ToldExactly b t
+pub told-exactly : (pages : ℕ) (b : Book) (t : ℕ) → AddsUp pages b → ToldExactly b t
 told-exactly pages b t s = go (decLe t (b .tickets)) (decLe t (ticketOf b)) (decLe t (2 ^ 62))
   where
     -- what the answer is, and which of the three holds

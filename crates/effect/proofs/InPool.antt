@@ -16,18 +16,18 @@ use Rattle.pool.specs.declared.Book.{Book}
 use Rattle.pool.specs.declared.Opened.the-variants as opened
 use Rattle.pool.proofs.Opening.{Fitting, open-shows, names-shows}
 use Rattle.pool.proofs.Proper.{release-proper}
-use Rattle.plan.specs.declared.finding.Spot.{Spot}
+use Rattle.plan.specs.declared.finding.PageEntry.{PageEntry}
 use Rattle.plan.specs.declared.finding.Sought.{Sought}
 use Rattle.plan.specs.declared.finding.Sought.the-variants as sought
 use Rattle.plan.specs.declared.protects.Change.{Change}
 use Rattle.plan.specs.declared.protects.Changing.the-variants as changing
-use Rattle.plan.specs.Find.{foundOf}
+use Rattle.plan.specs.Find.{findOf}
 use Rattle.plan.specs.Protect as protect
 use Rattle.plan.proofs.Found.{FoundAt, found-at}
 use Rattle.effect.specs.OfPool.{OfPool}
 use Rattle.effect.proofs.MapInPool.{book-in-pool}
 use Rattle.effect.proofs.ProtectDone.{with-rights-lt}
-use Rattle.effect.proofs.WayInPool.{spot-through}
+use Rattle.effect.proofs.WayInPool.{entry-in-pool}
 use Rattle.effect.proofs.Wholes.{in-of-pool}
 
 -- Protect --------------------------------------------------------------------------------------------------------------------------
@@ -38,20 +38,20 @@ pub record ProtectWent (h : ℕ → Bool) (sp : Space) (c : Change) : Type 0 whe
   pub proper : Every (OfPool sp) (protect.writesOf c)
 
 module _ (h : ℕ → Bool) (m : ℕ → ℕ) (sp : Space) (va : ℕ) (g : Rights) (c : Change) where
-  change-went : (s : Spot) → FoundAt h m sp va s → ProtectWent h sp (protect.changeOf va s g (ticketIn (bookOf m sp)))
+  change-went : (s : PageEntry) → FoundAt h m sp va s → ProtectWent h sp (protect.changeOf va s g (ticketIn (bookOf m sp)))
   unfolding protect.changeOf protect.writesOf
   change-went s f = record {
     fits = names-shows h m sp (f .names) .fits;
     proper =
-        let t = spot-through f .inside 0 (omega (arith, f .low)) in
+        let t = entry-in-pool f .inside 0 (omega (arith, f .low)) in
         every-one (s .way .a) (indexOf (s .way .level) va) (withRights (s .way .word) g) (in-of-pool t) (index-lt (s .way .level) va) (with-rights-lt (s .way .word) g);
   }
 
   pub protect-went : protect.decideOf h m sp va g ≡ changing.Go c → ProtectWent h sp c
   unfolding protect.decideOf protect.changingOf
-  protect-went e = go (foundOf h m sp va) refl e
+  protect-went e = go (findOf h m sp va) refl e
     where
-      go : (x : Sought) → foundOf h m sp va ≡ x → protect.changingOf m sp va g x ≡ changing.Go c → ProtectWent h sp c
+      go : (x : Sought) → findOf h m sp va ≡ x → protect.changingOf m sp va g x ≡ changing.Go c → ProtectWent h sp c
       go (sought.Refused y) f k = let z : _≡_ {A = ℕ} 0 1 = cc in absurd (omega arith)
       go (sought.Found s) f k = let same : protect.changeOf va s g (ticketIn (bookOf m sp)) ≡ c = cc in subst (ProtectWent h sp) same (change-went s (found-at h m sp va s f))
 

@@ -15,14 +15,14 @@ use Rattle.tables.proofs.Meaning.{mean-page}
 use Rattle.tables.proofs.Overlap.{aligned-base}
 use Rattle.pool.specs.Booked.{settingOf}
 use Rattle.pool.specs.declared.Space.{Space}
-use Rattle.plan.specs.declared.finding.Spot.{Spot}
+use Rattle.plan.specs.declared.finding.PageEntry.{PageEntry}
 use Rattle.effect.specs.Whole.{Whole}
 use Rattle.plan.proofs.Found.{FoundAt}
 use Rattle.effect.proofs.Trace.{Traced}
 use Rattle.effect.proofs.Wholes.{way-traced}
 
--- where the page of a spot is, and what it is
-pub record Located (σ : Setting) (m : ℕ → ℕ) (role : ℕ → Role) (va : ℕ) (s : Spot) : Type 0 where
+-- where the page found is, and what it is
+pub record Located (σ : Setting) (m : ℕ → ℕ) (role : ℕ → Role) (va : ℕ) (s : PageEntry) : Type 0 where
   pub low : s .way .level < 4
   pub traced : Traced σ m va 4 (s .way)
   pub comes : Comes σ m va (suc (s .way .level)) (s .way .a)
@@ -34,7 +34,7 @@ pub record Located (σ : Setting) (m : ℕ → ℕ) (role : ℕ → Role) (va : 
   pub size-is : s .size ≡ sizeOf (s .way .level)
   pub means : meaning σ m va ≡ found.Page va (s .size) (s .frame) rights
 
-pub located : {h : ℕ → Bool} {sp : Space} {m : ℕ → ℕ} {role : ℕ → Role} {va : ℕ} {s : Spot} → Whole h sp m role → FoundAt h m sp va s
+pub located : {h : ℕ → Bool} {sp : Space} {m : ℕ → ℕ} {role : ℕ → Role} {va : ℕ} {s : PageEntry} → Whole h sp m role → FoundAt h m sp va s
     → Located (settingOf h sp) m role va s
 located {h} {sp} {m} {role} {va} {s} w f = record {
   low = f .low;

@@ -15,7 +15,7 @@ use Rattle.entry.specs.Words.{largeFlag, pageWord}
 use Rattle.entry.specs.declared.Rights.{Rights}
 use Rattle.entry.specs.declared.Entry.the-variants.{Nothing, Page}
 use Rattle.entry.proofs.Clean.{page-clean}
-use Rattle.entry.proofs.Written.{Fits, flag-lt, page-word-says}
+use Rattle.entry.proofs.Written.{FrameFits, flag-lt, page-word-says}
 use Rattle.walk.specs.Walk.{indexOf, baseOf}
 use Rattle.walk.specs.declared.Found.{Found}
 use Rattle.walk.specs.declared.Found.the-variants as found
@@ -35,7 +35,7 @@ use Rattle.pool.specs.declared.Space.{Space}
 use Rattle.pool.proofs.Pages.{adds-up}
 use Rattle.plan.specs.declared.maps.Asked.{Asked}
 use Rattle.plan.specs.declared.maps.Mapping.{Mapping}
-use Rattle.plan.specs.declared.building.Reached.{Reached}
+use Rattle.plan.specs.declared.building.TableReached.{TableReached}
 use Rattle.plan.specs.Map.{nextOf, growOf, reached0, reached1, reached2, reached3, buildOf, writesOf}
 use Rattle.effect.proofs.Unmarking.{page-unmarked, map-unmarking}
 use Rattle.effect.specs.MapDone.{Misses, MapDone}
@@ -44,10 +44,10 @@ use Rattle.effect.specs.Numbers.{KeepsNumbers}
 use Rattle.effect.proofs.MapBook.{bookWrites, book-writes-proper, took-behind, took-behind-keeps, took-behind-counts}
 use Rattle.effect.proofs.MapPlan.{Planned, size-small}
 use Rattle.effect.proofs.Wholes.{owned}
-use Rattle.effect.proofs.MapSteps.{Place, Grown, grown-start, grown-step}
+use Rattle.effect.proofs.MapSteps.{MayBeTable, Grown, grown-start, grown-step}
 
 -- a step that stays above the target went down one level
-next-above : (target p : ℕ) (s : Reached) → target < nextOf target p s .level → nextOf target p s .level + 1 ≡ s .level
+next-above : (target p : ℕ) (s : TableReached) → target < nextOf target p s .level → nextOf target p s .level + 1 ≡ s .level
 unfolding nextOf
 next-above target p s = go (leb (s .level) target) refl
   where
@@ -88,7 +88,7 @@ module _ {h : ℕ → Bool} {sp : Space} {m : ℕ → ℕ} {role : ℕ → Role}
   comes : Comes (settingOf h sp) m (p .base) (suc (p .level)) (p .table)
   comes = rw (k .base-is) (k .comes)
 
-  abbrev Grows : ℕ → List Write → Reached → Type 0
+  abbrev Grows : ℕ → List Write → TableReached → Type 0
   Grows = Grown h sp m role (p .base) (p .target) (p .level)
 
   abbrev grow1 : List Write
@@ -142,7 +142,7 @@ module _ {h : ℕ → Bool} {sp : Space} {m : ℕ → ℕ} {role : ℕ → Role}
   frame-small : q .frame < 2 ^ 52
   frame-small = omega (arith, k .fitted .frame-fits, size-small (p .target) (q .size) (k .fitted .level) (k .fitted .size-is) .0)
 
-  frame-fits : Fits (p .target) (q .frame)
+  frame-fits : FrameFits (p .target) (q .frame)
   frame-fits = let f = k .fitted in record { level = f .level; aligned = ap (λ x. q .frame % x) (sym (f .size-is)) ∙ f .frame-aligned; below = frame-small }
 
   word-says : says (p .target) (p .word) ≡ Page (q .frame) (q .rights)
@@ -164,9 +164,9 @@ module _ {h : ℕ → Bool} {sp : Space} {m : ℕ → ℕ} {role : ℕ → Role}
       recast (k .base-is) there (ap (λ x. found.Page (baseOf x (p .base)) (sizeOf x) (q .frame) (q .rights)) there ∙ result) build-is
       (map-done (p .word) (q .frame) (q .rights) (grown3 .down) (grown3 .nothing) (rw there word-says) (rw there (rw (k .fitted .size-is) at (k .apart))) (subst (λ x. Clean x (p .word)) (sym there) word-clean))
 
-  places : Every (Place h sp) (buildOf p)
+  places : Every (MayBeTable h sp) (buildOf p)
   places =
-      subst (Every (Place h sp)) build-is
+      subst (Every (MayBeTable h sp)) build-is
       (every-append ((grow1 ++ grow2) ++ grow3) page (grown3 .places)
       (every-one (reached3 p .table) (indexOf (reached3 p .level) (p .base)) (p .word) (grown3 .place) (index-lt (reached3 p .level) (p .base))
       (rw (k .word-is) (page-word-small (p .target) (q .frame) (q .rights) frame-small))))

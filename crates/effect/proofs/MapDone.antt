@@ -19,13 +19,13 @@ use Rattle.effect.specs.MapDone.{MapDone}
 use Rattle.effect.specs.Whole.{Whole}
 use Rattle.effect.proofs.MapBuilt.{planned-done}
 use Rattle.effect.proofs.MapPlan.{Planned}
-use Rattle.effect.proofs.MapVerdict.{Verdict, refuses, goes, verdict}
+use Rattle.effect.proofs.MapVerdict.{MapVerdict, refuses, goes, verdict}
 
 module _ {h : ℕ → Bool} {sp : Space} {m : ℕ → ℕ} {role : ℕ → Role} (w : Whole h sp m role) (q : Asked) where
   pub decided-planned : (p : Mapping) → decideOf h m sp q ≡ Go p → Planned h sp m q p
   decided-planned p = go (decideOf h m sp q) (verdict w q)
     where
-      go : (d : Placed) → Verdict h sp m q d → d ≡ Go p → Planned h sp m q p
+      go : (d : Placed) → MapVerdict h sp m q d → d ≡ Go p → Planned h sp m q p
       go d (refuses r c) e = let z : _≡_ {A = ℕ} 0 1 = cc in absurd (omega arith)
       go d (goes p' k) e = let same : p' ≡ p = cc in subst (λ (x : Mapping). Planned h sp m q x) same k
 

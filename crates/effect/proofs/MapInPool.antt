@@ -32,10 +32,10 @@ use Rattle.plan.specs.declared.descent.Way.{Way}
 use Rattle.plan.specs.declared.descent.Why.{Why}
 use Rattle.plan.specs.declared.descent.Why.the-variants as why
 use Rattle.plan.specs.declared.maps.Asked.{Asked}
-use Rattle.plan.specs.declared.maps.Fresh.{Fresh}
+use Rattle.plan.specs.declared.maps.NewTables.{NewTables}
 use Rattle.plan.specs.declared.maps.Mapping.{Mapping}
 use Rattle.plan.specs.Map.{Go, Refused, noBook, shapeOf, meetsOf, nthOf, freshThree, freshOf, stockOf, supplyOf, sparedOf, madeOf, placeOf, becauseOf, stoppedOf, fittingOf, standingOf, shapedOf, decideOf, linkOf, nextOf, growOf, reached0, reached1, reached2, reached3, buildOf, writesOf}
-use Rattle.plan.specs.declared.building.Reached.{Reached}
+use Rattle.plan.specs.declared.building.TableReached.{TableReached}
 use Rattle.plan.specs.declared.maps.Shape.{Shape}
 use Rattle.plan.specs.declared.maps.Shape.the-variants as shape
 use Rattle.plan.specs.declared.maps.Supply.{Supply}
@@ -75,12 +75,12 @@ made-lt n frame w r e = go (fits n frame) refl e
 -- Pages for the missing tables -----------------------------------------------------------------------------------------------------
 
 -- as many of the three as are needed are the pool's
-pub record Spares (sp : Space) (need : ℕ) (f : Fresh) : Type 0 where
+pub record Spares (sp : Space) (need : ℕ) (f : NewTables) : Type 0 where
   pub first : 0 < need → OfPool sp (f .a)
   pub second : 1 < need → OfPool sp (f .b)
   pub third : 2 < need → OfPool sp (f .c)
 
-module _ (h : ℕ → Bool) (m : ℕ → ℕ) (sp : Space) (need : ℕ) (f : Fresh) where
+module _ (h : ℕ → Bool) (m : ℕ → ℕ) (sp : Space) (need : ℕ) (f : NewTables) where
   no-spares : _≡_ {A = ℕ} 0 1 → Spares sp need f
   no-spares z = absurd (omega arith)
 
@@ -136,7 +136,7 @@ module _ (h : ℕ → Bool) (m : ℕ → ℕ) (sp : Space) (q : Asked) (p : Mapp
   clash z = absurd (omega arith)
 
   module _ (s : Fitting h (sp .first) (sp .pages)) (target level table : ℕ) where
-    made-went : (f : Fresh) (x : Made) → OfPool sp table → Spares sp (level - target) f → madePage target (q .frame) (q .rights) ≡ x
+    made-went : (f : NewTables) (x : Made) → OfPool sp table → Spares sp (level - target) f → madePage target (q .frame) (q .rights) ≡ x
         → madeOf q target level table f x ≡ Go p → MapWent h sp p
     unfolding madeOf
     made-went f made.Refused t k w e = clash cc
@@ -189,7 +189,7 @@ module _ (h : ℕ → Bool) (m : ℕ → ℕ) (sp : Space) (q : Asked) (p : Mapp
 
 -- The writes -----------------------------------------------------------------------------------------------------------------------
 
-module _ (sp : Space) (va target p : ℕ) (s : Reached) (t : OfPool sp (s .table)) (u : target < s .level → OfPool sp p) where
+module _ (sp : Space) (va target p : ℕ) (s : TableReached) (t : OfPool sp (s .table)) (u : target < s .level → OfPool sp p) where
   grow-in : Every (OfPool sp) (growOf va target p s)
   unfolding growOf
   grow-in = go (leb (s .level) target) refl
@@ -209,7 +209,7 @@ module _ (sp : Space) (va target p : ℕ) (s : Reached) (t : OfPool sp (s .table
       go false e = u (leb-false (s .level) target e)
 
 -- a step comes one level down
-next-above : (target k p : ℕ) (s : Reached) → target + k < nextOf target p s .level → target + suc k < s .level
+next-above : (target k p : ℕ) (s : TableReached) → target + k < nextOf target p s .level → target + suc k < s .level
 unfolding nextOf
 next-above target k p s = go (leb (s .level) target) refl
   where

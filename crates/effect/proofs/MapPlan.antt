@@ -23,7 +23,7 @@ use Rattle.pool.proofs.Listing.{listed-free}
 use Rattle.plan.specs.declared.Reason.the-variants.{Size, FrameInPool, NoRoom}
 use Rattle.plan.specs.declared.descent.Way.{Way}
 use Rattle.plan.specs.declared.maps.Asked.{Asked}
-use Rattle.plan.specs.declared.maps.Fresh.{Fresh}
+use Rattle.plan.specs.declared.maps.NewTables.{NewTables}
 use Rattle.plan.specs.declared.maps.Mapping.{Mapping}
 use Rattle.plan.specs.Map.{Go, Refused, fitsOf, shapeOf, meetsOf, noBook, nthOf, freshThree, freshOf, stockOf, supplyOf, sparedOf, madeOf, placeOf, stoppedOf, fittingOf, standingOf, shapedOf, decideOf}
 use Rattle.plan.specs.declared.maps.Shape.the-variants.{Level, Bad}
@@ -91,7 +91,7 @@ page-made l q f =
 -- Pages for the missing tables -----------------------------------------------------------------------------------------------------
 
 -- the oldest free pages, as many as are needed
-pub record Supplied (m : ℕ → ℕ) (sp : Space) (need : ℕ) (f : Fresh) : Type 0 where
+pub record Supplied (m : ℕ → ℕ) (sp : Space) (need : ℕ) (f : NewTables) : Type 0 where
   pub need-is : f .need ≡ need
   pub room : need ≤ bookOf m sp .free
   pub first : 0 < need → f .a ≡ pageAt m sp 0
@@ -130,7 +130,7 @@ module _ {h : ℕ → Bool} {sp : Space} {m : ℕ → ℕ} {role : ℕ → Role}
           (listed-free (w .booked) (owned w) h (λ p a b. w .sound .built .home p (w .sound .built .whole p a b) .held) j (omega arith))
 
   -- enough of them, or too few
-  pub supplies : (need : ℕ) → need ≤ bookOf m sp .free → (f : Fresh) × (supplyOf h m sp need ≡ Pages f) × Supplied m sp need f
+  pub supplies : (need : ℕ) → need ≤ bookOf m sp .free → (f : NewTables) × (supplyOf h m sp need ≡ Pages f) × Supplied m sp need f
   unfolding supplyOf stockOf freshOf freshThree
   supplies zero u = (
     record { need = 0; a = 0; b = 0; c = 0; book = noBook },
@@ -175,7 +175,7 @@ module _ {h : ℕ → Bool} {sp : Space} {m : ℕ → ℕ} {role : ℕ → Role}
     two-free : (p q i j : ℕ) → p ≡ pageAt m sp i → q ≡ pageAt m sp j → i < bookOf m sp .free → j < bookOf m sp .free → i ≢ j → p ≢ q
     two-free p q i j e f u v d k = d (w .booked .lists .once i j (omega arith) (omega arith) (sym e ∙ k ∙ f))
 
-    supply-spared : (need : ℕ) (f : Fresh) → Supplied m sp need f → Spared x f
+    supply-spared : (need : ℕ) (f : NewTables) → Supplied m sp need f → Spared x f
     supply-spared need f s = record {
       first-off = λ u. free-off (f .a) 0 (s .first (more u)) (room (more u));
       second-off = λ u. free-off (f .b) 1 (s .second (more u)) (room (more u));
@@ -212,7 +212,7 @@ module _ {h : ℕ → Bool} {sp : Space} {m : ℕ → ℕ} {role : ℕ → Role}
 
       -- it stops where nothing is, and there are pages for the tables that are missing
       pub room-decides : (x : Way) → Traced (settingOf h sp) m (q .base) l x → l ≤ x .level
-          → entryAt m (x .level) (x .a) (indexOf (x .level) (q .base)) ≡ Nothing → (s : Fresh) → supplyOf h m sp (x .level - l) ≡ Pages s → Supplied m sp (x .level - l) s
+          → entryAt m (x .level) (x .a) (indexOf (x .level) (q .base)) ≡ Nothing → (s : NewTables) → supplyOf h m sp (x .level - l) ≡ Pages s → Supplied m sp (x .level - l) s
           → (p : Mapping) × (placeOf q l (x .level) (x .a) (sparedOf x (supplyOf h m sp (x .level - l))) ≡ Go p) × Planned h sp m q p
       unfolding placeOf madeOf
       room-decides x t u n s e o = (

@@ -29,7 +29,7 @@ use Rattle.pool.proofs.Counts.{pool-in}
 use Rattle.pool.proofs.Lists.{taken-none, taken-more}
 use Rattle.pool.proofs.Listing.{free-usable}
 use Rattle.pool.proofs.Taking.{next-free}
-use Rattle.plan.specs.declared.building.Reached.{Reached}
+use Rattle.plan.specs.declared.building.TableReached.{TableReached}
 use Rattle.plan.specs.Map.{linkOf, nextOf, growOf}
 use Rattle.effect.specs.Whole.{Whole}
 use Rattle.effect.proofs.Wholes.{owned}
@@ -45,30 +45,30 @@ unfolding tableWord
 table-word-small p u = omega arith
 
 -- a page that may be a table: of the pool, in the window, behind the book
-pub record Place (h : ℕ → Bool) (sp : Space) (p : ℕ) : Type 0 where
+pub record MayBeTable (h : ℕ → Bool) (sp : Space) (p : ℕ) : Type 0 where
   pub home : Home (settingOf h sp) p
   pub behind : sp .first + bookPages (sp .pages) ≤ p
 
 -- THE TABLES SO FAR. xs was written; the way has come to s, where nothing is, at most so many levels above the target; as many of the
 -- oldest free pages are tables as levels were passed.
-pub record Grown (h : ℕ → Bool) (sp : Space) (m : ℕ → ℕ) (role : ℕ → Role) (va target level more : ℕ) (xs : List Write) (s : Reached) : Type 0 where
+pub record Grown (h : ℕ → Bool) (sp : Space) (m : ℕ → ℕ) (role : ℕ → Role) (va target level more : ℕ) (xs : List Write) (s : TableReached) : Type 0 where
   pub now : ℕ → ℕ
   pub roles : ℕ → Role
   pub down : Down (settingOf h sp) m role va xs now roles (suc (s .level)) (s .table)
   pub nothing : entryAt now (s .level) (s .table) (indexOf (s .level) va) ≡ Nothing
   pub taken : Taken (pageAt m sp) (level - s .level) role roles
-  pub place : Place h sp (s .table)
-  pub places : Every (Place h sp) xs
+  pub place : MayBeTable h sp (s .table)
+  pub places : Every (MayBeTable h sp) xs
   pub below : s .level ≤ level
   pub above : target ≤ s .level
   pub near : s .level ≤ target + more
 
 module _ {h : ℕ → Bool} {sp : Space} {m : ℕ → ℕ} {role : ℕ → Role} (w : Whole h sp m role) (va target level : ℕ) where
-  abbrev Grows : ℕ → List Write → Reached → Type 0
+  abbrev Grows : ℕ → List Write → TableReached → Type 0
   Grows = Grown h sp m role va target level
 
   -- a page that is free in the book's roles
-  free-place : (p : ℕ) → role p ≡ free → Place h sp p
+  free-place : (p : ℕ) → role p ≡ free → MayBeTable h sp p
   free-place p e = record {
     home = w .sound .built .home p (λ x. let z : _≡_ {A = ℕ} 0 1 = cc in omega arith);
     behind = free-usable (w .booked) (owned w) p e .in-the-pool .behind;
@@ -116,7 +116,7 @@ module _ {h : ℕ → Bool} {sp : Space} {m : ℕ → ℕ} {role : ℕ → Role}
       new : g .roles p ≡ free
       new = rw e (next-free (w .booked) (level - suc l) (omega arith) (g .taken) v)
 
-      here : Place h sp p
+      here : MayBeTable h sp p
       here = free-place p (g .down .unused p new)
 
       small : p < 2 ^ 40
@@ -126,7 +126,7 @@ module _ {h : ℕ → Bool} {sp : Space} {m : ℕ → ℕ} {role : ℕ → Role}
       apart x = omega (arith, ap left new, ap (λ y. left (g .roles y)) x, comes-left (g .down .built) (g .down .comes))
 
   -- ONE STEP of the plan
-  pub grown-step : (more p : ℕ) (xs : List Write) (s : Reached) → Grows (suc more) xs s
+  pub grown-step : (more p : ℕ) (xs : List Write) (s : TableReached) → Grows (suc more) xs s
       → (target < s .level → (p ≡ pageAt m sp (level - s .level)) × (level - s .level < bookOf m sp .free))
       → Grows more (xs ++ growOf va target p s) (nextOf target p s)
   unfolding growOf nextOf

@@ -13,7 +13,7 @@ use Rattle.tables.specs.Roles.{Setting, Role, entryAt}
 use Rattle.tables.specs.Way.{Comes, begin, onto}
 use Rattle.tables.proofs.Way.{comes-top, comes-same}
 use Rattle.tables.proofs.OneWrite.{nothing-plain}
-use Rattle.tables.specs.Overlap.{Stop, Taken, at-nothing-above, at-page-above, at-table-there}
+use Rattle.tables.specs.Overlap.{Stop, AtSomething, at-nothing-above, at-page-above, at-table-there}
 use Rattle.tables.proofs.Overlap.{overlap}
 use Rattle.pool.specs.Book.{bookOf}
 use Rattle.pool.specs.Booked.{settingOf}
@@ -27,7 +27,7 @@ use Rattle.plan.specs.declared.maps.Mapping.{Mapping}
 use Rattle.plan.specs.Map.{Placed, Go, Refused, fitsOf, supplyOf, sparedOf, placeOf, becauseOf, stoppedOf, shapedOf, decideOf}
 use Rattle.plan.specs.Descend.{wayOf}
 use Rattle.effect.specs.MapDone.{Fitted, Misses}
-use Rattle.effect.specs.MapRefused.{OfLevel, Meets, FrameApart, Mapped, Cause, no-size, base-unaligned, frame-unaligned, base-range, frame-high, frame-in-pool, mapped, no-room}
+use Rattle.effect.specs.MapRefused.{OfLevel, Meets, FrameApart, SomeMapped, Cause, no-size, base-unaligned, frame-unaligned, base-range, frame-high, frame-in-pool, mapped, no-room}
 use Rattle.effect.specs.Whole.{Whole}
 use Rattle.effect.proofs.MapPlan.{shape-of-level, shape-of-none, size-small, Planned, supplies, lacks, meets-decides, apart-decides, base-traced, room-decides}
 use Rattle.effect.proofs.Trace.{Because, at-nothing, at-page, at-table, Traced}
@@ -83,12 +83,12 @@ apart-or-meets h sp q = go (decLt (sp .first * 4096) (q .frame + q .size)) (decL
 data Ending (h : ℕ → Bool) (sp : Space) (m : ℕ → ℕ) (q : Asked) (l : ℕ) : Placed → Type 0 where
   bare : (x : Way) → l ≤ x .level → Traced (settingOf h sp) m (q .base) l x → entryAt m (x .level) (x .a) (indexOf (x .level) (q .base)) ≡ Nothing
       → Ending h sp m q l (placeOf q l (x .level) (x .a) (sparedOf x (supplyOf h m sp (x .level - l))))
-  occupied : Mapped h sp m q → Ending h sp m q l (Refused Overlap)
+  occupied : SomeMapped h sp m q → Ending h sp m q l (Refused Overlap)
 
 -- WHAT IS DECIDED: a refusal for its cause, or a plan
-pub data Verdict (h : ℕ → Bool) (sp : Space) (m : ℕ → ℕ) (q : Asked) : Placed → Type 0 where
-  refuses : (r : Reason) → Cause h sp m q r → Verdict h sp m q (Refused r)
-  goes : (p : Mapping) → Planned h sp m q p → Verdict h sp m q (Go p)
+pub data MapVerdict (h : ℕ → Bool) (sp : Space) (m : ℕ → ℕ) (q : Asked) : Placed → Type 0 where
+  refuses : (r : Reason) → Cause h sp m q r → MapVerdict h sp m q (Refused r)
+  goes : (p : Mapping) → Planned h sp m q p → MapVerdict h sp m q (Go p)
 
 module _ {h : ℕ → Bool} {sp : Space} {m : ℕ → ℕ} {role : ℕ → Role} (w : Whole h sp m role) (q : Asked) where
   module _ (l : ℕ) (f : Fitted l q) (c : FrameApart h sp q) where
@@ -97,11 +97,11 @@ module _ {h : ℕ → Bool} {sp : Space} {m : ℕ → ℕ} {role : ℕ → Role}
 
     -- nothing on the way: nothing is mapped there
     bare-unmapped : (level table : ℕ) → l ≤ level → Comes (settingOf h sp) m (q .base) (suc level) table
-        → entryAt m level table (indexOf level (q .base)) ≡ Nothing → ¬ Mapped h sp m q
+        → entryAt m level table (indexOf level (q .base)) ≡ Nothing → ¬ SomeMapped h sp m q
     bare-unmapped level table u d e k = overlap (w .sound) aligned (at-nothing-above level table u d e) .1 (rw (f .size-is) at k)
 
     -- a page or a table on the way: something is
-    overlapping : (s : Stop (settingOf h sp) m (q .base) l) → Taken s → Mapped h sp m q
+    overlapping : (s : Stop (settingOf h sp) m (q .base) l) → AtSomething s → SomeMapped h sp m q
     overlapping s t = rw (f .size-is) (overlap (w .sound) aligned s .0 t)
 
     ending-of : (x : Way) → Traced (settingOf h sp) m (q .base) l x → Ending h sp m q l (stoppedOf h m sp q l x)
@@ -124,14 +124,14 @@ module _ {h : ℕ → Bool} {sp : Space} {m : ℕ → ℕ} {role : ℕ → Role}
     ending : Ending h sp m q l (decideOf h m sp q)
     ending = rw (apart-decides w q l f c) (ending-of (wayOf h m sp (q .base) l) (base-traced w q l f c))
 
-    overlap-refuses : Mapped h sp m q → decideOf h m sp q ≡ Refused Overlap
+    overlap-refuses : SomeMapped h sp m q → decideOf h m sp q ≡ Refused Overlap
     overlap-refuses k = go (decideOf h m sp q) ending
       where
         go : (d : Placed) → Ending h sp m q l d → d ≡ Refused Overlap
         go d (bare x u t e) = absurd (bare-unmapped (x .level) (x .a) u (t .comes) e k)
         go d (occupied k') = refl
 
-    room-refuses : (n : ℕ) → ¬ Mapped h sp m q → Misses (settingOf h sp) m (q .base) l n → bookOf m sp .free < n → decideOf h m sp q ≡ Refused NoRoom
+    room-refuses : (n : ℕ) → ¬ SomeMapped h sp m q → Misses (settingOf h sp) m (q .base) l n → bookOf m sp .free < n → decideOf h m sp q ≡ Refused NoRoom
     unfolding placeOf sparedOf
     room-refuses n none k u = go (decideOf h m sp q) ending
       where
@@ -142,15 +142,15 @@ module _ {h : ℕ → Bool} {sp : Space} {m : ℕ → ℕ} {role : ℕ → Role}
             rw (z, lacks w n u)
         go d (occupied k') = absurd (none k')
 
-    fitted-verdict : Verdict h sp m q (decideOf h m sp q)
+    fitted-verdict : MapVerdict h sp m q (decideOf h m sp q)
     unfolding placeOf sparedOf
     fitted-verdict = go (decideOf h m sp q) ending
       where
-        go : (d : Placed) → Ending h sp m q l d → Verdict h sp m q d
+        go : (d : Placed) → Ending h sp m q l d → MapVerdict h sp m q d
         go d (occupied k) = refuses Overlap (mapped l f c k)
         go d (bare x v t e) = supply (decLe (x .level - l) (bookOf m sp .free))
           where
-            supply : Dec (x .level - l ≤ bookOf m sp .free) → Verdict h sp m q (placeOf q l (x .level) (x .a) (sparedOf x (supplyOf h m sp (x .level - l))))
+            supply : Dec (x .level - l ≤ bookOf m sp .free) → MapVerdict h sp m q (placeOf q l (x .level) (x .a) (sparedOf x (supplyOf h m sp (x .level - l))))
             supply (yes u) =
                 let s = supplies w (x .level - l) u in
                 let r = room-decides w q l f c x t v e (s .0) (s .1) (s .2) in
@@ -181,19 +181,19 @@ module _ {h : ℕ → Bool} {sp : Space} {m : ℕ → ℕ} {role : ℕ → Role}
   cause-refuses r (mapped l f c k) = overlap-refuses l f c k
   cause-refuses r (no-room l n f c none k u) = room-refuses l f c n none k u
 
-  because : (r : Reason) → Cause h sp m q r → Verdict h sp m q (decideOf h m sp q)
+  because : (r : Reason) → Cause h sp m q r → MapVerdict h sp m q (decideOf h m sp q)
   because r c = rw (cause-refuses r c) (refuses r c)
 
   -- EVERY CASE IS ONE OF THESE
-  pub verdict : Verdict h sp m q (decideOf h m sp q)
+  pub verdict : MapVerdict h sp m q (decideOf h m sp q)
   verdict = size-go (sized q)
     where
-      fitted-go : (l : ℕ) → Fitted l q → FrameApart h sp q ⊎ Meets sp q → Verdict h sp m q (decideOf h m sp q)
+      fitted-go : (l : ℕ) → Fitted l q → FrameApart h sp q ⊎ Meets sp q → MapVerdict h sp m q (decideOf h m sp q)
       fitted-go l f (inl c) = fitted-verdict l f c
       fitted-go l f (inr k) = because FrameInPool (frame-in-pool l f k)
 
       level-go : (l : ℕ) → OfLevel l q → Dec (q .base % q .size ≡ 0) → Dec (q .frame % q .size ≡ 0) → (c : Bool) → canonical (q .base) ≡ c → Dec (q .frame + q .size ≤ 2 ^ 52)
-          → Verdict h sp m q (decideOf h m sp q)
+          → MapVerdict h sp m q (decideOf h m sp q)
       level-go l o (no a) b c e d = because BaseUnaligned (base-unaligned l o a)
       level-go l o (yes a) (no b) c e d = because FrameUnaligned (frame-unaligned l o a b)
       level-go l o (yes a) (yes b) false e d = because BaseRange (base-range l o a b e)
@@ -201,7 +201,7 @@ module _ {h : ℕ → Bool} {sp : Space} {m : ℕ → ℕ} {role : ℕ → Role}
       level-go l o (yes a) (yes b) true e (yes d) =
           fitted-go l (record { level = o .0; size-is = o .1; base-aligned = a; frame-aligned = b; base-fits = e; frame-fits = d }) (apart-or-meets h sp q)
 
-      size-go : ((l : ℕ) × OfLevel l q) ⊎ ((l : ℕ) → l ≤ 2 → q .size ≢ sizeOf l) → Verdict h sp m q (decideOf h m sp q)
+      size-go : ((l : ℕ) × OfLevel l q) ⊎ ((l : ℕ) → l ≤ 2 → q .size ≢ sizeOf l) → MapVerdict h sp m q (decideOf h m sp q)
       size-go (inr n) = because Size (no-size n)
       size-go (inl k) =
           level-go (k .0) (k .1) (ℕ-discrete (q .base % q .size) 0) (ℕ-discrete (q .frame % q .size) 0) (canonical (q .base)) refl (decLe (q .frame + q .size) (2 ^ 52))

@@ -29,12 +29,12 @@ use Rattle.pool.specs.declared.Space.{Space}
 use Rattle.pool.proofs.Booked.{Beside, book-beside, numbered-beside, booked-beside}
 use Rattle.pool.proofs.Counts.{InPool}
 use Rattle.pool.proofs.Tickets.{ticket-sound}
-use Rattle.plan.specs.declared.finding.Spot.{Spot}
+use Rattle.plan.specs.declared.finding.PageEntry.{PageEntry}
 use Rattle.plan.specs.declared.finding.Sought.{Sought}
 use Rattle.plan.specs.declared.finding.Sought.the-variants as sought
 use Rattle.plan.specs.declared.protects.Change.{Change}
 use Rattle.plan.specs.declared.protects.Changing.the-variants.{Go, Refused}
-use Rattle.plan.specs.Find.{foundOf}
+use Rattle.plan.specs.Find.{findOf}
 use Rattle.plan.specs.Protect.{changeOf, changingOf, decideOf, writesOf}
 use Rattle.effect.proofs.Unmarking.{page-unmarked}
 use Rattle.effect.specs.ProtectDone.{ProtectDone}
@@ -53,17 +53,17 @@ with-rights-lt w r = numbers w _ _ _ (flag-lt (r .writable)) (flag-lt (r .user))
 
 -- the change that a decision is
 decided : (h : ℕ → Bool) (m : ℕ → ℕ) (sp : Space) (va : ℕ) (r : Rights) (c : Change) → decideOf h m sp va r ≡ Go c
-    → (s : Spot) × (foundOf h m sp va ≡ sought.Found s) × (changeOf va s r (ticketIn (bookOf m sp)) ≡ c)
+    → (s : PageEntry) × (findOf h m sp va ≡ sought.Found s) × (changeOf va s r (ticketIn (bookOf m sp)) ≡ c)
 unfolding decideOf changingOf
-decided h m sp va r c e = go (foundOf h m sp va) refl e
+decided h m sp va r c e = go (findOf h m sp va) refl e
   where
-    go : (x : Sought) → foundOf h m sp va ≡ x → changingOf m sp va r x ≡ Go c
-        → (s : Spot) × (foundOf h m sp va ≡ sought.Found s) × (changeOf va s r (ticketIn (bookOf m sp)) ≡ c)
+    go : (x : Sought) → findOf h m sp va ≡ x → changingOf m sp va r x ≡ Go c
+        → (s : PageEntry) × (findOf h m sp va ≡ sought.Found s) × (changeOf va s r (ticketIn (bookOf m sp)) ≡ c)
     go (sought.Found s) f k = (s, f, cc)
     go (sought.Refused y) f k = let z : _≡_ {A = ℕ} 0 1 = cc in absurd (omega arith)
 
 module _ {h : ℕ → Bool} {sp : Space} {m : ℕ → ℕ} {role : ℕ → Role} (w : Whole h sp m role) (va : ℕ) (r : Rights) where
-  changes : (s : Spot) → Located (settingOf h sp) m role va s → ProtectDone h sp m role va r (changeOf va s r (ticketIn (bookOf m sp)))
+  changes : (s : PageEntry) → Located (settingOf h sp) m role va s → ProtectDone h sp m role va r (changeOf va s r (ticketIn (bookOf m sp)))
   unfolding changeOf writesOf after
   changes s k = record {
     level = l;

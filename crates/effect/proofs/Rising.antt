@@ -29,7 +29,7 @@ use Rattle.pool.proofs.Proper.{OfBook, aside-proper}
 use Rattle.pool.proofs.SettingAside.{aside-book, aside-booked, aside-numbered, aside-others}
 use Rattle.effect.specs.OfPool.{OfPool}
 use Rattle.effect.specs.UnmapDone.{asideMore, SetAside}
-use Rattle.effect.proofs.Trace.{Names, live-in-pool}
+use Rattle.effect.proofs.Trace.{NamesTable, live-in-pool}
 use Rattle.effect.proofs.Wholes.{in-beside, in-of-pool, book-of-pool, book-spares}
 
 -- a book with more pages set aside: none, one, and one more
@@ -62,7 +62,7 @@ cutting sp r i t b = write r i 0 ∷ asideWrites sp b t
 
 module _ {h : ℕ → Bool} {sp : Space} {m₀ : ℕ → ℕ} {role₀ : ℕ → Role} {va l n : ℕ} {xs : List Write} {role : ℕ → Role} {k t : ℕ}
     (low : sp .root < 2 ^ 40) (small : sp .first + sp .pages ≤ 2 ^ 40)
-    (d : Rising h sp m₀ role₀ va l n xs role k t) (r : ℕ) (names : Names (settingOf h sp) m₀ va (suc k) r t) (bare : Bare (after m₀ xs) (suc k) t) where
+    (d : Rising h sp m₀ role₀ va l n xs role k t) (r : ℕ) (names : NamesTable (settingOf h sp) m₀ va (suc k) r t) (bare : Bare (after m₀ xs) (suc k) t) where
   abbrev i : ℕ
   i = indexOf (suc k) va
 

@@ -21,10 +21,10 @@ use Rattle.pool.specs.declared.Space.{Space}
 use Rattle.plan.specs.declared.Reason.{Reason}
 use Rattle.plan.specs.declared.Reason.the-variants.{BaseRange, NothingStarts}
 use Rattle.plan.specs.declared.descent.Way.{Way}
-use Rattle.plan.specs.declared.finding.Spot.{Spot}
+use Rattle.plan.specs.declared.finding.PageEntry.{PageEntry}
 use Rattle.plan.specs.declared.finding.Sought.the-variants.{Found, Refused}
 use Rattle.plan.specs.Descend.{wayOf}
-use Rattle.plan.specs.Find.{startsOf, spotOf, becauseOf, stoppedOf, soughtOf, foundOf}
+use Rattle.plan.specs.Find.{startsOf, pageEntryOf, foundBecauseOf, foundStoppedOf, soughtOf, findOf}
 use Rattle.effect.specs.StartsAt.{StartsAt, NotThere, no-address, none-starts}
 use Rattle.effect.specs.Whole.{Whole}
 use Rattle.plan.proofs.Found.{found-at}
@@ -48,9 +48,9 @@ not-there-once σ m va x y (none-starts u n) (no-address v) = absurd (false≢tr
 
 module _ {h : ℕ → Bool} {sp : Space} {m : ℕ → ℕ} {role : ℕ → Role} (w : Whole h sp m role) (va : ℕ) where
   -- what is found, or why not, and what that means
-  pub data Verdict : Type 0 where
-    there : (s : Spot) → foundOf h m sp va ≡ Found s → StartsAt (settingOf h sp) m va → Verdict
-    missing : (y : Reason) → foundOf h m sp va ≡ Refused y → NotThere (settingOf h sp) m va y → Verdict
+  pub data FindVerdict : Type 0 where
+    there : (s : PageEntry) → findOf h m sp va ≡ Found s → StartsAt (settingOf h sp) m va → FindVerdict
+    missing : (y : Reason) → findOf h m sp va ≡ Refused y → NotThere (settingOf h sp) m va y → FindVerdict
 
   -- an address that means nothing, or a page with another base: no page starts there
   nothing-starts : meaning (settingOf h sp) m va ≡ found.Nothing → ¬ StartsAt (settingOf h sp) m va
@@ -71,27 +71,27 @@ module _ {h : ℕ → Bool} {sp : Space} {m : ℕ → ℕ} {role : ℕ → Role}
   base-aligned l e = omega (arith, div-add-mod' va (sizeOf l))
 
   -- for an address the way decides
-  found-by : canonical va ≡ true → foundOf h m sp va ≡ stoppedOf va (wayOf h m sp va 4)
-  unfolding foundOf soughtOf
+  found-by : canonical va ≡ true → findOf h m sp va ≡ foundStoppedOf va (wayOf h m sp va 4)
+  unfolding findOf soughtOf
   found-by u = rw (book-names w, u)
 
-  stopped-by : (y : Way) → y .level < 4 → stoppedOf va y ≡ becauseOf va y (y .why)
-  unfolding stoppedOf
+  stopped-by : (y : Way) → y .level < 4 → foundStoppedOf va y ≡ foundBecauseOf va y (y .why)
+  unfolding foundStoppedOf
   stopped-by y u = rw (le-leb (y .level) 3 (omega arith))
 
-  found-there : (s : Spot) → foundOf h m sp va ≡ Found s → Verdict
+  found-there : (s : PageEntry) → findOf h m sp va ≡ Found s → FindVerdict
   found-there s f =
       let k = located w (found-at h m sp va s f) in
       there s f (record { address = va; size = s .size; frame = s .frame; rights = k .rights; means = k .means })
 
-  decide : (y : Way) → foundOf h m sp va ≡ becauseOf va y (y .why) → Traced (settingOf h sp) m va 4 y → Because m 4 y → Verdict
-  unfolding becauseOf spotOf startsOf
+  decide : (y : Way) → findOf h m sp va ≡ foundBecauseOf va y (y .why) → Traced (settingOf h sp) m va 4 y → Because m 4 y → FindVerdict
+  unfolding foundBecauseOf pageEntryOf startsOf
   decide y f t (at-nothing r g e) =
       missing NothingStarts (f ∙ rw r) (none-starts (comes-address (t .comes)) (nothing-starts (mean-nothing (w .sound .built) (t .comes) (ap (says (y .level)) (sym (t .word)) ∙ e))))
   decide y f t (at-table x g r l e) = absurd (omega (arith, t .low))
   decide y f t (at-page x g r l e) = go (ℕ-discrete (va % sizeOf (y .level)) 0)
     where
-      go : Dec (va % sizeOf (y .level) ≡ 0) → Verdict
+      go : Dec (va % sizeOf (y .level) ≡ 0) → FindVerdict
       go (yes a) = found-there (record { way = y; index = indexOf (y .level) va; frame = x; size = sizeOf (y .level) }) (f ∙ rw (r, eq-eqb (va % sizeOf (y .level)) 0 a, e))
       go (no a) =
           missing NothingStarts (f ∙ rw (r, ne-eqb (va % sizeOf (y .level)) 0 a)) (none-starts (comes-address (t .comes))
@@ -99,10 +99,10 @@ module _ {h : ℕ → Bool} {sp : Space} {m : ℕ → ℕ} {role : ℕ → Role}
           (λ s. a (base-aligned (y .level) s))))
 
   -- FOUND EXACTLY WHERE A PAGE STARTS
-  pub verdict : Verdict
-  unfolding foundOf soughtOf
+  pub verdict : FindVerdict
+  unfolding findOf soughtOf
   verdict = go (canonical va) refl
     where
-      go : (b : Bool) → canonical va ≡ b → Verdict
+      go : (b : Bool) → canonical va ≡ b → FindVerdict
       go true u = let t = way-traced w va u in decide (wayOf h m sp va 4) (found-by u ∙ stopped-by (wayOf h m sp va 4) (t .low)) t (t .because)
       go false u = missing BaseRange (rw (book-names w, u)) (no-address u)

@@ -6,7 +6,7 @@ use mathlib.Core.Path.{_≡_, sym, ap, _∙_}
 use native.Mathlib.Omega.{arith}
 use Rattle.word.specs.Writes.{Write, after, Every}
 use Rattle.tables.specs.Roles.{Role, left, Sound}
-use Rattle.tables.proofs.Clearing.{Untouched, spare-untouched, untouched-holds}
+use Rattle.tables.proofs.Clearing.{LeavesTables, spare-untouched, untouched-holds}
 use Rattle.tables.proofs.Unseen.{shift-sound}
 use Rattle.pool.proofs.Alone.{alone-after, release-unmarking}
 use Rattle.pool.specs.Book.{bookOf, dueOf}
@@ -41,10 +41,10 @@ module _ {h : ℕ → Bool} {sp : Space} {m : ℕ → ℕ} {role : ℕ → Role}
   shifted = shift-sound role (released m sp k role) (release-shifted (w .booked) k (x .enough)) (w .sound)
 
   -- no walk comes to the book, by the roles before or after
-  before : Untouched (settingOf h sp) m role ys
+  before : LeavesTables (settingOf h sp) m role ys
   before = spare-untouched ys (w .sound .built) (book-spares (w .booked) ys ys-book)
 
-  still : Untouched (settingOf h sp) m role' ys
+  still : LeavesTables (settingOf h sp) m role' ys
   still = spare-untouched ys (shifted .built) (book-spares booked ys ys-book)
 
   released-by : ToldDone h sp m role t k

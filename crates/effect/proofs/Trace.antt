@@ -26,10 +26,10 @@ use Rattle.pool.proofs.Pages.{root-page}
 use Rattle.plan.specs.declared.descent.Way.{Way}
 use Rattle.plan.specs.declared.descent.Why.{Why}
 use Rattle.plan.specs.declared.descent.Why.the-variants as why
-use Rattle.plan.specs.Descend.{At, Stopped, pushOf, stopOf, toldOf, arriveOf, stepOf, downOf, endOf, noWay, wayOf}
+use Rattle.plan.specs.Descend.{Going, Stopped, pushOf, stopOf, atEntryOf, arriveOf, stepDownOf, downOf, endOf, noWay, wayOf}
 
 -- entry i of level l of page q names the table t, and the walk of va comes to q
-pub record Names (σ : Setting) (m : ℕ → ℕ) (va l q t : ℕ) : Type 0 where
+pub record NamesTable (σ : Setting) (m : ℕ → ℕ) (va l q t : ℕ) : Type 0 where
   pub comes : Comes σ m va (suc l) q
   pub names : entryAt m l q (indexOf l va) ≡ entry.Table t everything
 
@@ -45,18 +45,18 @@ pub record Traced (σ : Setting) (m : ℕ → ℕ) (va target : ℕ) (w : Way) :
   pub comes : Comes σ m va (suc (w .level)) (w .a)
   pub word : w .word ≡ m (entryOf (w .level) va (w .a))
   pub because : Because m target w
-  pub second : w .level < 3 → Names σ m va (suc (w .level)) (w .b) (w .a)
-  pub third : w .level < 2 → Names σ m va (suc (suc (w .level))) (w .c) (w .b)
-  pub fourth : w .level < 1 → Names σ m va (suc (suc (suc (w .level)))) (w .d) (w .c)
+  pub second : w .level < 3 → NamesTable σ m va (suc (w .level)) (w .b) (w .a)
+  pub third : w .level < 2 → NamesTable σ m va (suc (suc (w .level))) (w .c) (w .b)
+  pub fourth : w .level < 1 → NamesTable σ m va (suc (suc (suc (w .level)))) (w .d) (w .c)
 
 -- the tables above the table t, at which n levels are left
 record Above (σ : Setting) (m : ℕ → ℕ) (va n t : ℕ) (w : Way) : Type 0 where
-  one : n < 4 → Names σ m va n (w .a) t
-  two : n < 3 → Names σ m va (suc n) (w .b) (w .a)
-  three : n < 2 → Names σ m va (suc (suc n)) (w .c) (w .b)
+  one : n < 4 → NamesTable σ m va n (w .a) t
+  two : n < 3 → NamesTable σ m va (suc n) (w .b) (w .a)
+  three : n < 2 → NamesTable σ m va (suc (suc n)) (w .c) (w .b)
 
 down-stopped : (h : ℕ → Bool) (m : ℕ → ℕ) (sp : Space) (target va n : ℕ) (w : Way) → downOf h m sp target va n (Stopped w) ≡ Stopped w
-unfolding downOf stepOf
+unfolding downOf stepDownOf
 down-stopped h m sp target va zero w = refl
 down-stopped h m sp target va (suc n) w = down-stopped h m sp target va n w
 
@@ -95,9 +95,9 @@ module _ {h : ℕ → Bool} {sp : Space} {m : ℕ → ℕ} {role : ℕ → Role}
     told-traced : (n t : ℕ) (w : Way) → n < 4 → Comes (settingOf h sp) m va (suc n) t → Above (settingOf h sp) m va (suc n) t w → Target n
         → (x : Entry) → says n (m (entryOf n va t)) ≡ x
         → ((s : ℕ) (r : Rights) → says n (m (entryOf n va t)) ≡ entry.Table s r → n ≢ target
-        → Traced (settingOf h sp) m va target (endOf (downOf h m sp target va n (At s (pushOf w t)))))
-        → Traced (settingOf h sp) m va target (endOf (downOf h m sp target va n (toldOf target n (m (entryOf n va t)) (pushOf w t) x)))
-    unfolding toldOf stopOf
+        → Traced (settingOf h sp) m va target (endOf (downOf h m sp target va n (Going s (pushOf w t)))))
+        → Traced (settingOf h sp) m va target (endOf (downOf h m sp target va n (atEntryOf target n (m (entryOf n va t)) (pushOf w t) x)))
+    unfolding atEntryOf stopOf
     told-traced n t w u c o g entry.Nothing e next =
         rw (down-stopped h m sp target va n _) (stopped n t w why.Nothing u c o (λ x s. rw s (at-nothing refl g e)))
     told-traced n t w u c o g (entry.Page f r) e next =
@@ -105,7 +105,7 @@ module _ {h : ℕ → Bool} {sp : Space} {m : ℕ → ℕ} {role : ℕ → Role}
     told-traced n t w u c o g (entry.Table s r) e next = go (ℕ-discrete n target)
       where
         go : Dec (n ≡ target)
-            → Traced (settingOf h sp) m va target (endOf (downOf h m sp target va n (cond (eqb n target) (stopOf why.Table n (m (entryOf n va t)) (pushOf w t)) (At s (pushOf w t)))))
+            → Traced (settingOf h sp) m va target (endOf (downOf h m sp target va n (cond (eqb n target) (stopOf why.Table n (m (entryOf n va t)) (pushOf w t)) (Going s (pushOf w t)))))
         go (yes d) =
             rw (eq-eqb n target d, down-stopped h m sp target va n _) (stopped n t w why.Table u c o (λ x q. rw q (at-table s r refl d e)))
         go (no d) = rw (ne-eqb n target d) (next s r e d)
@@ -125,8 +125,8 @@ module _ {h : ℕ → Bool} {sp : Space} {m : ℕ → ℕ} {role : ℕ → Role}
     further n d (inr u) l e = inr u
 
     trace-from : (n t : ℕ) (w : Way) → n < 4 → Comes (settingOf h sp) m va (suc n) t → Above (settingOf h sp) m va (suc n) t w → Target n
-        → Traced (settingOf h sp) m va target (endOf (downOf h m sp target va (suc n) (At t w)))
-    unfolding downOf stepOf arriveOf
+        → Traced (settingOf h sp) m va target (endOf (downOf h m sp target va (suc n) (Going t w)))
+    unfolding downOf stepDownOf arriveOf
     trace-from zero t w u c o g =
         rw (live-in-pool (comes-left b c) .0, live-in-pool (comes-left b c) .1)
         (told-traced 0 t w u c o g (says 0 (m (entryOf 0 va t))) refl (λ s r e d. absurd (last-no-table _ s r e)))

@@ -23,16 +23,16 @@ use Rattle.pool.proofs.Counts.{is-sound}
 use Rattle.pool.proofs.Pages.{adds-up}
 use Rattle.pool.proofs.Tickets.{ticket-more}
 use Rattle.plan.specs.declared.Reason.{Reason}
-use Rattle.plan.specs.declared.finding.Spot.{Spot}
+use Rattle.plan.specs.declared.finding.PageEntry.{PageEntry}
 use Rattle.plan.specs.declared.finding.Sought.{Sought}
 use Rattle.plan.specs.declared.finding.Sought.the-variants as sought
 use Rattle.plan.specs.declared.unmaps.Removal.{Removal}
 use Rattle.plan.specs.declared.unmaps.Removing.the-variants.{Go, Refused}
-use Rattle.effect.proofs.WayInPool.{spot-through}
+use Rattle.effect.proofs.WayInPool.{entry-in-pool}
 use Rattle.effect.specs.OfPool.{OfPool}
-use Rattle.plan.specs.Find.{foundOf}
+use Rattle.plan.specs.Find.{findOf}
 use Rattle.plan.specs.Map.{noBook}
-use Rattle.plan.specs.Unmap.{emptiedOf, bookedOf, openOf, removeOf, soughtOf, decideOf, writesOf}
+use Rattle.plan.specs.Unmap.{emptiedOf, bookedOf, openOf, removeOf, removingOf, decideOf, writesOf}
 use Rattle.effect.specs.UnmapDone.{asideMore, SetAside, UnmapDone}
 use Rattle.effect.specs.Whole.{Whole}
 use Rattle.effect.proofs.Cuts.{cuts, cutRoles, risen, last-level, cut-changed, removal, writes-are, cuts-unmarking}
@@ -51,15 +51,15 @@ unfolding bookRead
 book-read m sp n u = rw (ne-eqb n 0 (omega arith))
 
 -- what was not found is not removed
-pub refused-so : (h : ℕ → Bool) (m : ℕ → ℕ) (sp : Space) (va : ℕ) (y : Reason) → foundOf h m sp va ≡ sought.Refused y → decideOf h m sp va ≡ Refused y
-unfolding decideOf soughtOf
+pub refused-so : (h : ℕ → Bool) (m : ℕ → ℕ) (sp : Space) (va : ℕ) (y : Reason) → findOf h m sp va ≡ sought.Refused y → decideOf h m sp va ≡ Refused y
+unfolding decideOf removingOf
 refused-so h m sp va y f = rw f
 
 refusal-clash : (r : Removal) (y : Reason) → Go r ≡ Refused y → _≡_ {A = ℕ} 0 1
 refusal-clash r y e = cc
 
 module _ {h : ℕ → Bool} {sp : Space} {m : ℕ → ℕ} {role : ℕ → Role} (w : Whole h sp m role) (va : ℕ) where
-  module _ (s : Spot) (k : Located (settingOf h sp) m role va s) where
+  module _ (s : PageEntry) (k : Located (settingOf h sp) m role va s) where
     -- the removal of n tables, all of them
     removed : (n : ℕ) (b : Book) → Emptied h m va (s .way) n → (0 < n → b ≡ bookOf m sp) → ((j : ℕ) → j < n → tableAt (s .way) j < 2 ^ 40)
         → UnmapDone h sp m role va (removal s n b)
@@ -141,24 +141,24 @@ module _ {h : ℕ → Bool} {sp : Space} {m : ℕ → ℕ} {role : ℕ → Role}
         go (yes z) = rw (eq-eqb n 0 z, z)
         go (no z) = rw (ne-eqb n 0 z, book-opens w, takes n e)
 
-    pub unmap-decided : foundOf h m sp va ≡ sought.Found s → decideOf h m sp va ≡ Go (removal s (emptiedOf h m va (s .way)) (bookRead m sp (emptiedOf h m va (s .way))))
-    unfolding decideOf soughtOf
+    pub unmap-decided : findOf h m sp va ≡ sought.Found s → decideOf h m sp va ≡ Go (removal s (emptiedOf h m va (s .way)) (bookRead m sp (emptiedOf h m va (s .way))))
+    unfolding decideOf removingOf
     unmap-decided f = rw f (removes (emptiedOf h m va (s .way)) (emptied h m va (s .way)))
 
     same-removal : (r x : Removal) → Go r ≡ Go x → r ≡ x
     same-removal r x e = cc
 
-    unmapped-at : foundOf h m sp va ≡ sought.Found s → (r : Removal) → decideOf h m sp va ≡ Go r → UnmapDone h sp m role va r
+    unmapped-at : findOf h m sp va ≡ sought.Found s → (r : Removal) → decideOf h m sp va ≡ Go r → UnmapDone h sp m role va r
     unmapped-at f r e =
         let n = emptiedOf h m va (s .way) in
         subst (UnmapDone h sp m role va) (same-removal _ r (sym (unmap-decided f) ∙ e))
         (removed n (bookRead m sp n) (emptied h m va (s .way)) (book-read m sp n)
-        (λ j u. spot-through (found-at h m sp va s f) .small j (omega (arith, emptied h m va (s .way) .empty j u .0, level-at (s .way) j))))
+        (λ j u. entry-in-pool (found-at h m sp va s f) .small j (omega (arith, emptied h m va (s .way) .empty j u .0, level-at (s .way) j))))
 
   -- UNMAP, DONE
   pub unmapped : (r : Removal) → decideOf h m sp va ≡ Go r → UnmapDone h sp m role va r
-  unmapped r e = go (foundOf h m sp va) refl
+  unmapped r e = go (findOf h m sp va) refl
     where
-      go : (x : Sought) → foundOf h m sp va ≡ x → UnmapDone h sp m role va r
+      go : (x : Sought) → findOf h m sp va ≡ x → UnmapDone h sp m role va r
       go (sought.Found s) f = unmapped-at s (located w (found-at h m sp va s f)) f r e
       go (sought.Refused y) f = let z : _≡_ {A = ℕ} 0 1 = refusal-clash r y (sym e ∙ refused-so h m sp va y f) in absurd (omega arith)

@@ -1,4 +1,4 @@
--- NO OPERATION WRITES THE MARK: what is written is 0, a page's number, a count, or a word that is present. (Of unmap: Cuts.antt.)
+-- NO OPERATION WRITES THE SIGNATURE: what is written is 0, a page's number, a count, or a word that is present. (Of unmap: Cuts.antt.)
 use Prim.Native.Nat.{ℕ, _+_, _*_, _^_}
 use mathlib.Core.Bool.{Bool, true, false, cond}
 use mathlib.Core.List.{[], _∷_, _++_}
@@ -13,26 +13,26 @@ use Rattle.entry.specs.declared.Rights.{Rights}
 use Rattle.entry.specs.declared.Entry.the-variants as entry
 use Rattle.entry.proofs.Fields.{says-absent}
 use Rattle.walk.specs.Walk.{indexOf}
-use Rattle.pool.specs.Book.{mark}
+use Rattle.pool.specs.Book.{signature}
 use Rattle.pool.specs.declared.Space.{Space}
 use Rattle.pool.proofs.Alone.{Unmarking, none, unmarking-one, unmarking-append, unmarking-zeros, unmarking-if, took-unmarking}
 use Rattle.plan.specs.declared.maps.Mapping.{Mapping}
-use Rattle.plan.specs.declared.building.Reached.{Reached}
+use Rattle.plan.specs.declared.building.TableReached.{TableReached}
 use Rattle.plan.specs.Map.{linkOf, growOf, buildOf, writesOf, reached0, reached1, reached2, reached3}
 
--- a word that says a page is present, and the mark is not
-pub page-unmarked : (n w f : ℕ) (g : Rights) → says n w ≡ entry.Page f g → w ≢ mark
-page-unmarked n w f g e k = let x = sym (says-absent n mark (omega arith)) ∙ ap (says n) (sym k) ∙ e in let z : _≡_ {A = ℕ} 0 1 = cc x in omega arith
+-- a word that says a page is present, and the signature is not
+pub page-unmarked : (n w f : ℕ) (g : Rights) → says n w ≡ entry.Page f g → w ≢ signature
+page-unmarked n w f g e k = let x = sym (says-absent n signature (omega arith)) ∙ ap (says n) (sym k) ∙ e in let z : _≡_ {A = ℕ} 0 1 = cc x in omega arith
 
-link-unmarked : (p : ℕ) → linkOf p ≢ mark
+link-unmarked : (p : ℕ) → linkOf p ≢ signature
 unfolding linkOf tableWord
 link-unmarked p = go (ltb p (2 ^ 40))
   where
-    go : (b : Bool) → cond b (4096 * p + 7) 0 ≢ mark
+    go : (b : Bool) → cond b (4096 * p + 7) 0 ≢ signature
     go true e = omega arith
     go false e = omega arith
 
-grow-unmarking : (va target p : ℕ) (s : Reached) → Unmarking (growOf va target p s)
+grow-unmarking : (va target p : ℕ) (s : TableReached) → Unmarking (growOf va target p s)
 unfolding growOf
 grow-unmarking va target p s = go (leb (s .level) target)
   where
@@ -41,7 +41,7 @@ grow-unmarking va target p s = go (leb (s .level) target)
     go false = unmarking-append (zeros p 512) _ (unmarking-zeros p 512) (unmarking-one (s .table) (indexOf (s .level) va) (linkOf p) (link-unmarked p))
 
 -- MAP, whose page's word is none
-pub map-unmarking : (sp : Space) (p : Mapping) → p .word ≢ mark → Unmarking (writesOf sp p)
+pub map-unmarking : (sp : Space) (p : Mapping) → p .word ≢ signature → Unmarking (writesOf sp p)
 unfolding writesOf buildOf
 map-unmarking sp p d =
     unmarking-append (buildOf p) _

@@ -28,8 +28,8 @@ abbrev pub FrameApart : (ℕ → Bool) → Space → Asked → Type 0
 FrameApart h sp q = Apart (settingOf h sp) (q .frame) (q .size)
 
 -- some address of the range is mapped
-abbrev pub Mapped : (ℕ → Bool) → Space → (ℕ → ℕ) → Asked → Type 0
-Mapped h sp m q = MappedIn (settingOf h sp) m (q .base) (q .size)
+abbrev pub SomeMapped : (ℕ → Bool) → Space → (ℕ → ℕ) → Asked → Type 0
+SomeMapped h sp m q = MappedIn (settingOf h sp) m (q .base) (q .size)
 
 pub data Cause (h : ℕ → Bool) (sp : Space) (m : ℕ → ℕ) (q : Asked) : Reason → Type 0 where
   no-size : ((l : ℕ) → l ≤ 2 → q .size ≢ sizeOf l) → Cause h sp m q Size
@@ -39,21 +39,21 @@ pub data Cause (h : ℕ → Bool) (sp : Space) (m : ℕ → ℕ) (q : Asked) : R
   frame-high : (l : ℕ) → OfLevel l q → q .base % q .size ≡ 0 → q .frame % q .size ≡ 0 → canonical (q .base) ≡ true → frameEnd < q .frame + q .size
       → Cause h sp m q FrameRange
   frame-in-pool : (l : ℕ) → Fitted l q → Meets sp q → Cause h sp m q FrameInPool
-  mapped : (l : ℕ) → Fitted l q → FrameApart h sp q → Mapped h sp m q → Cause h sp m q Overlap
-  no-room : (l n : ℕ) → Fitted l q → FrameApart h sp q → ¬ Mapped h sp m q → Misses (settingOf h sp) m (q .base) l n → bookOf m sp .free < n
+  mapped : (l : ℕ) → Fitted l q → FrameApart h sp q → SomeMapped h sp m q → Cause h sp m q Overlap
+  no-room : (l n : ℕ) → Fitted l q → FrameApart h sp q → ¬ SomeMapped h sp m q → Misses (settingOf h sp) m (q .base) l n → bookOf m sp .free < n
       → Cause h sp m q NoRoom
 
 -- the reasons that have a cause; the others tell of a space or a book that makes no sense, of damaged tables, or belong to unmap
-abbrev pub Given : Reason → Type 0
-Given Size = Unit {0}
-Given BaseUnaligned = Unit {0}
-Given FrameUnaligned = Unit {0}
-Given BaseRange = Unit {0}
-Given FrameRange = Unit {0}
-Given (Pool y) = ⊥
-Given FrameInPool = Unit {0}
-Given Overlap = Unit {0}
-Given NoRoom = Unit {0}
-Given NothingStarts = ⊥
-Given Stray = ⊥
-Given BadList = ⊥
+abbrev pub HasCause : Reason → Type 0
+HasCause Size = Unit {0}
+HasCause BaseUnaligned = Unit {0}
+HasCause FrameUnaligned = Unit {0}
+HasCause BaseRange = Unit {0}
+HasCause FrameRange = Unit {0}
+HasCause (Pool y) = ⊥
+HasCause FrameInPool = Unit {0}
+HasCause Overlap = Unit {0}
+HasCause NoRoom = Unit {0}
+HasCause NothingStarts = ⊥
+HasCause Stray = ⊥
+HasCause BadList = ⊥

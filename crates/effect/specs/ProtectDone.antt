@@ -5,7 +5,7 @@ use mathlib.Core.Path.{_≡_}
 use Rattle.word.specs.Memory.{at}
 use Rattle.word.specs.Writes.{after, Every}
 use Rattle.entry.specs.Entry.{sizeOf}
-use Rattle.entry.specs.Kept.{Kept}
+use Rattle.entry.specs.Kept.{SameButRights}
 use Rattle.entry.specs.declared.Rights.{Rights}
 use Rattle.walk.specs.declared.Found.the-variants as found
 use Rattle.tables.specs.Roles.{Role}
@@ -30,7 +30,7 @@ pub record ProtectDone (h : ℕ → Bool) (sp : Space) (m : ℕ → ℕ) (role :
   pub before : meaning (settingOf h sp) m va ≡ found.Page va (c .size) (c .frame) had
   pub changed : Changed (settingOf h sp) m role va level (found.Page va (c .size) (c .frame) rights) (writesOf c) (after m (writesOf c)) role
   pub whole : Whole h sp (after m (writesOf c)) role
-  pub kept : Kept (c .word) (m (at (c .table) (c .index)))
+  pub kept : SameButRights (c .word) (m (at (c .table) (c .index)))
   pub marks : c .word / 32 % 4 ≡ m (at (c .table) (c .index)) / 32 % 4
   pub proper : Every (OfPool sp) (writesOf c)
   pub book : bookOf (after m (writesOf c)) sp ≡ bookOf m sp

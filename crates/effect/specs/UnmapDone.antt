@@ -42,11 +42,11 @@ pub record SetAside (sp : Space) (role role' : ℕ → Role) (m' : ℕ → ℕ) 
 -- fewer: so many of them. on-way: it lay on the way of va. proper: it writes to the pool.
 pub record UnmapDone (h : ℕ → Bool) (sp : Space) (m : ℕ → ℕ) (role : ℕ → Role) (va : ℕ) (r : Removal) : Type 0 where
   pub role' : ℕ → Role
-  pub size-is : r .spot .size ≡ sizeOf (r .spot .way .level)
-  pub aligned : va % r .spot .size ≡ 0
+  pub size-is : r .page .size ≡ sizeOf (r .page .way .level)
+  pub aligned : va % r .page .size ≡ 0
   pub had : Rights
-  pub before : meaning (settingOf h sp) m va ≡ found.Page va (r .spot .size) (r .spot .frame) had
-  pub changed : Changed (settingOf h sp) m role va (r .spot .way .level) found.Nothing (writesOf sp va r) (after m (writesOf sp va r)) role'
+  pub before : meaning (settingOf h sp) m va ≡ found.Page va (r .page .size) (r .page .frame) had
+  pub changed : Changed (settingOf h sp) m role va (r .page .way .level) found.Nothing (writesOf sp va r) (after m (writesOf sp va r)) role'
   pub whole : Whole h sp (after m (writesOf sp va r)) role'
   pub proper : Every (OfPool sp) (writesOf sp va r)
   pub is-low : low r

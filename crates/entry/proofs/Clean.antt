@@ -13,7 +13,7 @@ use Rattle.entry.specs.declared.Entry.the-variants.{Nothing, Page, Table
 use Rattle.entry.proofs.Fields.{says-absent}
 use Rattle.entry.proofs.Marks.{marks-say-nothing}
 use Rattle.entry.proofs.OtherRights.{with-rights-says}
-use Rattle.entry.proofs.Written.{Fits, flag-lt, page-word-says}
+use Rattle.entry.proofs.Written.{FrameFits, flag-lt, page-word-says}
 use Rattle.entry.proofs.Parts.{page-parts}
 
 pub marked-self : (w : ℕ) → Marked w w
@@ -30,7 +30,7 @@ pub table-clean : (n w t : ℕ) (r : Rights) → says n w ≡ Table t r → Clea
 table-clean n w t r e f g k = let z : _≡_ {A = ℕ} 0 1 = cc in absurd (omega arith)
 
 -- the word of a page
-pub page-clean : (n frame : ℕ) (r : Rights) → Fits n frame → Clean n (pageWord n frame r)
+pub page-clean : (n frame : ℕ) (r : Rights) → FrameFits n frame → Clean n (pageWord n frame r)
 page-clean n frame r f x g e =
     let same : Page frame r ≡ Page x g = sym (page-word-says n frame r f) ∙ e in
     let a : frame ≡ x = cc in

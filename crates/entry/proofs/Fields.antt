@@ -65,13 +65,13 @@ table-small (suc n) x t g e = go (bit 0 x) (bit 7 x) (leb (suc n) 2 && padded (s
 -- Two words of the same fields ----------------------------------------------------------------------------------------------
 
 -- w and v agree in all that a walk can tell: present, the bits from 7 up, and bits 1 and 2
-pub record Alike (v w : ℕ) : Type 0 where
+pub record WordsAlike (v w : ℕ) : Type 0 where
   pub present : v % 2 ≡ w % 2
   pub rights : v / 2 % 4 ≡ w / 2 % 4
   pub high : v / 128 ≡ w / 128
 
 -- a field above bit 7
-above : (v w k : ℕ) → Alike v w → v / (128 * k) ≡ w / (128 * k)
+above : (v w k : ℕ) → WordsAlike v w → v / (128 * k) ≡ w / (128 * k)
 above v w k h = sym (div-div-eq-div-mul v 128 k) ∙ ap (λ x. x / k) (h .high) ∙ div-div-eq-div-mul w 128 k
 
 -- a size is 128 times something
@@ -79,11 +79,11 @@ size-128 : (n : ℕ) → sizeOf n ≡ 128 * (32 * 512 ^ n)
 unfolding sizeOf
 size-128 n = omega arith
 
-alike-frame : (n v w : ℕ) → Alike v w → frameOf n v ≡ frameOf n w
+alike-frame : (n v w : ℕ) → WordsAlike v w → frameOf n v ≡ frameOf n w
 unfolding frameOf
 alike-frame n v w h = ap (λ x. x % (2 ^ 52 / sizeOf n) * sizeOf n) (rw size-128 (above v w (32 * 512 ^ n) h))
 
-alike-rights : (v w : ℕ) → Alike v w → rightsOf v ≡ rightsOf w
+alike-rights : (v w : ℕ) → WordsAlike v w → rightsOf v ≡ rightsOf w
 unfolding rightsOf bit
 alike-rights v w h =
     let a : v / 2 % 2 ≡ w / 2 % 2 = omega (arith, h .rights) in
@@ -91,16 +91,16 @@ alike-rights v w h =
     let c : v / 2 ^ 63 ≡ w / 2 ^ 63 = above v w (2 ^ 56) h in
     rw (a, b, c)
 
-alike-large : (n v w : ℕ) → Alike v w → largeOf n v ≡ largeOf n w
+alike-large : (n v w : ℕ) → WordsAlike v w → largeOf n v ≡ largeOf n w
 unfolding largeOf padded
 alike-large n v w h = let a : v / 8192 ≡ w / 8192 = above v w 64 h in rw (a, alike-frame n v w h, alike-rights v w h)
 
-alike-present : (n v w : ℕ) → Alike v w → presentOf n v ≡ presentOf n w
+alike-present : (n v w : ℕ) → WordsAlike v w → presentOf n v ≡ presentOf n w
 unfolding presentOf bit tableOf
 alike-present zero v w h = rw (alike-frame 0 v w h, alike-rights v w h)
 alike-present (suc n) v w h = let a : v / 4096 ≡ w / 4096 = above v w 32 h in rw (h .high, a, alike-large (suc n) v w h, alike-rights v w h)
 
 -- THEY SAY THE SAME, at every level
-pub alike-says : (n v w : ℕ) → Alike v w → says n v ≡ says n w
+pub alike-says : (n v w : ℕ) → WordsAlike v w → says n v ≡ says n w
 unfolding says bit
 alike-says n v w h = let a : v / 1 % 2 ≡ w / 1 % 2 = omega (arith, h .present) in rw (a, alike-present n v w h)

@@ -4,7 +4,7 @@ use mathlib.Core.Path.{_≡_}
 use native.Mathlib.Omega.{arith}
 use Rattle.entry.specs.Entry.{says}
 use Rattle.entry.specs.Marks.{Marked}
-use Rattle.entry.proofs.Fields.{Alike, alike-says}
+use Rattle.entry.proofs.Fields.{WordsAlike, alike-says}
 
 pub marks-say-nothing : (n v w : ℕ) → Marked v w → says n v ≡ says n w
 marks-say-nothing n v w h = alike-says n v w (record { present = omega (arith, h .low); rights = omega (arith, h .low); high = h .high })

@@ -7,7 +7,7 @@ use borrow.Author.Tests.{lt-leb}
 use lib.Dec.{eqb}
 use Rattle.entry.specs.Entry.{sizeOf, bit, rightsOf, frameOf, tableOf, padded, largeOf, presentOf, says}
 use Rattle.entry.specs.Words.{flag, withRights}
-use Rattle.entry.specs.Kept.{Kept, regranted}
+use Rattle.entry.specs.Kept.{SameButRights, regranted}
 use Rattle.entry.specs.declared.Rights.{Rights}
 use Rattle.entry.specs.declared.Entry.{Entry}
 use Rattle.entry.specs.declared.Entry.the-variants.{Nothing, Page, Table}
@@ -33,10 +33,10 @@ pad-one : (w : ℕ) → w / 8192 % 131072 ≡ w / 8 % 2 ^ 60 / 1024 % 131072
 pad-one w = omega arith
 
 -- a field that depends on those bits alone is kept
-kept-field : (f g : ℕ → ℕ) → ((w : ℕ) → f w ≡ g (w / 8 % 2 ^ 60)) → (v w : ℕ) → Kept v w → f v ≡ f w
+kept-field : (f g : ℕ → ℕ) → ((w : ℕ) → f w ≡ g (w / 8 % 2 ^ 60)) → (v w : ℕ) → SameButRights v w → f v ≡ f w
 kept-field f g h v w k = h v ∙ ap g (k .middle) ∙ sym (h w)
 
-module _ (v w : ℕ) (k : Kept v w) where
+module _ (v w : ℕ) (k : SameButRights v w) where
   kept-seven : v / 128 % 2 ≡ w / 128 % 2
   kept-seven = kept-field (λ x. x / 128 % 2) (λ q. q / 16 % 2) seven v w k
 
@@ -83,10 +83,10 @@ module _ (v w : ℕ) (k : Kept v w) where
 
 -- The word that protect writes ------------------------------------------------------------------------------------------------
 
-with-numbers : (w a b x : ℕ) → a < 2 → b < 2 → x < 2 → Kept (w % 2 + 2 * a + 4 * b + 8 * (w / 8 % 2 ^ 60) + 2 ^ 63 * x) w
+with-numbers : (w a b x : ℕ) → a < 2 → b < 2 → x < 2 → SameButRights (w % 2 + 2 * a + 4 * b + 8 * (w / 8 % 2 ^ 60) + 2 ^ 63 * x) w
 with-numbers w a b x u v y = record { present = omega arith; middle = omega arith }
 
-pub with-rights-kept : (w : ℕ) (r : Rights) → Kept (withRights w r) w
+pub with-rights-kept : (w : ℕ) (r : Rights) → SameButRights (withRights w r) w
 unfolding withRights
 with-rights-kept w r = with-numbers w _ _ _ (flag-lt (r .writable)) (flag-lt (r .user)) (flag-lt (r .noexec))
 

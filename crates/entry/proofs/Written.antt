@@ -93,19 +93,19 @@ fields-say n q w r u f = go n u f
     go (suc n) u f = says-large (suc n) w (λ z. omega arith) u (f .present) (f .large (λ z. omega arith)) (f .padding (λ z. omega arith)) ∙ rw (f .number, rights)
 
 -- a frame that fits, by its number
-pub record Fits (n frame : ℕ) : Type 0 where
+pub record FrameFits (n frame : ℕ) : Type 0 where
   pub level : n ≤ 2
   pub aligned : frame % sizeOf n ≡ 0
   pub below : frame < 2 ^ 52
 
-pub fits-true : (n frame : ℕ) → fits n frame ≡ true → Fits n frame
+pub fits-true : (n frame : ℕ) → fits n frame ≡ true → FrameFits n frame
 unfolding fits
 fits-true n frame h =
     let a = and-both _ _ h in
     let b = and-both _ _ (a .1) in
     record { level = leb-true n 2 (a .0); aligned = eqb-true _ 0 (b .0); below = ltb-true frame (2 ^ 52) (b .1) }
 
-frame-number : (n frame : ℕ) → Fits n frame → (frame / sizeOf n < 2 ^ 52 / sizeOf n) × (frame ≡ sizeOf n * (frame / sizeOf n))
+frame-number : (n frame : ℕ) → FrameFits n frame → (frame / sizeOf n < 2 ^ 52 / sizeOf n) × (frame ≡ sizeOf n * (frame / sizeOf n))
 unfolding sizeOf
 frame-number zero frame f = (omega (arith, f .below), omega (arith, f .aligned))
 frame-number (suc zero) frame f = (omega (arith, f .below), omega (arith, f .aligned))
@@ -127,13 +127,13 @@ page-number-says n q r u k =
     ∙ ap (λ x. Page x r) (mul-comm q (sizeOf n))
 
 -- THE WORD OF A PAGE says the page: its frame, its rights, its level
-pub page-word-says : (n frame : ℕ) (r : Rights) → Fits n frame → says n (pageWord n frame r) ≡ Page frame r
+pub page-word-says : (n frame : ℕ) (r : Rights) → FrameFits n frame → says n (pageWord n frame r) ≡ Page frame r
 page-word-says n frame r f =
     let k = frame-number n frame f in
     subst (λ x. says n (pageWord n x r) ≡ Page x r) (sym (k .1)) (page-number-says n (frame / sizeOf n) r (f .level) (k .0))
 
 -- reserved bits are 0: bits 3 to 6, 8 to 11 and 52 to 62 of a page's word, and bit 7 where it is no size
-pub page-word-bits : (n frame : ℕ) (r : Rights) → Fits n frame → (pageWord n frame r / 8 % 512 ≡ largeFlag n / 8) × (pageWord n frame r / 2 ^ 52 % 2 ^ 11 ≡ 0)
+pub page-word-bits : (n frame : ℕ) (r : Rights) → FrameFits n frame → (pageWord n frame r / 8 % 512 ≡ largeFlag n / 8) × (pageWord n frame r / 2 ^ 52 % 2 ^ 11 ≡ 0)
 unfolding pageWord
 page-word-bits n frame r f =
     let k = frame-number n frame f in

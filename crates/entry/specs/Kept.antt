@@ -6,7 +6,7 @@ use Rattle.entry.specs.declared.Entry.{Entry}
 use Rattle.entry.specs.declared.Entry.the-variants.{Nothing, Page, Table}
 
 -- v and w differ in bits 1, 2 and 63 at most
-pub record Kept (v w : ℕ) : Type 0 where
+pub record SameButRights (v w : ℕ) : Type 0 where
   pub present : v % 2 ≡ w % 2
   pub middle : v / 8 % 2 ^ 60 ≡ w / 8 % 2 ^ 60
 

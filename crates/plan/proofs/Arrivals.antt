@@ -16,7 +16,7 @@ use Rattle.plan.specs.declared.descent.Way.{Way}
 use Rattle.plan.specs.declared.descent.Why.{Why}
 use Rattle.plan.specs.declared.descent.Why.the-variants as why
 use Rattle.plan.specs.declared.descent.Arrival.{Arrival}
-use Rattle.plan.specs.declared.finding.Spot.{Spot}
+use Rattle.plan.specs.declared.finding.PageEntry.{PageEntry}
 use Rattle.plan.specs.declared.finding.Sought.{Sought}
 use Rattle.plan.specs.declared.finding.Sought.the-variants.{Found, Refused}
 use Rattle.plan.specs.declared.maps.Asked.{Asked}
@@ -32,8 +32,8 @@ spot-same : (a b : Way) (i j f g y z : ℕ) → a ≡ b → i ≡ j → f ≡ g 
 spot-same a b i j f g y z ea ei ef ey = rw (ea, ei, ef, ey)
 
 page-found : (va : ℕ) (w : Way) (f : ℕ) (g : Rights) → w .why ≡ why.Page → find.startsOf (w .level) va ≡ true → says (w .level) (w .word) ≡ entry.Page f g
-    → find.becauseOf va w (w .why) ≡ Found (record { way = w; index = indexOf (w .level) va; frame = f; size = sizeOf (w .level) })
-unfolding find.becauseOf find.spotOf
+    → find.foundBecauseOf va w (w .why) ≡ Found (record { way = w; index = indexOf (w .level) va; frame = f; size = sizeOf (w .level) })
+unfolding find.foundBecauseOf find.pageEntryOf
 page-found va w f g k s e = rw (k, s, e)
 
 module _ (va : ℕ) (t : Arrival) (w : Way) (e : t ≡ stopAt va w) where
@@ -57,34 +57,34 @@ module _ (va : ℕ) (t : Arrival) (w : Way) (e : t ≡ stopAt va w) where
 
   -- The search ---------------------------------------------------------------------------------------------------------------------
 
-  pub stopped-far : 3 < t .way .level → Refused Stray ≡ find.stoppedOf va w
-  unfolding find.stoppedOf
+  pub stopped-far : 3 < t .way .level → Refused Stray ≡ find.foundStoppedOf va w
+  unfolding find.foundStoppedOf
   stopped-far u = simp (lt-leb (w .level) 3 (omega (arith, level-is)))
 
   module _ (u : t .way .level ≤ 3) where
-    near : find.stoppedOf va w ≡ find.becauseOf va w (w .why)
-    unfolding find.stoppedOf
+    near : find.foundStoppedOf va w ≡ find.foundBecauseOf va w (w .why)
+    unfolding find.foundStoppedOf
     near = simp (le-leb (w .level) 3 (omega (arith, level-is)))
 
-    pub stopped-stray : t .way .why ≡ why.Stray → Refused Stray ≡ find.stoppedOf va w
-    unfolding find.becauseOf
+    pub stopped-stray : t .way .why ≡ why.Stray → Refused Stray ≡ find.foundStoppedOf va w
+    unfolding find.foundBecauseOf
     stopped-stray k = sym (near ∙ rw (why-is why.Stray k))
 
-    pub stopped-nothing : t .way .why ≡ why.Nothing → Refused NothingStarts ≡ find.stoppedOf va w
-    unfolding find.becauseOf
+    pub stopped-nothing : t .way .why ≡ why.Nothing → Refused NothingStarts ≡ find.foundStoppedOf va w
+    unfolding find.foundBecauseOf
     stopped-nothing k = sym (near ∙ rw (why-is why.Nothing k))
 
-    pub stopped-table : t .way .why ≡ why.Table → Refused NothingStarts ≡ find.stoppedOf va w
-    unfolding find.becauseOf
+    pub stopped-table : t .way .why ≡ why.Table → Refused NothingStarts ≡ find.foundStoppedOf va w
+    unfolding find.foundBecauseOf
     stopped-table k = sym (near ∙ rw (why-is why.Table k))
 
     module _ (k : t .way .why ≡ why.Page) where
-      pub stopped-astride : find.startsOf (t .way .level) va ≡ false → Refused NothingStarts ≡ find.stoppedOf va w
-      unfolding find.becauseOf
+      pub stopped-astride : find.startsOf (t .way .level) va ≡ false → Refused NothingStarts ≡ find.foundStoppedOf va w
+      unfolding find.foundBecauseOf
       stopped-astride s = sym (near ∙ rw (why-is why.Page k, ap (λ l. find.startsOf l va) (sym level-is) ∙ s))
 
       pub stopped-page : (w .why ≡ why.Page → Paged w) → find.startsOf (t .way .level) va ≡ true → (z : ℕ) → z ≡ sizeOf (t .way .level)
-          → Found (record { way = t .way; index = t .index; frame = t .frame; size = z }) ≡ find.stoppedOf va w
+          → Found (record { way = t .way; index = t .index; frame = t .frame; size = z }) ≡ find.foundStoppedOf va w
       stopped-page p s z ez =
           let page = p (why-is why.Page k) in
           let f : t .frame ≡ page .frame = frame-is ∙ ap framedOf (page .entry) in

@@ -10,7 +10,7 @@ use Rattle.word.specs.Writes.{Wrote, write}
 use Rattle.word.proofs.Budget.{wrote-then}
 use Rattle.walk.specs.Walk.{indexOf}
 use Rattle.plan.specs.declared.maps.Mapping.{Mapping}
-use Rattle.plan.specs.declared.building.Reached.{Reached}
+use Rattle.plan.specs.declared.building.TableReached.{TableReached}
 use Rattle.pool.specs.declared.Space.{Space}
 use Rattle.pool.specs.declared.Book.{Book}
 use Rattle.plan.specs.declared.unmaps.Removal.{Removal}
@@ -20,7 +20,7 @@ use Rattle.plan.specs.Map.{nextOf, growOf, reached0, reached1, reached2,
 -- Map -------------------------------------------------------------------------------------------------------------------------
 
 -- a way that goes on stays below the root
-pub next-low : (target p : ℕ) (s : Reached) → s .level < 4 → nextOf target p s .level < 4
+pub next-low : (target p : ℕ) (s : TableReached) → s .level < 4 → nextOf target p s .level < 4
 unfolding nextOf
 next-low target p s u = go (leb (s .level) target)
   where
@@ -29,7 +29,7 @@ next-low target p s u = go (leb (s .level) target)
     go false = omega arith
 
 -- the tables and the page, as the functions of map write them
-pub build-wrote : (m : Mapping) (origin n0 n1 n2 n3 n4 : ℕ) (x0 x1 x2 x3 x4 : List ℕ) (s1 s2 s3 : Reached) (i : ℕ) → m .level < 4
+pub build-wrote : (m : Mapping) (origin n0 n1 n2 n3 n4 : ℕ) (x0 x1 x2 x3 x4 : List ℕ) (s1 s2 s3 : TableReached) (i : ℕ) → m .level < 4
     → s1 ≡ nextOf (m .target) (m .fresh .a) (reached0 m) → s2 ≡ nextOf (m .target) (m .fresh .b) s1 → s3 ≡ nextOf (m .target) (m .fresh .c) s2
     → Wrote origin (growOf (m .base) (m .target) (m .fresh .a) (reached0 m)) n0 n1 x0 x1
     → Wrote origin (growOf (m .base) (m .target) (m .fresh .b) s1) n1 n2 x1 x2
@@ -43,34 +43,34 @@ build-wrote m origin n0 n1 n2 n3 n4 x0 x1 x2 x3 x4 s1 s2 s3 i u e1 e2 e3 f1 f2 f
     let l3 : s3 .level < 4 = rw e3 (next-low (m .target) (m .fresh .c) s2 l2) in
     let c2 : s2 ≡ reached2 m = e2 ∙ ap (nextOf (m .target) (m .fresh .b)) e1 in
     let c3 : s3 ≡ reached3 m = e3 ∙ ap (nextOf (m .target) (m .fresh .c)) c2 in
-    let h2 = subst (λ (s : Reached). Wrote origin (growOf (m .base) (m .target) (m .fresh .b) s) n1 n2 x1 x2) e1 f2 in
-    let h3 = subst (λ (s : Reached). Wrote origin (growOf (m .base) (m .target) (m .fresh .c) s) n2 n3 x2 x3) c2 f3 in
+    let h2 = subst (λ (s : TableReached). Wrote origin (growOf (m .base) (m .target) (m .fresh .b) s) n1 n2 x1 x2) e1 f2 in
+    let h3 = subst (λ (s : TableReached). Wrote origin (growOf (m .base) (m .target) (m .fresh .c) s) n2 n3 x2 x3) c2 f3 in
     let h4 = subst (λ (k : ℕ). Wrote origin (write (s3 .table) k (m .word) ∷ []) n3 n4 x3 x4) (g l3) f4 in
-    let k4 = subst (λ (s : Reached). Wrote origin (write (s .table) (indexOf (s .level) (m .base)) (m .word) ∷ []) n3 n4 x3 x4) c3 h4 in
+    let k4 = subst (λ (s : TableReached). Wrote origin (write (s .table) (indexOf (s .level) (m .base)) (m .word) ∷ []) n3 n4 x3 x4) c3 h4 in
     wrote-then origin _ _ n0 n1 n4 x0 x1 x4 f1 (wrote-then origin _ _ n1 n2 n4 x1 x2 x4 h2 (wrote-then origin _ _ n2 n3 n4 x2 x3 x4 h3 k4))
 
 -- Unmap -----------------------------------------------------------------------------------------------------------------------
 
 -- the page's entry and the tables that became empty, as the functions of unmap write them
-pub cuts-wrote : (sp : Space) (va : ℕ) (r : Removal) (n0 n1 n2 n3 n4 : ℕ) (x0 x1 x2 x3 x4 : List ℕ) (b1 b2 : Book) (i : ℕ) → i ≡ indexOf (r .spot .way .level) va
-    → Wrote (sp .origin) (write (r .spot .way .a) i 0 ∷ []) n0 n1 x0 x1
+pub cuts-wrote : (sp : Space) (va : ℕ) (r : Removal) (n0 n1 n2 n3 n4 : ℕ) (x0 x1 x2 x3 x4 : List ℕ) (b1 b2 : Book) (i : ℕ) → i ≡ indexOf (r .page .way .level) va
+    → Wrote (sp .origin) (write (r .page .way .a) i 0 ∷ []) n0 n1 x0 x1
     → b1 ≡ cutBook sp 0 (r .empties) (r .book) → b2 ≡ cutBook sp 1 (r .empties) b1
-    → Wrote (sp .origin) (cutWrites sp 0 (r .empties) (r .spot .way .b) (indexOf (r .spot .way .level + 1) va) (r .spot .way .a) (r .book)) n1 n2 x1 x2
-    → Wrote (sp .origin) (cutWrites sp 1 (r .empties) (r .spot .way .c) (indexOf (r .spot .way .level + 2) va) (r .spot .way .b) b1) n2 n3 x2 x3
-    → Wrote (sp .origin) (cutWrites sp 2 (r .empties) (r .spot .way .d) (indexOf (r .spot .way .level + 3) va) (r .spot .way .c) b2) n3 n4 x3 x4
+    → Wrote (sp .origin) (cutWrites sp 0 (r .empties) (r .page .way .b) (indexOf (r .page .way .level + 1) va) (r .page .way .a) (r .book)) n1 n2 x1 x2
+    → Wrote (sp .origin) (cutWrites sp 1 (r .empties) (r .page .way .c) (indexOf (r .page .way .level + 2) va) (r .page .way .b) b1) n2 n3 x2 x3
+    → Wrote (sp .origin) (cutWrites sp 2 (r .empties) (r .page .way .d) (indexOf (r .page .way .level + 3) va) (r .page .way .c) b2) n3 n4 x3 x4
     → Wrote (sp .origin) (writesOf sp va r) n0 n4 x0 x4
 unfolding writesOf
 cuts-wrote sp va r n0 n1 n2 n3 n4 x0 x1 x2 x3 x4 b1 b2 i g f1 e1 e2 f2 f3 f4 =
     let c2 : b2 ≡ book2 sp r = e2 ∙ ap (cutBook sp 1 (r .empties)) e1 in
-    let h1 = subst (λ (k : ℕ). Wrote (sp .origin) (write (r .spot .way .a) k 0 ∷ []) n0 n1 x0 x1) g f1 in
+    let h1 = subst (λ (k : ℕ). Wrote (sp .origin) (write (r .page .way .a) k 0 ∷ []) n0 n1 x0 x1) g f1 in
     let h3 =
-    subst (λ (b : Book). Wrote (sp .origin) (cutWrites sp 1 (r .empties) (r .spot .way .c) (indexOf (r .spot .way .level + 2) va) (r .spot .way .b) b) n2 n3 x2 x3) e1 f3 in
+    subst (λ (b : Book). Wrote (sp .origin) (cutWrites sp 1 (r .empties) (r .page .way .c) (indexOf (r .page .way .level + 2) va) (r .page .way .b) b) n2 n3 x2 x3) e1 f3 in
     let h4 =
-    subst (λ (b : Book). Wrote (sp .origin) (cutWrites sp 2 (r .empties) (r .spot .way .d) (indexOf (r .spot .way .level + 3) va) (r .spot .way .c) b) n3 n4 x3 x4) c2 f4 in
+    subst (λ (b : Book). Wrote (sp .origin) (cutWrites sp 2 (r .empties) (r .page .way .d) (indexOf (r .page .way .level + 3) va) (r .page .way .c) b) n3 n4 x3 x4) c2 f4 in
     wrote-then _ _ _ n0 n1 n4 x0 x1 x4 h1 (wrote-then _ _ _ n1 n2 n4 x1 x2 x4 f2 (wrote-then _ _ _ n2 n3 n4 x2 x3 x4 h3 h4))
 
 -- the page's entry alone, where no table becomes empty
-pub cuts-none : (sp : Space) (va : ℕ) (r : Removal) (n0 n1 : ℕ) (x0 x1 : List ℕ) (i : ℕ) → r .empties ≡ 0 → i ≡ indexOf (r .spot .way .level) va
-    → Wrote (sp .origin) (write (r .spot .way .a) i 0 ∷ []) n0 n1 x0 x1 → Wrote (sp .origin) (writesOf sp va r) n0 n1 x0 x1
+pub cuts-none : (sp : Space) (va : ℕ) (r : Removal) (n0 n1 : ℕ) (x0 x1 : List ℕ) (i : ℕ) → r .empties ≡ 0 → i ≡ indexOf (r .page .way .level) va
+    → Wrote (sp .origin) (write (r .page .way .a) i 0 ∷ []) n0 n1 x0 x1 → Wrote (sp .origin) (writesOf sp va r) n0 n1 x0 x1
 unfolding writesOf cutWrites
-cuts-none sp va r n0 n1 x0 x1 i e g f = simp e (subst (λ (k : ℕ). Wrote (sp .origin) (write (r .spot .way .a) k 0 ∷ []) n0 n1 x0 x1) g f)
+cuts-none sp va r n0 n1 x0 x1 i e g f = simp e (subst (λ (k : ℕ). Wrote (sp .origin) (write (r .page .way .a) k 0 ∷ []) n0 n1 x0 x1) g f)

@@ -23,7 +23,7 @@ use Rattle.plan.specs.declared.direct.Once.{Once}
 use Rattle.plan.specs.declared.direct.Once.the-variants as once
 use Rattle.plan.specs.declared.maps.Asked.{Asked}
 use Rattle.plan.specs.declared.maps.Shape.the-variants.{Level}
-use Rattle.plan.specs.Descend.{At, startOf, pushOf, stopOf, downOf, endOf, wayOf}
+use Rattle.plan.specs.Descend.{Going, startOf, pushOf, stopOf, downOf, endOf, wayOf}
 use Rattle.plan.specs.Map.{Placed, Refused, fitsOf, shapeOf, meetsOf, becauseOf, stoppedOf, fittingOf, standingOf, shapedOf, decideOf, placingOf}
 use Rattle.plan.specs.AtOnce.{leadOf, Comes, onceOf, onceWrites, Found, AtOnce}
 use Rattle.plan.proofs.Leads.{lead-page, lead-nothing, lead-table}
@@ -35,7 +35,7 @@ use Rattle.pool.proofs.Opening.{names-shows}
 module _ (left rest : ℕ) (s after : List ℕ) (sp : Space) (n va x t : ℕ)
     (come : Comes (holds s (sp .origin)) (memory s (sp .origin)) sp n va (downOf (holds s (sp .origin)) (memory s (sp .origin)) sp n va 4 (startOf sp)) t) where
   stops : (y : Why) (v : ℕ) (w : Way)
-      → downOf (holds s (sp .origin)) (memory s (sp .origin)) sp n va (suc n) (At t (come .way)) ≡ stopOf y n v w
+      → downOf (holds s (sp .origin)) (memory s (sp .origin)) sp n va (suc n) (Going t (come .way)) ≡ stopOf y n v w
       → wayOf (holds s (sp .origin)) (memory s (sp .origin)) sp va n ≡ record { why = y; level = n; word = v; a = w .a; b = w .b; c = w .c; d = w .d }
   unfolding wayOf endOf stopOf
   stops y v w e = ap endOf (come .trail ∙ e)

@@ -29,19 +29,19 @@ use Rattle.pool.proofs.Opening as opening
 use Rattle.pool.proofs.Opening.{open-shows, names-room}
 use Rattle.pool.specs.declared.Reason.the-variants.{BadBook}
 use Rattle.plan.specs.Map as map
-use Rattle.plan.specs.Map.{Low, Buildable}
+use Rattle.plan.specs.Map.{LowTables, Buildable}
 use Rattle.plan.specs.Unmap as unmap
-use Rattle.plan.specs.Find.{foundOf}
+use Rattle.plan.specs.Find.{findOf}
 use Rattle.plan.proofs.Found.{found-at}
 use Rattle.plan.specs.declared.Reason.the-variants.{FrameInPool, NoRoom, Pool}
 use Rattle.plan.specs.declared.maps.Asked.{Asked}
 use Rattle.plan.specs.declared.maps.Mapping.{Mapping}
-use Rattle.plan.specs.declared.maps.Fresh.{Fresh}
+use Rattle.plan.specs.declared.maps.NewTables.{NewTables}
 use Rattle.plan.specs.declared.maps.Supply.{Supply}
 use Rattle.plan.specs.declared.maps.Supply.the-variants as supply
 use Rattle.plan.specs.declared.maps.Shape.{Shape}
 use Rattle.plan.specs.declared.maps.Shape.the-variants as shape
-use Rattle.plan.specs.declared.finding.Spot.{Spot}
+use Rattle.plan.specs.declared.finding.PageEntry.{PageEntry}
 use Rattle.plan.specs.declared.finding.Sought.{Sought}
 use Rattle.plan.specs.declared.finding.Sought.the-variants as sought
 use Rattle.plan.specs.declared.unmaps.Removal.{Removal}
@@ -66,17 +66,17 @@ module _ (h : ℕ → Bool) (m : ℕ → ℕ) (sp : Space) (small : (x : ℕ) �
         go true f = let same : 0 ≡ y = cc in omega (arith, same)
         go false f = omega (arith, listed-usable h m sp b j y f .in-the-pool .before-end)
 
-    fresh-low : (b : Book) (need : ℕ) (f : Fresh) (x y z : Listed) → ((n : ℕ) → x ≡ listed.Page n → n < 2 ^ 40) → ((n : ℕ) → y ≡ listed.Page n → n < 2 ^ 40)
-        → ((n : ℕ) → z ≡ listed.Page n → n < 2 ^ 40) → map.freshThree b need x y z ≡ supply.Pages f → Low f
+    fresh-low : (b : Book) (need : ℕ) (f : NewTables) (x y z : Listed) → ((n : ℕ) → x ≡ listed.Page n → n < 2 ^ 40) → ((n : ℕ) → y ≡ listed.Page n → n < 2 ^ 40)
+        → ((n : ℕ) → z ≡ listed.Page n → n < 2 ^ 40) → map.freshThree b need x y z ≡ supply.Pages f → LowTables f
     unfolding map.freshThree
     fresh-low b need f (listed.Page x) (listed.Page y) (listed.Page z) i j k e =
         let same : record { need = need; a = x; b = y; c = z; book = b } ≡ f = cc in
-        subst Low same (record { a = i x refl; b = j y refl; c = k z refl })
+        subst LowTables same (record { a = i x refl; b = j y refl; c = k z refl })
     fresh-low b need f listed.Bad y z i j k e = let w : _≡_ {A = ℕ} 0 1 = cc in absurd (omega arith)
     fresh-low b need f (listed.Page x) listed.Bad z i j k e = let w : _≡_ {A = ℕ} 0 1 = cc in absurd (omega arith)
     fresh-low b need f (listed.Page x) (listed.Page y) listed.Bad i j k e = let w : _≡_ {A = ℕ} 0 1 = cc in absurd (omega arith)
 
-  stock-low : (need : ℕ) (f : Fresh) (x : Opened) → openedOf h m sp ≡ x → map.stockOf h m sp need x ≡ supply.Pages f → Low f
+  stock-low : (need : ℕ) (f : NewTables) (x : Opened) → openedOf h m sp ≡ x → map.stockOf h m sp need x ≡ supply.Pages f → LowTables f
   unfolding map.stockOf map.freshOf
   stock-low need f (opened.Refused r) o e = let z : _≡_ {A = ℕ} 0 1 = cc in absurd (omega arith)
   stock-low need f (opened.Book b) o e = go (ltb (b .free) need) e
@@ -87,30 +87,30 @@ module _ (h : ℕ → Bool) (m : ℕ → ℕ) (sp : Space) (small : (x : ℕ) �
       end : sp .first + sp .pages ≤ 2 ^ 40
       end = omega (arith, small (sp .first + sp .pages - 1) (fits .upto), fits .enough)
 
-      go : (t : Bool) → cond t (supply.Lacking NoRoom) (map.freshThree b need (map.nthOf h m sp b need 0) (map.nthOf h m sp b need 1) (map.nthOf h m sp b need 2)) ≡ supply.Pages f → Low f
+      go : (t : Bool) → cond t (supply.Lacking NoRoom) (map.freshThree b need (map.nthOf h m sp b need 0) (map.nthOf h m sp b need 1) (map.nthOf h m sp b need 2)) ≡ supply.Pages f → LowTables f
       go true k = let z : _≡_ {A = ℕ} 0 1 = cc in absurd (omega arith)
       go false k = fresh-low end b need f _ _ _ (nth-low end b need 0) (nth-low end b need 1) (nth-low end b need 2) k
 
-  supply-low : (need : ℕ) (f : Fresh) → map.supplyOf h m sp need ≡ supply.Pages f → Low f
+  supply-low : (need : ℕ) (f : NewTables) → map.supplyOf h m sp need ≡ supply.Pages f → LowTables f
   unfolding map.supplyOf
   supply-low need f e = go (eqb need 0) e
     where
-      go : (t : Bool) → cond t map.noneOf (map.stockOf h m sp need (openedOf h m sp)) ≡ supply.Pages f → Low f
-      go true k = let same : record { need = 0; a = 0; b = 0; c = 0; book = map.noBook } ≡ f = cc in subst Low same (record { a = omega arith; b = omega arith; c = omega arith })
+      go : (t : Bool) → cond t map.noneOf (map.stockOf h m sp need (openedOf h m sp)) ≡ supply.Pages f → LowTables f
+      go true k = let same : record { need = 0; a = 0; b = 0; c = 0; book = map.noBook } ≡ f = cc in subst LowTables same (record { a = omega arith; b = omega arith; c = omega arith })
       go false k = stock-low need f (openedOf h m sp) refl k
 
   module _ (q : Asked) (p : Mapping) where
     none-built : _≡_ {A = ℕ} 0 1 → Buildable p
     none-built z = absurd (omega arith)
 
-    made-low : (target level table : ℕ) (f : Fresh) (x : Made) → level < 4 → Low f → map.madeOf q target level table f x ≡ map.Go p → Buildable p
+    made-low : (target level table : ℕ) (f : NewTables) (x : Made) → level < 4 → LowTables f → map.madeOf q target level table f x ≡ map.Go p → Buildable p
     unfolding map.madeOf
     made-low target level table f made.Refused u l e = none-built cc
     made-low target level table f (made.Word w) u l e =
         let same : record { base = q .base; target = target; level = level; table = table; word = w; fresh = f } ≡ p = cc in
         subst Buildable same (record { level = u; fresh = l })
 
-    place-low : (target level table : ℕ) (s : Supply) → level < 4 → ((f : Fresh) → s ≡ supply.Pages f → Low f) → map.placeOf q target level table s ≡ map.Go p → Buildable p
+    place-low : (target level table : ℕ) (s : Supply) → level < 4 → ((f : NewTables) → s ≡ supply.Pages f → LowTables f) → map.placeOf q target level table s ≡ map.Go p → Buildable p
     unfolding map.placeOf
     place-low target level table (supply.Lacking y) u l e = none-built cc
     place-low target level table (supply.Pages f) u l e = made-low target level table f (madePage target (q .frame) (q .rights)) u (l f refl) e
@@ -168,56 +168,56 @@ emptied-low h m va w u =
     go false false false false false false ea eb ec = omega (arith, leb-false 1 (w .level) ec)
 
 -- what a decision to go shows: the levels, and the index
-pub record Fitting (va : ℕ) (r : Removal) : Type 0 where
+pub record GoShows (va : ℕ) (r : Removal) : Type 0 where
   pub low : unmap.low r
-  pub index : r .spot .index ≡ indexOf (r .spot .way .level) va
+  pub index : r .page .index ≡ indexOf (r .page .way .level) va
 
 module _ (h : ℕ → Bool) (m : ℕ → ℕ) (sp : Space) (va : ℕ) (r : Removal) where
-  clash : _≡_ {A = ℕ} 0 1 → Fitting va r
+  clash : _≡_ {A = ℕ} 0 1 → GoShows va r
   clash z = absurd (omega arith)
 
-  booked-fits : (s : Spot) (n : ℕ) → s .way .level + n < 4 → s .index ≡ indexOf (s .way .level) va → (b : Book) → unmap.bookedOf sp s n b ≡ removing.Go r → Fitting va r
+  booked-fits : (s : PageEntry) (n : ℕ) → s .way .level + n < 4 → s .index ≡ indexOf (s .way .level) va → (b : Book) → unmap.bookedOf sp s n b ≡ removing.Go r → GoShows va r
   unfolding unmap.bookedOf
   booked-fits s n u i b e = go (takesOf sp b n) e
     where
-      go : (t : Bool) → cond t (removing.Go (record { spot = s; empties = n; book = b })) (removing.Refused (Pool BadBook)) ≡ removing.Go r
-          → Fitting va r
+      go : (t : Bool) → cond t (removing.Go (record { page = s; empties = n; book = b })) (removing.Refused (Pool BadBook)) ≡ removing.Go r
+          → GoShows va r
       go false k = clash cc
       go true k =
-          let same : record { spot = s; empties = n; book = b } ≡ r = cc in
-          subst (Fitting va) same (record { low = u; index = i })
+          let same : record { page = s; empties = n; book = b } ≡ r = cc in
+          subst (GoShows va) same (record { low = u; index = i })
 
-  opened-fits : (s : Spot) (n : ℕ) → s .way .level + n < 4 → s .index ≡ indexOf (s .way .level) va → (x : Opened) → unmap.openOf sp s n x ≡ removing.Go r → Fitting va r
+  opened-fits : (s : PageEntry) (n : ℕ) → s .way .level + n < 4 → s .index ≡ indexOf (s .way .level) va → (x : Opened) → unmap.openOf sp s n x ≡ removing.Go r → GoShows va r
   unfolding unmap.openOf
   opened-fits s n u i (opened.Book b) e = booked-fits s n u i b e
   opened-fits s n u i (opened.Refused y) e = clash cc
 
-  remove-fits : (s : Spot) (n : ℕ) → s .way .level + n < 4 → s .index ≡ indexOf (s .way .level) va → unmap.removeOf h m sp s n ≡ removing.Go r → Fitting va r
+  remove-fits : (s : PageEntry) (n : ℕ) → s .way .level + n < 4 → s .index ≡ indexOf (s .way .level) va → unmap.removeOf h m sp s n ≡ removing.Go r → GoShows va r
   unfolding unmap.removeOf
   remove-fits s n u i e = go (eqb n 0) e
     where
-      go : (t : Bool) → cond t (removing.Go (record { spot = s; empties = 0; book = map.noBook })) (unmap.openOf sp s n (openedOf h m sp)) ≡ removing.Go r → Fitting va r
+      go : (t : Bool) → cond t (removing.Go (record { page = s; empties = 0; book = map.noBook })) (unmap.openOf sp s n (openedOf h m sp)) ≡ removing.Go r → GoShows va r
       go true k =
-          let same : record { spot = s; empties = 0; book = map.noBook } ≡ r = cc in
-          subst (Fitting va) same (record { low = omega arith; index = i })
+          let same : record { page = s; empties = 0; book = map.noBook } ≡ r = cc in
+          subst (GoShows va) same (record { low = omega arith; index = i })
       go false k = opened-fits s n u i (openedOf h m sp) k
 
-  sought-fits : (x : Sought) → foundOf h m sp va ≡ x → unmap.soughtOf h m sp va x ≡ removing.Go r → Fitting va r
-  unfolding unmap.soughtOf
+  sought-fits : (x : Sought) → findOf h m sp va ≡ x → unmap.removingOf h m sp va x ≡ removing.Go r → GoShows va r
+  unfolding unmap.removingOf
   sought-fits (sought.Refused y) ex e = clash cc
   sought-fits (sought.Found s) ex e =
       let k = found-at h m sp va s ex in
       remove-fits s (unmap.emptiedOf h m va (s .way)) (emptied-low h m va (s .way) (k .low)) (k .index) e
 
-  pub unmap-fits : unmap.decideOf h m sp va ≡ removing.Go r → Fitting va r
+  pub unmap-fits : unmap.decideOf h m sp va ≡ removing.Go r → GoShows va r
   unfolding unmap.decideOf
-  unmap-fits e = sought-fits (foundOf h m sp va) refl e
+  unmap-fits e = sought-fits (findOf h m sp va) refl e
 
   -- and that the pool lies in the window
   pub unmap-room : unmap.decideOf h m sp va ≡ removing.Go r → roomOf h (sp .first) (sp .pages) ≡ fit.Fits
-  unfolding unmap.decideOf unmap.soughtOf
-  unmap-room e = go (foundOf h m sp va) refl e
+  unfolding unmap.decideOf unmap.removingOf
+  unmap-room e = go (findOf h m sp va) refl e
     where
-      go : (x : Sought) → foundOf h m sp va ≡ x → unmap.soughtOf h m sp va x ≡ removing.Go r → roomOf h (sp .first) (sp .pages) ≡ fit.Fits
+      go : (x : Sought) → findOf h m sp va ≡ x → unmap.removingOf h m sp va x ≡ removing.Go r → roomOf h (sp .first) (sp .pages) ≡ fit.Fits
       go (sought.Found s) f k = names-room h m sp (found-at h m sp va s f .names)
       go (sought.Refused y) f k = let z : _≡_ {A = ℕ} 0 1 = cc in absurd (omega arith)

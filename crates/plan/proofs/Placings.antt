@@ -16,7 +16,7 @@ use Rattle.pool.specs.declared.Space.{Space}
 use Rattle.plan.specs.declared.Reason.{Reason}
 use Rattle.plan.specs.declared.descent.Way.{Way}
 use Rattle.plan.specs.declared.maps.Asked.{Asked}
-use Rattle.plan.specs.declared.maps.Fresh.{Fresh}
+use Rattle.plan.specs.declared.maps.NewTables.{NewTables}
 use Rattle.plan.specs.declared.maps.Mapping.{Mapping}
 use Rattle.plan.specs.declared.maps.Supply.{Supply}
 use Rattle.plan.specs.declared.maps.Supply.the-variants.{Pages, Lacking}
@@ -32,7 +32,7 @@ module _ (q : Asked) (target level table x : ℕ) where
   place-lacking s y e = rw e
 
   module _ (made-so : madePage target (q .frame) (q .rights) ≡ made.Word x) where
-    pub place-pages : (s : Supply) (f : Fresh) → s ≡ Pages f → target < level
+    pub place-pages : (s : Supply) (f : NewTables) → s ≡ Pages f → target < level
         → placing.Built (record { base = q .base; target = target; level = level; table = table; word = x; fresh = f }) ≡ placingOf (placeOf q target level table s)
     unfolding placeOf madeOf placingOf
     place-pages s f e u = rw e (simp (made-so, lt-leb level target u))

@@ -22,7 +22,7 @@ use Rattle.plan.specs.declared.maps.Asked.{Asked}
 use Rattle.plan.specs.declared.maps.Mapping.{Mapping}
 use Rattle.plan.specs.declared.maps.Shape.{Shape}
 use Rattle.plan.specs.declared.maps.Shape.the-variants as shape
-use Rattle.plan.specs.declared.maps.Fresh.{Fresh}
+use Rattle.plan.specs.declared.maps.NewTables.{NewTables}
 use Rattle.plan.specs.declared.maps.Supply.{Supply}
 use Rattle.plan.specs.declared.maps.Supply.the-variants.{Pages, Lacking}
 use Rattle.plan.specs.Descend.{wayOf}
@@ -30,7 +30,7 @@ use Rattle.plan.specs.Map.{Go, Refused, wayHas, apartOf, sparedOf, shape
 use Rattle.plan.specs.Spare.{OnWay, last, second, third, fourth, Spared}
 
 -- what is answered is the supply itself
-pub spared-same : (w : Way) (s : Supply) (f : Fresh) → sparedOf w s ≡ Pages f → s ≡ Pages f
+pub spared-same : (w : Way) (s : Supply) (f : NewTables) → sparedOf w s ≡ Pages f → s ≡ Pages f
 unfolding sparedOf
 spared-same w (Lacking y) f e = e
 spared-same w (Pages g) f e = go (apartOf w g) e
@@ -110,7 +110,7 @@ gate need n x u e = rw (lt-leb need n u) at e
 differ : (p q : ℕ) → eqb p q ≡ false → p ≢ q
 differ p q e f = false≢true (sym e ∙ eq-eqb p q f)
 
-module _ (w : Way) (f : Fresh) where
+module _ (w : Way) (f : NewTables) where
   -- what is asked where more than two are needed, and where more than one
   abbrev of-three : Bool
   of-three = cond (leb (f .need) 2) true (cond (eqb (f .a) (f .c)) false (cond (eqb (f .b) (f .c)) false (cond (wayHas w (f .c)) false true)))
@@ -160,7 +160,7 @@ module _ (w : Way) (f : Fresh) where
   spares k = rw (spared-apart k)
 
 -- WHAT IS ANSWERED is such a supply
-pub spared-so : (w : Way) (s : Supply) (f : Fresh) → sparedOf w s ≡ Pages f → Spared w f
+pub spared-so : (w : Way) (s : Supply) (f : NewTables) → sparedOf w s ≡ Pages f → Spared w f
 unfolding sparedOf
 spared-so w (Lacking y) f e = let z : _≡_ {A = ℕ} 0 1 = cc in absurd (omega arith)
 spared-so w (Pages g) f e = go (apartOf w g) refl e
@@ -179,7 +179,7 @@ module _ (h : ℕ → Bool) (m : ℕ → ℕ) (sp : Space) (q : Asked) (p : Mapp
   not-so : {target : ℕ} {w : Way} → _≡_ {A = ℕ} 0 1 → So target w
   not-so z = absurd (omega arith)
 
-  made-so : (target level table : ℕ) (f : Fresh) (x : Made) → madeOf q target level table f x ≡ Go p → (p .target ≡ target) × (f ≡ p .fresh)
+  made-so : (target level table : ℕ) (f : NewTables) (x : Made) → madeOf q target level table f x ≡ Go p → (p .target ≡ target) × (f ≡ p .fresh)
   unfolding madeOf
   made-so target level table f made.Refused e = let z : _≡_ {A = ℕ} 0 1 = cc in absurd (omega arith)
   made-so target level table f (made.Word x) e =

@@ -14,88 +14,88 @@ use Rattle.plan.specs.declared.descent.Way.{Way}
 use Rattle.plan.specs.declared.descent.Why.{Why}
 use Rattle.plan.specs.declared.descent.Why.the-variants as why
 use Rattle.plan.specs.declared.descent.Arrival.{Arrival}
-use Rattle.plan.specs.declared.descent.Track.the-variants as track
-use Rattle.plan.specs.Descend.{Trail, At, Stopped, pushOf, stopOf, toldOf, arriveOf, stepOf, downOf, endOf, noWay, wayOf, levelOf, Paged, framedOf, stopAt, trackOf}
+use Rattle.plan.specs.declared.descent.Descending.the-variants as track
+use Rattle.plan.specs.Descend.{Descent, Going, Stopped, pushOf, stopOf, atEntryOf, arriveOf, stepDownOf, downOf, endOf, noWay, wayOf, levelOf, Paged, framedOf, stopAt, descendingOf}
 
 -- Levels -----------------------------------------------------------------------------------------------------------------------
 
-end-level : (s : Trail) → endOf s .level ≡ levelOf s
+end-level : (s : Descent) → endOf s .level ≡ levelOf s
 unfolding endOf
-end-level (At t w) = refl
+end-level (Going t w) = refl
 end-level (Stopped w) = refl
 
-told-low : (target n x : ℕ) (w : Way) (e : Entry) → n < 4 → w .level < 4 → levelOf (toldOf target n x w e) < 4
-unfolding toldOf stopOf
+told-low : (target n x : ℕ) (w : Way) (e : Entry) → n < 4 → w .level < 4 → levelOf (atEntryOf target n x w e) < 4
+unfolding atEntryOf stopOf
 told-low target n x w entry.Nothing u v = u
 told-low target n x w (entry.Page f g) u v = u
 told-low target n x w (entry.Table t g) u v = go (eqb n target)
   where
-    go : (b : Bool) → levelOf (cond b (stopOf why.Table n x w) (At t w)) < 4
+    go : (b : Bool) → levelOf (cond b (stopOf why.Table n x w) (Going t w)) < 4
     go true = u
     go false = v
 
-pub step-low : (h : ℕ → Bool) (m : ℕ → ℕ) (sp : Space) (target va n : ℕ) (s : Trail) → n < 4 → levelOf s < 4 → levelOf (stepOf h m sp target va n s) < 4
-unfolding stepOf arriveOf stopOf pushOf
+pub step-low : (h : ℕ → Bool) (m : ℕ → ℕ) (sp : Space) (target va n : ℕ) (s : Descent) → n < 4 → levelOf s < 4 → levelOf (stepDownOf h m sp target va n s) < 4
+unfolding stepDownOf arriveOf stopOf pushOf
 step-low h m sp target va n (Stopped w) u v = v
-step-low h m sp target va n (At t w) u v = go (inPool sp t) (h t)
+step-low h m sp target va n (Going t w) u v = go (inPool sp t) (h t)
   where
     go : (a b : Bool)
-        → levelOf (cond a (cond b (toldOf target n (m (entryOf n va t)) (pushOf w t) (says n (m (entryOf n va t)))) (stopOf why.Stray n 0 w)) (stopOf why.Stray n 0 w)) < 4
+        → levelOf (cond a (cond b (atEntryOf target n (m (entryOf n va t)) (pushOf w t) (says n (m (entryOf n va t)))) (stopOf why.Stray n 0 w)) (stopOf why.Stray n 0 w)) < 4
     go true true = told-low target n (m (entryOf n va t)) (pushOf w t) (says n (m (entryOf n va t))) u v
     go true false = u
     go false b = u
 
-pub down-low : (h : ℕ → Bool) (m : ℕ → ℕ) (sp : Space) (target va n : ℕ) (s : Trail) → n ≤ 4 → levelOf s < 4 → levelOf (downOf h m sp target va n s) < 4
+pub down-low : (h : ℕ → Bool) (m : ℕ → ℕ) (sp : Space) (target va n : ℕ) (s : Descent) → n ≤ 4 → levelOf s < 4 → levelOf (downOf h m sp target va n s) < 4
 unfolding downOf
 down-low h m sp target va zero s u v = v
 down-low h m sp target va (suc n) s u v =
-    down-low h m sp target va n (stepOf h m sp target va n s) (omega arith) (step-low h m sp target va n s (omega arith) v)
+    down-low h m sp target va n (stepDownOf h m sp target va n s) (omega arith) (step-low h m sp target va n s (omega arith) v)
 
 pub way-low : (h : ℕ → Bool) (m : ℕ → ℕ) (sp : Space) (va target : ℕ) → wayOf h m sp va target .level < 4
 unfolding wayOf
 way-low h m sp va target =
-    rw (end-level (downOf h m sp target va 4 (At (sp .root) noWay))) (down-low h m sp target va 4 (At (sp .root) noWay) (omega arith) (omega arith))
+    rw (end-level (downOf h m sp target va 4 (Going (sp .root) noWay))) (down-low h m sp target va 4 (Going (sp .root) noWay) (omega arith) (omega arith))
 
 -- A way that stopped at a page -------------------------------------------------------------------------------------------------
 
-abbrev Known : Trail → Type 0
-Known (At t w) = w .why ≡ why.Stray
+abbrev Known : Descent → Type 0
+Known (Going t w) = w .why ≡ why.Stray
 Known (Stopped w) = w .why ≡ why.Page → Paged w
 
-told-known : (target n x : ℕ) (w : Way) (e : Entry) → says n x ≡ e → w .why ≡ why.Stray → Known (toldOf target n x w e)
-unfolding toldOf stopOf
+told-known : (target n x : ℕ) (w : Way) (e : Entry) → says n x ≡ e → w .why ≡ why.Stray → Known (atEntryOf target n x w e)
+unfolding atEntryOf stopOf
 told-known target n x w entry.Nothing e s = λ k. let z : _≡_ {A = ℕ} 0 1 = cc in absurd (omega arith)
 told-known target n x w (entry.Page f g) e s = λ k. record { frame = f; rights = g; entry = e }
 told-known target n x w (entry.Table t g) e s = go (eqb n target)
   where
-    go : (b : Bool) → Known (cond b (stopOf why.Table n x w) (At t w))
+    go : (b : Bool) → Known (cond b (stopOf why.Table n x w) (Going t w))
     go true = λ k. let z : _≡_ {A = ℕ} 0 1 = cc in absurd (omega arith)
     go false = s
 
-step-known : (h : ℕ → Bool) (m : ℕ → ℕ) (sp : Space) (target va n : ℕ) (s : Trail) → Known s → Known (stepOf h m sp target va n s)
-unfolding stepOf arriveOf stopOf pushOf
+step-known : (h : ℕ → Bool) (m : ℕ → ℕ) (sp : Space) (target va n : ℕ) (s : Descent) → Known s → Known (stepDownOf h m sp target va n s)
+unfolding stepDownOf arriveOf stopOf pushOf
 step-known h m sp target va n (Stopped w) k = k
-step-known h m sp target va n (At t w) k = go (inPool sp t) (h t)
+step-known h m sp target va n (Going t w) k = go (inPool sp t) (h t)
   where
     go : (a b : Bool)
-        → Known (cond a (cond b (toldOf target n (m (entryOf n va t)) (pushOf w t) (says n (m (entryOf n va t)))) (stopOf why.Stray n 0 w)) (stopOf why.Stray n 0 w))
+        → Known (cond a (cond b (atEntryOf target n (m (entryOf n va t)) (pushOf w t) (says n (m (entryOf n va t)))) (stopOf why.Stray n 0 w)) (stopOf why.Stray n 0 w))
     go true true = told-known target n (m (entryOf n va t)) (pushOf w t) (says n (m (entryOf n va t))) refl refl
     go true false = λ e. let z : _≡_ {A = ℕ} 0 1 = cc in absurd (omega arith)
     go false b = λ e. let z : _≡_ {A = ℕ} 0 1 = cc in absurd (omega arith)
 
-down-known : (h : ℕ → Bool) (m : ℕ → ℕ) (sp : Space) (target va n : ℕ) (s : Trail) → Known s → Known (downOf h m sp target va n s)
+down-known : (h : ℕ → Bool) (m : ℕ → ℕ) (sp : Space) (target va n : ℕ) (s : Descent) → Known s → Known (downOf h m sp target va n s)
 unfolding downOf
 down-known h m sp target va zero s k = k
-down-known h m sp target va (suc n) s k = down-known h m sp target va n (stepOf h m sp target va n s) (step-known h m sp target va n s k)
+down-known h m sp target va (suc n) s k = down-known h m sp target va n (stepDownOf h m sp target va n s) (step-known h m sp target va n s k)
 
-end-known : (s : Trail) → Known s → endOf s .why ≡ why.Page → Paged (endOf s)
+end-known : (s : Descent) → Known s → endOf s .why ≡ why.Page → Paged (endOf s)
 unfolding endOf
-end-known (At t w) k e = let z : _≡_ {A = ℕ} 0 1 = cc in absurd (omega arith)
+end-known (Going t w) k e = let z : _≡_ {A = ℕ} 0 1 = cc in absurd (omega arith)
 end-known (Stopped w) k e = k e
 
 pub way-paged : (h : ℕ → Bool) (m : ℕ → ℕ) (sp : Space) (va target : ℕ) → wayOf h m sp va target .why ≡ why.Page → Paged (wayOf h m sp va target)
 unfolding wayOf
-way-paged h m sp va target = end-known (downOf h m sp target va 4 (At (sp .root) noWay)) (down-known h m sp target va 4 (At (sp .root) noWay) refl)
+way-paged h m sp va target = end-known (downOf h m sp target va 4 (Going (sp .root) noWay)) (down-known h m sp target va 4 (Going (sp .root) noWay) refl)
 
 -- What the code keeps ----------------------------------------------------------------------------------------------------------
 
@@ -104,31 +104,31 @@ unfolding says bit
 nothing-framed n = refl
 
 module _ (va : ℕ) where
-  pub track-at : (o : Trail) (t : ℕ) (w : Way) → track.At t w ≡ trackOf va o → o ≡ At t w
-  unfolding trackOf
-  track-at (At t' w') t w e = cc
-  track-at (Stopped w') t w e = let z : _≡_ {A = ℕ} 0 1 = cc in absurd (omega arith)
+  pub descending-going : (o : Descent) (t : ℕ) (w : Way) → track.Going t w ≡ descendingOf va o → o ≡ Going t w
+  unfolding descendingOf
+  descending-going (Going t' w') t w e = cc
+  descending-going (Stopped w') t w e = let z : _≡_ {A = ℕ} 0 1 = cc in absurd (omega arith)
 
-  pub record Kept (o : Trail) (x : Arrival) : Type 0 where
+  pub record StoppedWith (o : Descent) (x : Arrival) : Type 0 where
     pub way : Way
     pub trail : o ≡ Stopped way
     pub same : x ≡ stopAt va way
 
-  pub track-stopped : (o : Trail) (x : Arrival) → track.Stopped x ≡ trackOf va o → Kept o x
-  unfolding trackOf
-  track-stopped (At t' w') x e = let z : _≡_ {A = ℕ} 0 1 = cc in absurd (omega arith)
-  track-stopped (Stopped w') x e = record { way = w'; trail = refl; same = cc }
+  pub descending-stopped : (o : Descent) (x : Arrival) → track.Stopped x ≡ descendingOf va o → StoppedWith o x
+  unfolding descendingOf
+  descending-stopped (Going t' w') x e = let z : _≡_ {A = ℕ} 0 1 = cc in absurd (omega arith)
+  descending-stopped (Stopped w') x e = record { way = w'; trail = refl; same = cc }
 
   -- an entry that was told
   pub told-stop : (y : Why) (n x i f : ℕ) (w : Way) → i ≡ indexOf n va → framedOf (says n x) ≡ f
-      → track.Stopped (record { way = record { why = y; level = n; word = x; a = w .a; b = w .b; c = w .c; d = w .d }; index = i; frame = f }) ≡ trackOf va (stopOf y n x w)
-  unfolding trackOf stopAt stopOf
+      → track.Stopped (record { way = record { why = y; level = n; word = x; a = w .a; b = w .b; c = w .c; d = w .d }; index = i; frame = f }) ≡ descendingOf va (stopOf y n x w)
+  unfolding descendingOf stopAt stopOf
   told-stop y n x i f w e k = rw (e, k)
 
-  pub step-kept : (h : ℕ → Bool) (m : ℕ → ℕ) (sp : Space) (target n : ℕ) (o : Trail) (x : Arrival) → Kept o x → track.Stopped x ≡ trackOf va (stepOf h m sp target va n o)
-  unfolding stepOf trackOf
+  pub step-kept : (h : ℕ → Bool) (m : ℕ → ℕ) (sp : Space) (target n : ℕ) (o : Descent) (x : Arrival) → StoppedWith o x → track.Stopped x ≡ descendingOf va (stepDownOf h m sp target va n o)
+  unfolding stepDownOf descendingOf
   step-kept h m sp target n o x k = rw (k .trail, k .same)
 
-  pub end-kept : (o : Trail) (x : Arrival) → Kept o x → x ≡ stopAt va (endOf o)
+  pub end-kept : (o : Descent) (x : Arrival) → StoppedWith o x → x ≡ stopAt va (endOf o)
   unfolding endOf
   end-kept o x k = rw (k .trail, k .same)

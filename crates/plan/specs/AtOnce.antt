@@ -20,7 +20,7 @@ use Rattle.plan.specs.declared.direct.Lead.{Lead}
 use Rattle.plan.specs.declared.direct.Lead.the-variants as lead
 use Rattle.plan.specs.declared.direct.Once.{Once}
 use Rattle.plan.specs.declared.direct.Once.the-variants as once
-use Rattle.plan.specs.Descend.{Trail, At, downOf, endOf, wayOf}
+use Rattle.plan.specs.Descend.{Descent, Going, downOf, endOf, wayOf}
 use Rattle.plan.specs.Map.{Placed, Refused, placingOf, leafWrites}
 
 -- The way ------------------------------------------------------------------------------------------------------------------------
@@ -35,12 +35,12 @@ unfoldable pub leadOf : (ℕ → Bool) → (ℕ → ℕ) → Space → ℕ → �
 leadOf h m sp va n t = cond (inPool sp t) (cond (h t) (leadBy (says n (m (entryOf n va t)))) lead.Stray) lead.Stray
 
 -- the way s has come to the table in page t, of the target's level
-pub record Comes (h : ℕ → Bool) (m : ℕ → ℕ) (sp : Space) (target va : ℕ) (s : Trail) (t : ℕ) : Type 0 where
+pub record Comes (h : ℕ → Bool) (m : ℕ → ℕ) (sp : Space) (target va : ℕ) (s : Descent) (t : ℕ) : Type 0 where
   pub way : Way
-  pub trail : s ≡ downOf h m sp target va (suc target) (At t way)
+  pub trail : s ≡ downOf h m sp target va (suc target) (Going t way)
 
 -- what the way s is, where this is what its last entry above the target leads to
-abbrev pub Leads : (ℕ → Bool) → (ℕ → ℕ) → Space → ℕ → ℕ → Trail → Lead → Type 0
+abbrev pub Leads : (ℕ → Bool) → (ℕ → ℕ) → Space → ℕ → ℕ → Descent → Lead → Type 0
 Leads h m sp target va s (lead.Table t) = Comes h m sp target va s t
 Leads h m sp target va s lead.Page = endOf s .why ≡ why.Page
 Leads h m sp target va s lead.Nothing = Unit {0}

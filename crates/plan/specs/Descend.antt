@@ -15,13 +15,13 @@ use Rattle.plan.specs.declared.descent.Why.{Why}
 use Rattle.plan.specs.declared.descent.Why.the-variants.{Nothing, Page, Table, Stray}
 use Rattle.plan.specs.declared.descent.Way.{Way}
 use Rattle.plan.specs.declared.descent.Arrival.{Arrival}
-use Rattle.plan.specs.declared.descent.Track.{Track}
-use Rattle.plan.specs.declared.descent.Track.the-variants as track
+use Rattle.plan.specs.declared.descent.Descending.{Descending}
+use Rattle.plan.specs.declared.descent.Descending.the-variants as track
 
 -- a way that goes on at the table in a page, or has stopped
-pub data Trail : Type 0 where
-  At : ℕ → Way → Trail
-  Stopped : Way → Trail
+pub data Descent : Type 0 where
+  Going : ℕ → Way → Descent
+  Stopped : Way → Descent
 
 unfoldable pub pushOf : Way → ℕ → Way
 pushOf w t = record { why = Stray; level = w .level; word = w .word; a = t; b = w .a; c = w .b; d = w .c }
@@ -29,40 +29,40 @@ pushOf w t = record { why = Stray; level = w .level; word = w .word; a = t; b = 
 abbrev pub stopWay : Why → ℕ → ℕ → Way → Way
 stopWay y n x w = record { why = y; level = n; word = x; a = w .a; b = w .b; c = w .c; d = w .d }
 
-unfoldable pub stopOf : Why → ℕ → ℕ → Way → Trail
+unfoldable pub stopOf : Why → ℕ → ℕ → Way → Descent
 stopOf y n x w = Stopped (stopWay y n x w)
 
 -- the entry of level n, whose word is x, says so
-unfoldable pub toldOf : ℕ → ℕ → ℕ → Way → Entry → Trail
-toldOf target n x w entry.Nothing = stopOf Nothing n x w
-toldOf target n x w (entry.Page f g) = stopOf Page n x w
-toldOf target n x w (entry.Table t g) = cond (eqb n target) (stopOf Table n x w) (At t w)
+unfoldable pub atEntryOf : ℕ → ℕ → ℕ → Way → Entry → Descent
+atEntryOf target n x w entry.Nothing = stopOf Nothing n x w
+atEntryOf target n x w (entry.Page f g) = stopOf Page n x w
+atEntryOf target n x w (entry.Table t g) = cond (eqb n target) (stopOf Table n x w) (Going t w)
 
 -- the way has come to the table in page t, of level n
-unfoldable pub arriveOf : (ℕ → Bool) → (ℕ → ℕ) → Space → ℕ → ℕ → ℕ → ℕ → Way → Trail
+unfoldable pub arriveOf : (ℕ → Bool) → (ℕ → ℕ) → Space → ℕ → ℕ → ℕ → ℕ → Way → Descent
 arriveOf h m sp target va n t w =
     cond (inPool sp t)
-    (cond (h t) (toldOf target n (m (entryOf n va t)) (pushOf w t) (says n (m (entryOf n va t)))) (stopOf Stray n 0 w))
+    (cond (h t) (atEntryOf target n (m (entryOf n va t)) (pushOf w t) (says n (m (entryOf n va t)))) (stopOf Stray n 0 w))
     (stopOf Stray n 0 w)
 
-unfoldable pub stepOf : (ℕ → Bool) → (ℕ → ℕ) → Space → ℕ → ℕ → ℕ → Trail → Trail
-stepOf h m sp target va n (At t w) = arriveOf h m sp target va n t w
-stepOf h m sp target va n (Stopped w) = Stopped w
+unfoldable pub stepDownOf : (ℕ → Bool) → (ℕ → ℕ) → Space → ℕ → ℕ → ℕ → Descent → Descent
+stepDownOf h m sp target va n (Going t w) = arriveOf h m sp target va n t w
+stepDownOf h m sp target va n (Stopped w) = Stopped w
 
 -- the steps at the levels below n, from the top
-unfoldable pub downOf : (ℕ → Bool) → (ℕ → ℕ) → Space → ℕ → ℕ → ℕ → Trail → Trail
+unfoldable pub downOf : (ℕ → Bool) → (ℕ → ℕ) → Space → ℕ → ℕ → ℕ → Descent → Descent
 downOf h m sp target va zero s = s
-downOf h m sp target va (suc n) s = downOf h m sp target va n (stepOf h m sp target va n s)
+downOf h m sp target va (suc n) s = downOf h m sp target va n (stepDownOf h m sp target va n s)
 
-unfoldable pub endOf : Trail → Way
-endOf (At t w) = w
+unfoldable pub endOf : Descent → Way
+endOf (Going t w) = w
 endOf (Stopped w) = w
 
 abbrev pub noWay : Way
 noWay = record { why = Stray; level = 0; word = 0; a = 0; b = 0; c = 0; d = 0 }
 
-abbrev pub startOf : Space → Trail
-startOf sp = At (sp .root) noWay
+abbrev pub startOf : Space → Descent
+startOf sp = Going (sp .root) noWay
 
 -- THE WAY of an address to its entry at the target level
 unfoldable pub wayOf : (ℕ → Bool) → (ℕ → ℕ) → Space → ℕ → ℕ → Way
@@ -84,10 +84,10 @@ pub record Paged (w : Way) : Type 0 where
 unfoldable pub stopAt : ℕ → Way → Arrival
 stopAt va w = record { way = w; index = indexOf (w .level) va; frame = framedOf (says (w .level) (w .word)) }
 
-unfoldable pub trackOf : ℕ → Trail → Track
-trackOf va (At t w) = track.At t w
-trackOf va (Stopped w) = track.Stopped (stopAt va w)
+unfoldable pub descendingOf : ℕ → Descent → Descending
+descendingOf va (Going t w) = track.Going t w
+descendingOf va (Stopped w) = track.Stopped (stopAt va w)
 
-abbrev pub levelOf : Trail → ℕ
-levelOf (At t w) = w .level
+abbrev pub levelOf : Descent → ℕ
+levelOf (Going t w) = w .level
 levelOf (Stopped w) = w .level

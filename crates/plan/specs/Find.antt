@@ -23,24 +23,24 @@ unfoldable pub startsOf : ℕ → ℕ → Bool
 startsOf n va = eqb (va % sizeOf n) 0
 
 -- the way stopped at a page
-unfoldable pub spotOf : ℕ → Way → Entry → Sought
-spotOf va w entry.Nothing = Refused NothingStarts
-spotOf va w (entry.Page f g) = Found (record { way = w; index = indexOf (w .level) va; frame = f; size = sizeOf (w .level) })
-spotOf va w (entry.Table t g) = Refused NothingStarts
+unfoldable pub pageEntryOf : ℕ → Way → Entry → Sought
+pageEntryOf va w entry.Nothing = Refused NothingStarts
+pageEntryOf va w (entry.Page f g) = Found (record { way = w; index = indexOf (w .level) va; frame = f; size = sizeOf (w .level) })
+pageEntryOf va w (entry.Table t g) = Refused NothingStarts
 
-unfoldable pub becauseOf : ℕ → Way → Why → Sought
-becauseOf va w why.Stray = Refused Stray
-becauseOf va w why.Nothing = Refused NothingStarts
-becauseOf va w why.Table = Refused NothingStarts
-becauseOf va w why.Page = cond (startsOf (w .level) va) (spotOf va w (says (w .level) (w .word))) (Refused NothingStarts)
+unfoldable pub foundBecauseOf : ℕ → Way → Why → Sought
+foundBecauseOf va w why.Stray = Refused Stray
+foundBecauseOf va w why.Nothing = Refused NothingStarts
+foundBecauseOf va w why.Table = Refused NothingStarts
+foundBecauseOf va w why.Page = cond (startsOf (w .level) va) (pageEntryOf va w (says (w .level) (w .word))) (Refused NothingStarts)
 
-unfoldable pub stoppedOf : ℕ → Way → Sought
-stoppedOf va w = cond (leb (w .level) 3) (becauseOf va w (w .why)) (Refused Stray)
+unfoldable pub foundStoppedOf : ℕ → Way → Sought
+foundStoppedOf va w = cond (leb (w .level) 3) (foundBecauseOf va w (w .why)) (Refused Stray)
 
 unfoldable pub soughtOf : (ℕ → Bool) → (ℕ → ℕ) → Space → ℕ → Fit → Sought
-soughtOf h m sp va fit.Fits = cond (canonical va) (stoppedOf va (wayOf h m sp va 4)) (Refused BaseRange)
+soughtOf h m sp va fit.Fits = cond (canonical va) (foundStoppedOf va (wayOf h m sp va 4)) (Refused BaseRange)
 soughtOf h m sp va (fit.Refused r) = Refused (Pool r)
 
 -- WHAT IS FOUND
-unfoldable pub foundOf : (ℕ → Bool) → (ℕ → ℕ) → Space → ℕ → Sought
-foundOf h m sp va = soughtOf h m sp va (namesOf h m sp)
+unfoldable pub findOf : (ℕ → Bool) → (ℕ → ℕ) → Space → ℕ → Sought
+findOf h m sp va = soughtOf h m sp va (namesOf h m sp)

@@ -28,14 +28,14 @@ use Rattle.plan.specs.declared.descent.Why.the-variants as why
 use Rattle.plan.specs.declared.maps.Asked.{Asked}
 use Rattle.plan.specs.declared.maps.Shape.{Shape}
 use Rattle.plan.specs.declared.maps.Shape.the-variants.{Level, Bad}
-use Rattle.plan.specs.declared.maps.Fresh.{Fresh}
+use Rattle.plan.specs.declared.maps.NewTables.{NewTables}
 use Rattle.plan.specs.declared.maps.Supply.{Supply}
 use Rattle.plan.specs.declared.maps.Supply.the-variants.{Pages, Lacking}
 use Rattle.plan.specs.declared.maps.Mapping.{Mapping}
 use Rattle.plan.specs.declared.maps.Leaf.{Leaf}
 use Rattle.plan.specs.declared.maps.Placing.{Placing}
 use Rattle.plan.specs.declared.maps.Placing.the-variants as placing
-use Rattle.plan.specs.declared.building.Reached.{Reached}
+use Rattle.plan.specs.declared.building.TableReached.{TableReached}
 use Rattle.plan.specs.declared.building.Making.{Making}
 use Rattle.plan.specs.declared.building.Making.the-variants as making
 use Rattle.plan.specs.Descend.{wayOf}
@@ -93,7 +93,7 @@ wayHas w p =
     (cond (eqb p (w .b)) true (cond (leb 2 (w .level)) false (cond (eqb p (w .c)) true (cond (leb 1 (w .level)) false (eqb p (w .d)))))))
 
 -- the pages that are needed differ, from each other and from the tables of the way: of a damaged book they need not
-unfoldable pub apartOf : Way → Fresh → Bool
+unfoldable pub apartOf : Way → NewTables → Bool
 apartOf w f =
     cond (leb (f .need) 0) true
     (cond (wayHas w (f .a)) false
@@ -121,7 +121,7 @@ pub data Placed : Type 0 where
   Go : Mapping → Placed
   Refused : Reason → Placed
 
-unfoldable pub madeOf : Asked → ℕ → ℕ → ℕ → Fresh → Made → Placed
+unfoldable pub madeOf : Asked → ℕ → ℕ → ℕ → NewTables → Made → Placed
 madeOf q target level table f made.Refused = Refused FrameRange
 madeOf q target level table f (made.Word w) = Go (record { base = q .base; target = target; level = level; table = table; word = w; fresh = f })
 
@@ -157,7 +157,7 @@ decideOf h m sp q = shapedOf h m sp q (shapeOf (q .size) (q .base) (q .frame))
 -- What is built ------------------------------------------------------------------------------------------------------------------------
 
 -- pages whose numbers have 40 bits
-pub record Low (f : Fresh) : Type 0 where
+pub record LowTables (f : NewTables) : Type 0 where
   pub a : f .a < pageCount
   pub b : f .b < pageCount
   pub c : f .c < pageCount
@@ -165,30 +165,30 @@ pub record Low (f : Fresh) : Type 0 where
 -- what is built: at a level, of such pages
 pub record Buildable (p : Mapping) : Type 0 where
   pub level : p .level < 4
-  pub fresh : Low (p .fresh)
+  pub fresh : LowTables (p .fresh)
 
 -- The plan ---------------------------------------------------------------------------------------------------------------------------
 
 unfoldable pub linkOf : ℕ → ℕ
 linkOf p = cond (ltb p pageCount) (tableWord p) 0
 
-unfoldable pub nextOf : ℕ → ℕ → Reached → Reached
+unfoldable pub nextOf : ℕ → ℕ → TableReached → TableReached
 nextOf target p s = cond (leb (s .level) target) s (record { level = s .level - 1; table = p })
 
 -- above the target page p is cleared, and then linked
-unfoldable pub growOf : ℕ → ℕ → ℕ → Reached → List Write
+unfoldable pub growOf : ℕ → ℕ → ℕ → TableReached → List Write
 growOf va target p s = cond (leb (s .level) target) [] (zeros p 512 ++ (write (s .table) (indexOf (s .level) va) (linkOf p) ∷ []))
 
-abbrev pub reached0 : Mapping → Reached
+abbrev pub reached0 : Mapping → TableReached
 reached0 p = record { level = p .level; table = p .table }
 
-abbrev pub reached1 : Mapping → Reached
+abbrev pub reached1 : Mapping → TableReached
 reached1 p = nextOf (p .target) (p .fresh .a) (reached0 p)
 
-abbrev pub reached2 : Mapping → Reached
+abbrev pub reached2 : Mapping → TableReached
 reached2 p = nextOf (p .target) (p .fresh .b) (reached1 p)
 
-abbrev pub reached3 : Mapping → Reached
+abbrev pub reached3 : Mapping → TableReached
 reached3 p = nextOf (p .target) (p .fresh .c) (reached2 p)
 
 -- the new tables from the top down; then the page's own entry

@@ -8,15 +8,15 @@ use Rattle.entry.specs.declared.Rights.{Rights}
 use Rattle.walk.specs.Walk.{indexOf}
 use Rattle.pool.specs.Book.{bookOf, ticketIn}
 use Rattle.pool.specs.declared.Space.{Space}
-use Rattle.plan.specs.declared.finding.Spot.{Spot}
+use Rattle.plan.specs.declared.finding.PageEntry.{PageEntry}
 use Rattle.plan.specs.declared.finding.Sought.{Sought}
 use Rattle.plan.specs.declared.finding.Sought.the-variants as sought
 use Rattle.plan.specs.declared.protects.Change.{Change}
 use Rattle.plan.specs.declared.protects.Changing.{Changing}
 use Rattle.plan.specs.declared.protects.Changing.the-variants.{Go, Refused}
-use Rattle.plan.specs.Find.{foundOf}
+use Rattle.plan.specs.Find.{findOf}
 
-unfoldable pub changeOf : ℕ → Spot → Rights → ℕ → Change
+unfoldable pub changeOf : ℕ → PageEntry → Rights → ℕ → Change
 changeOf va s r t = record {
   table = s .way .a;
   index = indexOf (s .way .level) va;
@@ -33,7 +33,7 @@ changingOf m sp va r (sought.Refused y) = Refused y
 
 -- WHAT PROTECT DECIDES
 unfoldable pub decideOf : (ℕ → Bool) → (ℕ → ℕ) → Space → ℕ → Rights → Changing
-decideOf h m sp va r = changingOf m sp va r (foundOf h m sp va)
+decideOf h m sp va r = changingOf m sp va r (findOf h m sp va)
 
 -- what it writes
 unfoldable pub writesOf : Change → List Write

@@ -2,7 +2,7 @@
 use Prim.Native.Nat.{ℕ, _<_}
 use mathlib.Core.Logic.{_≢_}
 use Rattle.plan.specs.declared.descent.Way.{Way}
-use Rattle.plan.specs.declared.maps.Fresh.{Fresh}
+use Rattle.plan.specs.declared.maps.NewTables.{NewTables}
 
 -- page p is one of the tables that the way came through: as many as there are levels from the root's to that where it stopped
 pub data OnWay (w : Way) : ℕ → Type 0 where
@@ -11,7 +11,7 @@ pub data OnWay (w : Way) : ℕ → Type 0 where
   third : w .level < 2 → OnWay w (w .c)
   fourth : w .level < 1 → OnWay w (w .d)
 
-pub record Spared (w : Way) (f : Fresh) : Type 0 where
+pub record Spared (w : Way) (f : NewTables) : Type 0 where
   pub first-off : 0 < f .need → ¬ OnWay w (f .a)
   pub second-off : 1 < f .need → ¬ OnWay w (f .b)
   pub third-off : 2 < f .need → ¬ OnWay w (f .c)

@@ -17,7 +17,7 @@ use Rattle.pool.specs.declared.Reason.the-variants.{BadBook}
 use Rattle.plan.specs.declared.Reason.{Reason}
 use Rattle.plan.specs.declared.Reason.the-variants.{Pool}
 use Rattle.plan.specs.declared.descent.Way.{Way}
-use Rattle.plan.specs.declared.finding.Spot.{Spot}
+use Rattle.plan.specs.declared.finding.PageEntry.{PageEntry}
 use Rattle.plan.specs.declared.finding.Sought.{Sought}
 use Rattle.plan.specs.declared.finding.Sought.the-variants as sought
 use Rattle.plan.specs.declared.unmaps.Removal.{Removal}
@@ -25,7 +25,7 @@ use Rattle.plan.specs.declared.unmaps.Removing.{Removing}
 use Rattle.plan.specs.declared.unmaps.Removing.the-variants.{Go, Refused}
 use Rattle.plan.specs.declared.unmaps.Unmapping.{Unmapping}
 use Rattle.plan.specs.declared.unmaps.Unmapping.the-variants as unmapping
-use Rattle.plan.specs.Find.{foundOf}
+use Rattle.plan.specs.Find.{findOf}
 use Rattle.plan.specs.Map.{noBook}
 
 -- Which tables become empty ------------------------------------------------------------------------------------------------------
@@ -41,30 +41,30 @@ emptiedOf h m va w =
 
 -- The decision ---------------------------------------------------------------------------------------------------------------------
 
-unfoldable pub bookedOf : Space → Spot → ℕ → Book → Removing
-bookedOf sp s n b = cond (takesOf sp b n) (Go (record { spot = s; empties = n; book = b })) (Refused (Pool BadBook))
+unfoldable pub bookedOf : Space → PageEntry → ℕ → Book → Removing
+bookedOf sp s n b = cond (takesOf sp b n) (Go (record { page = s; empties = n; book = b })) (Refused (Pool BadBook))
 
-unfoldable pub openOf : Space → Spot → ℕ → Opened → Removing
+unfoldable pub openOf : Space → PageEntry → ℕ → Opened → Removing
 openOf sp s n (opened.Book b) = bookedOf sp s n b
 openOf sp s n (opened.Refused r) = Refused (Pool r)
 
 -- a book is needed only where a table becomes empty
-unfoldable pub removeOf : (ℕ → Bool) → (ℕ → ℕ) → Space → Spot → ℕ → Removing
-removeOf h m sp s n = cond (eqb n 0) (Go (record { spot = s; empties = 0; book = noBook })) (openOf sp s n (openedOf h m sp))
+unfoldable pub removeOf : (ℕ → Bool) → (ℕ → ℕ) → Space → PageEntry → ℕ → Removing
+removeOf h m sp s n = cond (eqb n 0) (Go (record { page = s; empties = 0; book = noBook })) (openOf sp s n (openedOf h m sp))
 
-unfoldable pub soughtOf : (ℕ → Bool) → (ℕ → ℕ) → Space → ℕ → Sought → Removing
-soughtOf h m sp va (sought.Found s) = removeOf h m sp s (emptiedOf h m va (s .way))
-soughtOf h m sp va (sought.Refused y) = Refused y
+unfoldable pub removingOf : (ℕ → Bool) → (ℕ → ℕ) → Space → ℕ → Sought → Removing
+removingOf h m sp va (sought.Found s) = removeOf h m sp s (emptiedOf h m va (s .way))
+removingOf h m sp va (sought.Refused y) = Refused y
 
 -- WHAT UNMAP DECIDES
 unfoldable pub decideOf : (ℕ → Bool) → (ℕ → ℕ) → Space → ℕ → Removing
-decideOf h m sp va = soughtOf h m sp va (foundOf h m sp va)
+decideOf h m sp va = removingOf h m sp va (findOf h m sp va)
 
 -- The plan -------------------------------------------------------------------------------------------------------------------------
 
 -- the page's level is one of the four, with as many tables above it as become empty
 abbrev pub low : Removal → Type 0
-low r = r .spot .way .level + r .empties < 4
+low r = r .page .way .level + r .empties < 4
 
 -- the table `child` is the k-th of n that became empty: it is unlinked, and set aside
 unfoldable pub cutWrites : Space → ℕ → ℕ → ℕ → ℕ → ℕ → Book → List Write
@@ -82,10 +82,10 @@ book2 sp r = cutBook sp 1 (r .empties) (book1 sp r)
 -- WHAT UNMAP WRITES: the page's entry, then for each table that became empty its parent's entry and the book
 unfoldable pub writesOf : Space → ℕ → Removal → List Write
 writesOf sp va r =
-    (write (r .spot .way .a) (indexOf (r .spot .way .level) va) 0 ∷ [])
-    ++ (cutWrites sp 0 (r .empties) (r .spot .way .b) (indexOf (r .spot .way .level + 1) va) (r .spot .way .a) (r .book)
-    ++ (cutWrites sp 1 (r .empties) (r .spot .way .c) (indexOf (r .spot .way .level + 2) va) (r .spot .way .b) (book1 sp r)
-    ++ cutWrites sp 2 (r .empties) (r .spot .way .d) (indexOf (r .spot .way .level + 3) va) (r .spot .way .c) (book2 sp r)))
+    (write (r .page .way .a) (indexOf (r .page .way .level) va) 0 ∷ [])
+    ++ (cutWrites sp 0 (r .empties) (r .page .way .b) (indexOf (r .page .way .level + 1) va) (r .page .way .a) (r .book)
+    ++ (cutWrites sp 1 (r .empties) (r .page .way .c) (indexOf (r .page .way .level + 2) va) (r .page .way .b) (book1 sp r)
+    ++ cutWrites sp 2 (r .empties) (r .page .way .d) (indexOf (r .page .way .level + 3) va) (r .page .way .c) (book2 sp r)))
 
 unfoldable pub didOf : Space → ℕ → Removing → List Write
 didOf sp va (Go r) = writesOf sp va r

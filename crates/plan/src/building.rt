@@ -18,7 +18,7 @@ pub enum Making {
     Refused(Reason),
 }
 
-pub struct Reached {
+pub struct TableReached {
     pub level: u64,
     pub table: u64,
 }
@@ -39,8 +39,8 @@ fn grow(
     va: u64,
     target: u64,
     p: u64,
-    s: Reached,
-) -> Reached
+    s: TableReached,
+) -> TableReached
     requires { ⌜ (s .level < 4) × (p < pageCount) ⌝ }
     ensures { λ r. ⌜ r ≡ the.nextOf target p s ⌝ }
     ensures { λ _. ⌜ Wrote origin (the.growOf va target p s) (now (left .entry)) (now (left .exit)) (now (mem .entry)) (now (mem .exit)) ⌝ }
@@ -57,7 +57,7 @@ fn grow(
         walk::index(s.level, va),
         link(p),
     );
-    Reached {
+    TableReached {
         level: s.level - 1,
         table: p,
     }
@@ -68,7 +68,7 @@ fn build(mem: &mut [u8], left: &mut u64, origin: u64, m: Mapping)
     ensures { λ _. ⌜ Wrote origin (the.buildOf m) (now (left .entry)) (now (left .exit)) (now (mem .entry)) (now (mem .exit)) ⌝ }
 {
     let f = m.fresh;
-    let s0 = Reached {
+    let s0 = TableReached {
         level: m.level,
         table: m.table,
     };

@@ -6,7 +6,7 @@ ghost use Rattle.entry.specs.Entry.{says};
 ghost use Rattle.walk.specs.Walk.{indexOf};
 ghost use Rattle.pool.specs.Stands.{standsOf};
 ghost use Rattle.pool.specs.declared.Fit.the-variants.{Fits};
-ghost use Rattle.plan.specs.declared.descent.Track.the-variants.{Stopped};
+ghost use Rattle.plan.specs.declared.descent.Descending.the-variants.{Stopped};
 ghost use Rattle.plan.specs.Descend as the;
 use entry::Entry;
 use pool::Space;
@@ -39,8 +39,8 @@ pub struct Arrival {
     pub frame: u64,
 }
 
-pub enum Track {
-    At(u64, Way),
+pub enum Descending {
+    Going(u64, Way),
     Stopped(Arrival),
 }
 
@@ -59,10 +59,10 @@ fn push(w: Way, t: u64) -> Way
     }
 }
 
-fn stop(y: Why, n: u64, x: u64, w: Way, i: u64, f: u64) -> Track
+fn stop(y: Why, n: u64, x: u64, w: Way, i: u64, f: u64) -> Descending
     ensures { λ r. ⌜ r ≡ Stopped (record { way = the.stopWay y n x w; index = i; frame = f }) ⌝ }
 {
-    Track::Stopped(Arrival {
+    Descending::Stopped(Arrival {
         way: Way {
             why: y,
             level: n,
@@ -78,8 +78,8 @@ fn stop(y: Why, n: u64, x: u64, w: Way, i: u64, f: u64) -> Track
 }
 
 // The entry of level n, whose index is i and whose word is x, says e.
-fn told(target: u64, n: u64, x: u64, w: Way, i: u64, e: Entry) -> Track
-    ensures { λ r. ⌜ ((va : ℕ) → i ≡ indexOf n va → e ≡ says n x → r ≡ the.trackOf va (the.toldOf target n x w e)) ⌝ }
+fn at_entry(target: u64, n: u64, x: u64, w: Way, i: u64, e: Entry) -> Descending
+    ensures { λ r. ⌜ ((va : ℕ) → i ≡ indexOf n va → e ≡ says n x → r ≡ the.descendingOf va (the.atEntryOf target n x w e)) ⌝ }
 {
     match e {
         Entry::Nothing => stop(Why::Nothing, n, x, w, i, 0),
@@ -88,40 +88,40 @@ fn told(target: u64, n: u64, x: u64, w: Way, i: u64, e: Entry) -> Track
             if n == target {
                 stop(Why::Table, n, x, w, i, 0)
             } else {
-                Track::At(t, w)
+                Descending::Going(t, w)
             }
         }
     }
 }
 
 // The way has come to the table in page t.
-fn arrive(mem: &[u8], space: Space, target: u64, va: u64, n: u64, t: u64, w: Way) -> Track
+fn arrive(mem: &[u8], space: Space, target: u64, va: u64, n: u64, t: u64, w: Way) -> Descending
     requires { ⌜ (n < 4) × (standsOf (holds (now mem) (space .origin)) space ≡ Fits) ⌝ }
-    ensures { λ r. ⌜ r ≡ the.trackOf va (the.arriveOf (holds (now (mem .entry)) (space .origin)) (memory (now (mem .entry)) (space .origin)) space target va n t w) ⌝ }
+    ensures { λ r. ⌜ r ≡ the.descendingOf va (the.arriveOf (holds (now (mem .entry)) (space .origin)) (memory (now (mem .entry)) (space .origin)) space target va n t w) ⌝ }
 {
     let i = walk::index(n, va);
     let c = pool::entry(mem, space, t, i);
     match c {
-        Cell::Word(x) => told(target, n, x, push(w, t), i, entry::decode(n, x)),
+        Cell::Word(x) => at_entry(target, n, x, push(w, t), i, entry::decode(n, x)),
         Cell::Outside => stop(Why::Stray, n, 0, w, i, 0),
     }
 }
 
-fn step(mem: &[u8], space: Space, target: u64, va: u64, n: u64, s: Track) -> Track
+fn step(mem: &[u8], space: Space, target: u64, va: u64, n: u64, s: Descending) -> Descending
     requires { ⌜ (n < 4) × (standsOf (holds (now mem) (space .origin)) space ≡ Fits) ⌝ }
-    ensures { λ r. ⌜ ((o : the.Trail) → s ≡ the.trackOf va o → r ≡ the.trackOf va (the.stepOf (holds (now (mem .entry)) (space .origin)) (memory (now (mem .entry)) (space .origin)) space target va n o)) ⌝ }
+    ensures { λ r. ⌜ ((o : the.Descent) → s ≡ the.descendingOf va o → r ≡ the.descendingOf va (the.stepDownOf (holds (now (mem .entry)) (space .origin)) (memory (now (mem .entry)) (space .origin)) space target va n o)) ⌝ }
 {
     match s {
-        Track::At(t, w) => arrive(mem, space, target, va, n, t, w),
-        Track::Stopped(x) => Track::Stopped(x),
+        Descending::Going(t, w) => arrive(mem, space, target, va, n, t, w),
+        Descending::Stopped(x) => Descending::Stopped(x),
     }
 }
 
 // Where the way begins.
-fn start(space: Space) -> Track
-    ensures { λ r. ⌜ ((va : ℕ) → r ≡ the.trackOf va (the.startOf space)) ⌝ }
+fn start(space: Space) -> Descending
+    ensures { λ r. ⌜ ((va : ℕ) → r ≡ the.descendingOf va (the.startOf space)) ⌝ }
 {
-    Track::At(
+    Descending::Going(
         space.root,
         Way {
             why: Why::Stray,
@@ -146,16 +146,16 @@ fn framed(e: Entry) -> u64
     }
 }
 
-fn end(va: u64, s: Track) -> Arrival
-    ensures { λ r. ⌜ ((o : the.Trail) → the.levelOf o < 4 → s ≡ the.trackOf va o → r ≡ the.stopAt va (the.endOf o)) ⌝ }
+fn end(va: u64, s: Descending) -> Arrival
+    ensures { λ r. ⌜ ((o : the.Descent) → the.levelOf o < 4 → s ≡ the.descendingOf va o → r ≡ the.stopAt va (the.endOf o)) ⌝ }
 {
     match s {
-        Track::At(_, w) => Arrival {
+        Descending::Going(_, w) => Arrival {
             way: w,
             index: walk::index(w.level, va),
             frame: framed(entry::decode(w.level, w.word)),
         },
-        Track::Stopped(x) => x,
+        Descending::Stopped(x) => x,
     }
 }
 

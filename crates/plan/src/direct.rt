@@ -8,7 +8,7 @@ ghost use Rattle.walk.specs.Walk.{indexOf};
 ghost use Rattle.pool.specs.Stands.{standsOf};
 ghost use Rattle.pool.specs.declared.Fit.the-variants.{Fits};
 ghost use Rattle.plan.specs.declared.descent.Way.{Way};
-ghost use Rattle.plan.specs.Descend.{At, startOf, downOf};
+ghost use Rattle.plan.specs.Descend.{Going, startOf, downOf};
 ghost use Rattle.plan.specs.Map.{decideOf};
 ghost use Rattle.plan.specs.AtOnce as the;
 use crate::maps::Asked;
@@ -60,7 +60,7 @@ fn follow(mem: &[u8], space: Space, n: u64, va: u64, t: u64) -> Lead
 // From the table in page t, of level 2, to that of the target's level.
 fn down(mem: &[u8], space: Space, target: u64, va: u64, t: u64) -> Lead
     requires { ⌜ standsOf (holds (now mem) (space .origin)) space ≡ Fits ⌝ }
-    ensures { λ r. ⌜ (target ≤ 1 → (w : Way) → the.Leads (holds (now (mem .entry)) (space .origin)) (memory (now (mem .entry)) (space .origin)) space target va (downOf (holds (now (mem .entry)) (space .origin)) (memory (now (mem .entry)) (space .origin)) space target va 3 (At t w)) r) ⌝ }
+    ensures { λ r. ⌜ (target ≤ 1 → (w : Way) → the.Leads (holds (now (mem .entry)) (space .origin)) (memory (now (mem .entry)) (space .origin)) space target va (downOf (holds (now (mem .entry)) (space .origin)) (memory (now (mem .entry)) (space .origin)) space target va 3 (Going t w)) r) ⌝ }
 {
     let l = follow(mem, space, 2, va, t);
     if target == 1 {

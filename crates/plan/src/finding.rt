@@ -15,7 +15,7 @@ use pool::Fit;
 use pool::Space;
 
 // Where the page's entry is, and what it says.
-pub struct Spot {
+pub struct PageEntry {
     pub way: Way,
     pub index: u64,
     pub frame: u64,
@@ -23,7 +23,7 @@ pub struct Spot {
 }
 
 pub enum Sought {
-    Found(Spot),
+    Found(PageEntry),
     Refused(Reason),
 }
 
@@ -36,7 +36,7 @@ fn starts(n: u64, va: u64) -> bool
 
 // The way stopped there.
 fn stopped(va: u64, t: Arrival) -> Sought
-    ensures { λ r. ⌜ ((w : Way) → (w .why ≡ Page → Paged w) → t ≡ stopAt va w → r ≡ the.stoppedOf va w) ⌝ }
+    ensures { λ r. ⌜ ((w : Way) → (w .why ≡ Page → Paged w) → t ≡ stopAt va w → r ≡ the.foundStoppedOf va w) ⌝ }
 {
     let w = t.way;
     if 3 < w.level {
@@ -49,7 +49,7 @@ fn stopped(va: u64, t: Arrival) -> Sought
         Why::Table => Sought::Refused(Reason::NothingStarts),
         Why::Page => {
             if starts(w.level, va) {
-                return Sought::Found(Spot {
+                return Sought::Found(PageEntry {
                     way: w,
                     index: t.index,
                     frame: t.frame,
@@ -63,7 +63,7 @@ fn stopped(va: u64, t: Arrival) -> Sought
 
 // Finds the page that starts at va, or says why there is none.
 pub fn find(mem: &[u8], space: Space, va: u64) -> Sought
-    ensures { λ r. ⌜ r ≡ the.foundOf (holds (now (mem .entry)) (space .origin)) (memory (now (mem .entry)) (space .origin)) space va ⌝ }
+    ensures { λ r. ⌜ r ≡ the.findOf (holds (now (mem .entry)) (space .origin)) (memory (now (mem .entry)) (space .origin)) space va ⌝ }
 {
     let fit = pool::names(mem, space);
     match fit {

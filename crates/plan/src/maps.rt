@@ -35,7 +35,7 @@ pub enum Shape {
 }
 
 // Up to three pages that become tables, and the book that they come from.
-pub struct Fresh {
+pub struct NewTables {
     pub need: u64,
     pub a: u64,
     pub b: u64,
@@ -44,7 +44,7 @@ pub struct Fresh {
 }
 
 pub enum Supply {
-    Pages(Fresh),
+    Pages(NewTables),
     Lacking(Reason),
 }
 
@@ -55,7 +55,7 @@ pub struct Mapping {
     pub level: u64,
     pub table: u64,
     pub word: u64,
-    pub fresh: Fresh,
+    pub fresh: NewTables,
 }
 
 // Where no table is missing: the entry, and the page's word.
@@ -172,7 +172,7 @@ fn take_fresh(mem: &[u8], space: Space, book: Book, need: u64) -> Supply
     let Listed::Page(c) = z else {
         return Supply::Lacking(Reason::BadList);
     };
-    Supply::Pages(Fresh {
+    Supply::Pages(NewTables {
         need: need,
         a: a,
         b: b,
@@ -185,7 +185,7 @@ fn take_fresh(mem: &[u8], space: Space, book: Book, need: u64) -> Supply
 fn none() -> Supply
     ensures { λ r. ⌜ r ≡ the.noneOf ⌝ }
 {
-    Supply::Pages(Fresh {
+    Supply::Pages(NewTables {
         need: 0,
         a: 0,
         b: 0,

@@ -5,8 +5,8 @@ ghost use Rattle.word.specs.Writes.{Wrote};
 ghost use Rattle.walk.specs.Walk.{indexOf};
 ghost use Rattle.plan.specs.Protect as the;
 use crate::Reason;
+use crate::finding::PageEntry;
 use crate::finding::Sought;
-use crate::finding::Spot;
 use crate::finding::find;
 use entry::Rights;
 use pool::Space;
@@ -26,7 +26,7 @@ pub enum Changing {
     Refused(Reason),
 }
 
-fn changed(va: u64, s: Spot, rights: Rights, ticket: u64) -> Change
+fn changed(va: u64, s: PageEntry, rights: Rights, ticket: u64) -> Change
     ensures { λ r. ⌜ (s .index ≡ indexOf (s .way .level) va → r ≡ the.changeOf va s rights ticket) ⌝ }
 {
     let w = s.way;

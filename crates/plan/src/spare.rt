@@ -3,7 +3,7 @@ ghost use mathlib.Core.Path.{_≡_};
 ghost use Rattle.plan.specs.Map as the;
 use crate::Reason;
 use crate::descent::Way;
-use crate::maps::Fresh;
+use crate::maps::NewTables;
 use crate::maps::Supply;
 
 // Is page p one of the tables that the way came through?
@@ -32,7 +32,7 @@ fn way_has(w: Way, p: u64) -> bool
 }
 
 // Do the pages that are needed differ, from each other and from the tables of the way?
-fn apart(w: Way, f: Fresh) -> bool
+fn apart(w: Way, f: NewTables) -> bool
     ensures { λ r. ⌜ r ≡ the.apartOf w f ⌝ }
 {
     if f.need <= 0 {

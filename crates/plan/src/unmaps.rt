@@ -8,8 +8,8 @@ ghost use Rattle.walk.specs.Walk.{indexOf};
 ghost use Rattle.plan.specs.Unmap as the;
 use crate::Reason;
 use crate::descent::Way;
+use crate::finding::PageEntry;
 use crate::finding::Sought;
-use crate::finding::Spot;
 use crate::finding::find;
 use pool::Book;
 use pool::Opened;
@@ -17,7 +17,7 @@ use pool::Space;
 
 // The page that goes, how many tables become empty with it, and the book that takes them.
 pub struct Removal {
-    pub spot: Spot,
+    pub page: PageEntry,
     pub empties: u64,
     pub book: Book,
 }
@@ -59,12 +59,12 @@ fn emptied(mem: &[u8], origin: u64, va: u64, i: u64, w: Way) -> u64
 }
 
 // The book has room for the tables that become empty.
-fn booked(space: Space, s: Spot, n: u64, b: Book) -> Removing
+fn booked(space: Space, s: PageEntry, n: u64, b: Book) -> Removing
     ensures { λ r. ⌜ r ≡ the.bookedOf space s n b ⌝ }
 {
     if pool::takes(space, b, n) {
         return Removing::Go(Removal {
-            spot: s,
+            page: s,
             empties: n,
             book: b,
         });
@@ -73,12 +73,12 @@ fn booked(space: Space, s: Spot, n: u64, b: Book) -> Removing
 }
 
 // A book is needed only where a table becomes empty.
-fn remove(mem: &[u8], space: Space, s: Spot, n: u64) -> Removing
+fn remove(mem: &[u8], space: Space, s: PageEntry, n: u64) -> Removing
     ensures { λ r. ⌜ r ≡ the.removeOf (holds (now (mem .entry)) (space .origin)) (memory (now (mem .entry)) (space .origin)) space s n ⌝ }
 {
     if n == 0 {
         return Removing::Go(Removal {
-            spot: s,
+            page: s,
             empties: 0,
             book: Book {
                 head: 0,
@@ -136,10 +136,10 @@ fn cut(
 }
 
 fn carry_unmap(mem: &mut [u8], left: &mut u64, space: Space, va: u64, r: Removal)
-    requires { ⌜ (the.low r) × (r .spot .index ≡ indexOf (r .spot .way .level) va) ⌝ }
+    requires { ⌜ (the.low r) × (r .page .index ≡ indexOf (r .page .way .level) va) ⌝ }
     ensures { λ _. ⌜ Wrote (space .origin) (the.writesOf space va r) (now (left .entry)) (now (left .exit)) (now (mem .entry)) (now (mem .exit)) ⌝ }
 {
-    let s = r.spot;
+    let s = r.page;
     let w = s.way;
     let n = r.empties;
     let l = w.level;

@@ -1,4 +1,4 @@
--- ONE BOOK IN A POOL: no other page of it begins with a mark, and no write of a word that is none makes one.
+-- ONE BOOK IN A POOL: no other page of it begins with a signature, and no write of a word that is none makes one.
 use Prim.Native.Nat.{ℕ, zero, suc, _+_, _-_, _^_, _<_, _≤_}
 use mathlib.Core.Bool.{Bool, true, false, cond, _&&_}
 use mathlib.Core.List.{List, [], _∷_, _++_}
@@ -14,18 +14,18 @@ use Rattle.word.proofs.Set.{set-at, set-other}
 use Rattle.word.proofs.Tests.{and-both}
 use Rattle.pool.specs.declared.Space.{Space}
 use Rattle.pool.specs.declared.Book.{Book}
-use Rattle.pool.specs.Layout.{markAt}
-use Rattle.pool.specs.Book.{mark, soundOf}
+use Rattle.pool.specs.Layout.{signatureAt}
+use Rattle.pool.specs.Book.{signature, addsUpOf}
 use Rattle.pool.specs.Booked.{Alone}
 use Rattle.pool.specs.Changes.{tookWrites, asideWrites, releaseWrites}
-use Rattle.pool.proofs.Counts.{sound-is, spot-in}
+use Rattle.pool.proofs.Counts.{adds-up-is, slot-in}
 
--- no write of the list is of the mark
+-- no write of the list is of the signature
 pub data Unmarking : List Write → Type 0 where
   none : Unmarking []
-  more : {x : Write} {xs : List Write} → x .word ≢ mark → Unmarking xs → Unmarking (x ∷ xs)
+  more : {x : Write} {xs : List Write} → x .word ≢ signature → Unmarking xs → Unmarking (x ∷ xs)
 
-pub unmarking-one : (p i w : ℕ) → w ≢ mark → Unmarking (write p i w ∷ [])
+pub unmarking-one : (p i w : ℕ) → w ≢ signature → Unmarking (write p i w ∷ [])
 unmarking-one p i w d = more d none
 
 pub unmarking-append : (a b : List Write) → Unmarking a → Unmarking b → Unmarking (a ++ b)
@@ -45,32 +45,32 @@ unmarking-if false xs h = none
 pub alone-after : (sp : Space) (m : ℕ → ℕ) (xs : List Write) → Unmarking xs → Alone sp m → Alone sp (after m xs)
 unfolding after
 alone-after sp m [] none k = k
-alone-after sp m (x ∷ xs) (more d h) k = alone-after sp (set m (at (x .page) (x .index)) (x .word)) xs h (λ p u v. go p u v (ℕ-discrete (at (x .page) (x .index)) (at p markAt)))
+alone-after sp m (x ∷ xs) (more d h) k = alone-after sp (set m (at (x .page) (x .index)) (x .word)) xs h (λ p u v. go p u v (ℕ-discrete (at (x .page) (x .index)) (at p signatureAt)))
   where
-    go : (p : ℕ) → sp .first < p → p < sp .first + sp .pages → Dec (at (x .page) (x .index) ≡ at p markAt) → set m (at (x .page) (x .index)) (x .word) (at p markAt) ≢ mark
-    go p u v (yes e) f = d (sym (set-at m (at (x .page) (x .index)) (x .word) (at p markAt) e) ∙ f)
-    go p u v (no n) f = k p u v (sym (set-other m (at (x .page) (x .index)) (x .word) (at p markAt) n) ∙ f)
+    go : (p : ℕ) → sp .first < p → p < sp .first + sp .pages → Dec (at (x .page) (x .index) ≡ at p signatureAt) → set m (at (x .page) (x .index)) (x .word) (at p signatureAt) ≢ signature
+    go p u v (yes e) f = d (sym (set-at m (at (x .page) (x .index)) (x .word) (at p signatureAt) e) ∙ f)
+    go p u v (no n) f = k p u v (sym (set-other m (at (x .page) (x .index)) (x .word) (at p signatureAt) n) ∙ f)
 
 -- Changes of the book, whatever it counts ------------------------------------------------------------------------------------------
 
 pub took-unmarking : (sp : Space) (b : Book) (k : ℕ) → Unmarking (tookWrites sp b k)
 unfolding tookWrites
-took-unmarking sp b k = unmarking-if (leb k (b .free) && soundOf (sp .pages) b) _ (λ e.
-    let t = and-both (leb k (b .free)) (soundOf (sp .pages) b) e in
+took-unmarking sp b k = unmarking-if (leb k (b .free) && addsUpOf (sp .pages) b) _ (λ e.
+    let t = and-both (leb k (b .free)) (addsUpOf (sp .pages) b) e in
     let u = leb-true k (b .free) (t .0) in
-    let s = sound-is (sp .pages) b (t .1) in
-    more (λ x. omega (arith, x, s .small, spot-in (sp .pages) (b .head) k (s .head-in) (omega (arith, u, s .room))))
+    let s = adds-up-is (sp .pages) b (t .1) in
+    more (λ x. omega (arith, x, s .small, slot-in (sp .pages) (b .head) k (s .head-in) (omega (arith, u, s .room))))
     (more (λ x. omega (arith, x, s .small, s .room)) none))
 
-pub aside-unmarking : (sp : Space) (b : Book) (p : ℕ) → p ≢ mark → Unmarking (asideWrites sp b p)
+pub aside-unmarking : (sp : Space) (b : Book) (p : ℕ) → p ≢ signature → Unmarking (asideWrites sp b p)
 unfolding asideWrites
-aside-unmarking sp b p d = unmarking-if (soundOf (sp .pages) b) _ (λ e. let s = sound-is (sp .pages) b e in more d (more (λ x. omega (arith, x, s .small, s .room)) none))
+aside-unmarking sp b p d = unmarking-if (addsUpOf (sp .pages) b) _ (λ e. let s = adds-up-is (sp .pages) b e in more d (more (λ x. omega (arith, x, s .small, s .room)) none))
 
 pub release-unmarking : (sp : Space) (b : Book) (k : ℕ) → Unmarking (releaseWrites sp b k)
 unfolding releaseWrites
-release-unmarking sp b k = unmarking-if (leb k (b .aside) && soundOf (sp .pages) b) _ (λ e.
-    let t = and-both (leb k (b .aside)) (soundOf (sp .pages) b) e in
+release-unmarking sp b k = unmarking-if (leb k (b .aside) && addsUpOf (sp .pages) b) _ (λ e.
+    let t = and-both (leb k (b .aside)) (addsUpOf (sp .pages) b) e in
     let u = leb-true k (b .aside) (t .0) in
-    let s = sound-is (sp .pages) b (t .1) in
+    let s = adds-up-is (sp .pages) b (t .1) in
     more (λ x. omega (arith, x, u, s .small, s .room))
     (more (λ x. omega (arith, x, s .small, s .room)) (more (λ x. omega (arith, x, u, s .small, s .room, s .early)) none)))

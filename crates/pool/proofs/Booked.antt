@@ -9,11 +9,11 @@ use Rattle.word.proofs.Writes.{every-map, after-other}
 use Rattle.tables.specs.Roles.{Role, book}
 use Rattle.pool.specs.declared.Space.{Space}
 use Rattle.pool.specs.declared.Book.{Book}
-use Rattle.pool.specs.Layout.{markAt, pagesAt, rootAt, headAt, freeAt, asideAt, ticketsAt, slotAt, headerWords, bookWords, bookPages}
-use Rattle.pool.specs.Book.{wordOf, mark, bookOf, spotOf, pageAt, Sound}
+use Rattle.pool.specs.Layout.{signatureAt, pagesAt, rootAt, headAt, freeAt, asideAt, ticketsAt, slotAt, headerWords, bookWords, bookPages}
+use Rattle.pool.specs.Book.{wordOf, signature, bookOf, slotOf, pageAt, AddsUp}
 use Rattle.pool.specs.Booked.{Lists, Booked, SameBook, Numbered}
 use Rattle.pool.proofs.Far.{word-at}
-use Rattle.pool.proofs.Counts.{spot-in}
+use Rattle.pool.proofs.Counts.{slot-in}
 use Rattle.pool.proofs.Lists.{lists-same}
 use Rattle.pool.proofs.Words.{word-page, header-word, slot-word, puts, becomes, puts-word}
 
@@ -23,15 +23,15 @@ module _ (sp : Space) (m : ℕ → ℕ) {n : Book} (e : bookOf m sp ≡ n) where
   pub numbered-by : {p k : ℕ} → (i : ℕ) × (i < n .aside) × (pageAt m sp (n .free + i) ≡ p) × (k ≡ n .tickets + i) → Numbered m sp p k
   numbered-by {p} {k} h = subst (λ (x : Book). (i : ℕ) × (i < x .aside) × (pageAt m sp (x .free + i) ≡ p) × (k ≡ x .tickets + i)) (sym e) h
 
-  pub booked-by : {role : ℕ → Role} → m (wordOf sp markAt) ≡ mark → m (wordOf sp pagesAt) ≡ sp .pages → m (wordOf sp rootAt) ≡ sp .root
-      → Sound (sp .pages) n → Lists (pageAt m sp) (n .free) (n .aside) role
+  pub booked-by : {role : ℕ → Role} → m (wordOf sp signatureAt) ≡ signature → m (wordOf sp pagesAt) ≡ sp .pages → m (wordOf sp rootAt) ≡ sp .root
+      → AddsUp (sp .pages) n → Lists (pageAt m sp) (n .free) (n .aside) role
       → ((p : ℕ) → sp .first ≤ p → p < sp .first + bookPages (sp .pages) → role p ≡ book)
       → ((p : ℕ) → role p ≡ book → (sp .first ≤ p) × (p < sp .first + bookPages (sp .pages))) → Booked sp m role
   booked-by {role} a b r s l i o = record {
     marked = a;
     sized = b;
     rooted = r;
-    sound = subst (λ (x : Book). Sound (sp .pages) x) (sym e) s;
+    sound = subst (λ (x : Book). AddsUp (sp .pages) x) (sym e) s;
     lists = subst (λ (x : Book). Lists (pageAt m sp) (x .free) (x .aside) role) (sym e) l;
     in-book = i;
     no-other = o;
@@ -53,17 +53,17 @@ module _ {sp : Space} {m m' : ℕ → ℕ} (e : SameBook sp m m') where
     pub same-page : (k : ℕ) → k < bookOf m sp .free + bookOf m sp .aside → pageAt m' sp k ≡ pageAt m sp k
     unfolding pageAt
     same-page k u =
-        ap (λ (x : Book). m' (wordOf sp (slotAt (spotOf (sp .pages) (x .head) k)))) same-counts
-        ∙ e .words (slotAt (spotOf (sp .pages) (bookOf m sp .head) k))
-        (slot-word (sp .pages) _ (spot-in (sp .pages) (bookOf m sp .head) k (b .sound .head-in) (omega (arith, b .sound .room))))
+        ap (λ (x : Book). m' (wordOf sp (slotAt (slotOf (sp .pages) (x .head) k)))) same-counts
+        ∙ e .words (slotAt (slotOf (sp .pages) (bookOf m sp .head) k))
+        (slot-word (sp .pages) _ (slot-in (sp .pages) (bookOf m sp .head) k (b .sound .head-in) (omega (arith, b .sound .room))))
 
     pub same-numbered : (p n : ℕ) → Numbered m sp p n → Numbered m' sp p n
     same-numbered p n h = numbered-by sp m' same-counts (h .0, h .1, same-page (bookOf m sp .free + h .0) (omega (arith, h .1)) ∙ h .2, h .3)
 
     pub booked-same : Booked sp m' role
-    unfolding markAt pagesAt rootAt headerWords
+    unfolding signatureAt pagesAt rootAt headerWords
     booked-same =
-        booked-by sp m' same-counts (same-header markAt (omega arith) ∙ b .marked) (same-header pagesAt (omega arith) ∙ b .sized)
+        booked-by sp m' same-counts (same-header signatureAt (omega arith) ∙ b .marked) (same-header pagesAt (omega arith) ∙ b .sized)
         (same-header rootAt (omega arith) ∙ b .rooted) (b .sound) (lists-same same-page (b .lists)) (b .in-book) (b .no-other)
 
 -- Writes elsewhere ----------------------------------------------------------------------------------------------------------------
@@ -96,13 +96,13 @@ module _ (sp : Space) (m : ℕ → ℕ) (xs : List Write) (h : Every (Beside sp)
 
 -- A change of the book ------------------------------------------------------------------------------------------------------------
 
--- Its counts and its list are others; its mark, its size and its root stay, and no page comes to the book or goes from it.
+-- Its counts and its list are others; its signature, its size and its root stay, and no page comes to the book or goes from it.
 pub changed : {sp : Space} {m : ℕ → ℕ} {role role' : ℕ → Role} → Booked sp m role → (xs : List (ℕ × ℕ)) (n : Book) → bookOf (after m (puts sp xs)) sp ≡ n
-    → ((w : ℕ) → (becomes xs markAt w ≡ w) × (becomes xs pagesAt w ≡ w) × (becomes xs rootAt w ≡ w))
-    → Sound (sp .pages) n → Lists (pageAt (after m (puts sp xs)) sp) (n .free) (n .aside) role'
+    → ((w : ℕ) → (becomes xs signatureAt w ≡ w) × (becomes xs pagesAt w ≡ w) × (becomes xs rootAt w ≡ w))
+    → AddsUp (sp .pages) n → Lists (pageAt (after m (puts sp xs)) sp) (n .free) (n .aside) role'
     → ((p : ℕ) → (role' p ≡ role p) ⊎ ((role p ≢ book) × (role' p ≢ book))) → Booked sp (after m (puts sp xs)) role'
 changed {sp} {m} {role} {role'} b xs n e keeps s l r =
-    booked-by sp (after m (puts sp xs)) e (puts-word m sp xs markAt ∙ keeps _ .0 ∙ b .marked) (puts-word m sp xs pagesAt ∙ keeps _ .1 ∙ b .sized)
+    booked-by sp (after m (puts sp xs)) e (puts-word m sp xs signatureAt ∙ keeps _ .0 ∙ b .marked) (puts-word m sp xs pagesAt ∙ keeps _ .1 ∙ b .sized)
     (puts-word m sp xs rootAt ∙ keeps _ .2 ∙ b .rooted) s l
     (λ p u v. still p (b .in-book p u v) (r p)) (λ p e. b .no-other p (was p e (r p)))
   where

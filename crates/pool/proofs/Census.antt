@@ -12,7 +12,7 @@ use Rattle.tables.specs.Roles.{Role, foreign, free, aside, book, root, table}
 use Rattle.pool.specs.Booked.{howMany, isFree, isAside, isBook, isRoot, isTable}
 
 -- f 0, .. f (c - 1) are the pages of which t holds, of n from lo on, each once
-pub record Names (t : ℕ → Bool) (lo n : ℕ) (f : ℕ → ℕ) (c : ℕ) : Type 0 where
+pub record ListsAll (t : ℕ → Bool) (lo n : ℕ) (f : ℕ → ℕ) (c : ℕ) : Type 0 where
   pub within : (j : ℕ) → j < c → (lo ≤ f j) × (f j < lo + n) × (t (f j) ≡ true)
   pub all : (p : ℕ) → lo ≤ p → p < lo + n → t p ≡ true → (j : ℕ) × (j < c) × (f j ≡ p)
   pub once : (i j : ℕ) → i < c → j < c → f i ≡ f j → i ≡ j
@@ -61,7 +61,7 @@ many-but t lo (suc n) q u v e = go (ℕ-discrete (lo + n) q) (λ w. many-but t l
         rw (a, b, many-same t (but t q) lo n (λ p x y. sym (but-other t q p (omega arith)))) (omega arith)
     go (no d) ih = rw (but-other t q (lo + n) d, ih (omega arith)) (omega arith)
 
-pub names-count : (t : ℕ → Bool) (lo n : ℕ) (f : ℕ → ℕ) (c : ℕ) → Names t lo n f c → howMany t lo n ≡ c
+pub names-count : (t : ℕ → Bool) (lo n : ℕ) (f : ℕ → ℕ) (c : ℕ) → ListsAll t lo n f c → howMany t lo n ≡ c
 unfolding but
 names-count t lo n f zero h = many-none t lo n (λ p u v. no-true p u v (t p) refl)
   where
@@ -72,7 +72,7 @@ names-count t lo n f (suc c) h =
     let w = h .within c (omega arith) in
     many-but t lo n (f c) (w .0) (w .1) (w .2) ∙ ap (λ x. 1 + x) (names-count (but t (f c)) lo n f c less) ∙ omega arith
   where
-    less : Names (but t (f c)) lo n f c
+    less : ListsAll (but t (f c)) lo n f c
     less = record {
       within = λ j u. let w = h .within j (omega arith) in (w .0, w .1, but-other t (f c) (f j) (λ e. omega (arith, h .once j c (omega arith) (omega arith) e)) ∙ w .2);
       all = λ p u v e. rest p (and-both (t p) (not (eqb p (f c))) e) (h .all p u v (and-both (t p) (not (eqb p (f c))) e .0));

@@ -12,13 +12,13 @@ use Rattle.word.proofs.Writes.{every-append, every-map, every-zeros, after-appe
 use Rattle.tables.specs.Roles.{Zero}
 use Rattle.pool.specs.declared.Space.{Space}
 use Rattle.pool.specs.declared.Book.{Book}
-use Rattle.pool.specs.Layout.{markAt, pagesAt, rootAt, ticketsAt, freeAt, asideAt, headAt, headerWords, slotAt, countAt, bookWords, bookPages}
-use Rattle.pool.specs.Book.{wordOf, mark, bookOf, spotOf, pageAt}
+use Rattle.pool.specs.Layout.{signatureAt, pagesAt, rootAt, ticketsAt, freeAt, asideAt, headAt, headerWords, slotAt, countAt, bookWords, bookPages}
+use Rattle.pool.specs.Book.{wordOf, signature, bookOf, slotOf, pageAt}
 use Rattle.pool.specs.Changes.{put}
-use Rattle.pool.specs.Create.{fills, blanks, unmarks, bared, slots, header, newFree, layOut, Roomy}
+use Rattle.pool.specs.Create.{fills, blanks, unmarks, bared, slots, headerWrites, newFree, layOut, Roomy}
 use Rattle.pool.specs.Booked.{Lists, Booked, Alone, newRole}
 use Rattle.pool.proofs.Far.{word-at}
-use Rattle.pool.proofs.Counts.{spot-ahead}
+use Rattle.pool.proofs.Counts.{slot-ahead}
 use Rattle.pool.proofs.Words.{word-page, header-word, slot-word, puts, becomes, puts-word}
 use Rattle.pool.proofs.Rows.{put-same, put-other, row-word, row-other, unmarks-first}
 use Rattle.pool.proofs.Booked.{booked-by}
@@ -32,23 +32,23 @@ module _ (m : ℕ → ℕ) (sp : Space) (n : ℕ) where
   words : List (ℕ × ℕ)
   words = (pagesAt, sp .pages) ∷ (rootAt, sp .root) ∷ (ticketsAt, 0) ∷ (freeAt, n) ∷ []
 
-  headed-is : after m (header sp n) ≡ after (after m (puts sp words)) (blanks sp asideAt (headerWords - asideAt))
-  unfolding header puts words
+  headed-is : after m (headerWrites sp n) ≡ after (after m (puts sp words)) (blanks sp asideAt (headerWords - asideAt))
+  unfolding headerWrites puts words
   headed-is = after-append m (puts sp words) (blanks sp asideAt (headerWords - asideAt))
 
   -- one of these, and one of the others
-  headed-low : (k : ℕ) → k < asideAt → after m (header sp n) (wordOf sp k) ≡ becomes words k (m (wordOf sp k))
+  headed-low : (k : ℕ) → k < asideAt → after m (headerWrites sp n) (wordOf sp k) ≡ becomes words k (m (wordOf sp k))
   headed-low k u =
       ap (λ (f : ℕ → ℕ). f (wordOf sp k)) headed-is
       ∙ row-other (after m (puts sp words)) sp asideAt (λ j. 0) (headerWords - asideAt) k (inl u)
       ∙ puts-word m sp words k
 
-  headed-rest : (k : ℕ) → asideAt ≤ k → k < headerWords → after m (header sp n) (wordOf sp k) ≡ 0
+  headed-rest : (k : ℕ) → asideAt ≤ k → k < headerWords → after m (headerWrites sp n) (wordOf sp k) ≡ 0
   headed-rest k u v =
       ap (λ (f : ℕ → ℕ). f (wordOf sp k)) headed-is ∙ row-word (after m (puts sp words)) sp asideAt (λ j. 0) (headerWords - asideAt) k u (omega arith)
 
   -- and one behind the header
-  headed-behind : (k : ℕ) → headerWords ≤ k → after m (header sp n) (wordOf sp k) ≡ m (wordOf sp k)
+  headed-behind : (k : ℕ) → headerWords ≤ k → after m (headerWrites sp n) (wordOf sp k) ≡ m (wordOf sp k)
   unfolding words becomes pagesAt rootAt ticketsAt freeAt asideAt headerWords
   headed-behind k u =
       ap (λ (f : ℕ → ℕ). f (wordOf sp k)) headed-is
@@ -56,15 +56,15 @@ module _ (m : ℕ → ℕ) (sp : Space) (n : ℕ) where
       ∙ puts-word m sp words k
       ∙ rw (ne-eqb pagesAt k (omega arith), ne-eqb rootAt k (omega arith), ne-eqb ticketsAt k (omega arith), ne-eqb freeAt k (omega arith))
 
-  headed-size : after m (header sp n) (wordOf sp pagesAt) ≡ sp .pages
+  headed-size : after m (headerWrites sp n) (wordOf sp pagesAt) ≡ sp .pages
   unfolding words becomes pagesAt rootAt ticketsAt freeAt asideAt
   headed-size = headed-low pagesAt (omega arith)
 
-  headed-root : after m (header sp n) (wordOf sp rootAt) ≡ sp .root
+  headed-root : after m (headerWrites sp n) (wordOf sp rootAt) ≡ sp .root
   unfolding words becomes pagesAt rootAt ticketsAt freeAt asideAt
   headed-root = headed-low rootAt (omega arith)
 
-  headed-book : bookOf (after m (header sp n)) sp ≡ record { head = 0; free = n; aside = 0; tickets = 0 }
+  headed-book : bookOf (after m (headerWrites sp n)) sp ≡ record { head = 0; free = n; aside = 0; tickets = 0 }
   unfolding words becomes pagesAt rootAt ticketsAt freeAt asideAt headAt headerWords
   headed-book =
       rw (headed-low ticketsAt (omega arith), headed-low freeAt (omega arith), headed-rest asideAt (omega arith) (omega arith), headed-rest headAt (omega arith) (omega arith))
@@ -72,7 +72,7 @@ module _ (m : ℕ → ℕ) (sp : Space) (n : ℕ) where
 -- The whole layout ----------------------------------------------------------------------------------------------------------------
 
 module _ (m : ℕ → ℕ) (sp : Space) (r : Roomy sp) (n : New sp) where
-  -- without a mark; with the slots of the free pages; the other slots and the counts; the header; then the root cleared; then the mark
+  -- without a signature; with the slots of the free pages; the other slots and the counts; the header; then the root cleared; then the signature
   bare : ℕ → ℕ
   bare = after m (bared sp (newFree sp))
 
@@ -83,19 +83,19 @@ module _ (m : ℕ → ℕ) (sp : Space) (r : Roomy sp) (n : New sp) where
   counted = after filled (blanks sp (slotAt (newFree sp)) (2 * sp .pages - newFree sp))
 
   headed : ℕ → ℕ
-  headed = after counted (header sp (newFree sp))
+  headed = after counted (headerWrites sp (newFree sp))
 
   cleared : ℕ → ℕ
   cleared = after headed (zeros (sp .root) 512)
 
-  laid-is : after m (layOut sp) ≡ after cleared (put sp markAt mark ∷ [])
+  laid-is : after m (layOut sp) ≡ after cleared (put sp signatureAt signature ∷ [])
   unfolding layOut bared slots bare filled counted headed cleared
   laid-is =
       after-append m (bared sp (newFree sp)) _
       ∙ after-append bare (slots sp (newFree sp)) _
-      ∙ ap (λ (f : ℕ → ℕ). after f (header sp (newFree sp) ++ (zeros (sp .root) 512 ++ (put sp markAt mark ∷ []))))
+      ∙ ap (λ (f : ℕ → ℕ). after f (headerWrites sp (newFree sp) ++ (zeros (sp .root) 512 ++ (put sp signatureAt signature ∷ []))))
       (after-append bare (fills sp (sp .root + 1) (newFree sp)) (blanks sp (slotAt (newFree sp)) (2 * sp .pages - newFree sp)))
-      ∙ after-append counted (header sp (newFree sp)) _
+      ∙ after-append counted (headerWrites sp (newFree sp)) _
       ∙ after-append headed (zeros (sp .root) 512) _
 
   -- the root is not the book
@@ -106,29 +106,29 @@ module _ (m : ℕ → ℕ) (sp : Space) (r : Roomy sp) (n : New sp) where
       (after-other headed (zeros (sp .root) 512) (sp .first + k / 512) (k % 512) (omega arith)
       (every-zeros (sp .root) 512 (λ e. omega (arith, n .behind, word-page (sp .pages) k u)) (omega arith)))
 
-  laid-word : (k : ℕ) → markAt ≢ k → k < bookWords (sp .pages) → after m (layOut sp) (wordOf sp k) ≡ headed (wordOf sp k)
+  laid-word : (k : ℕ) → signatureAt ≢ k → k < bookWords (sp .pages) → after m (layOut sp) (wordOf sp k) ≡ headed (wordOf sp k)
   laid-word k d v =
-      ap (λ (f : ℕ → ℕ). f (wordOf sp k)) laid-is ∙ put-other cleared sp markAt mark k d ∙ cleared-word k v
+      ap (λ (f : ℕ → ℕ). f (wordOf sp k)) laid-is ∙ put-other cleared sp signatureAt signature k d ∙ cleared-word k v
 
-  laid-mark : after m (layOut sp) (wordOf sp markAt) ≡ mark
-  laid-mark = ap (λ (f : ℕ → ℕ). f (wordOf sp markAt)) laid-is ∙ put-same cleared sp markAt mark
+  laid-mark : after m (layOut sp) (wordOf sp signatureAt) ≡ signature
+  laid-mark = ap (λ (f : ℕ → ℕ). f (wordOf sp signatureAt)) laid-is ∙ put-same cleared sp signatureAt signature
 
   -- a word of the header
-  laid-header : (k : ℕ) → markAt ≢ k → k < headerWords → after m (layOut sp) (wordOf sp k) ≡ headed (wordOf sp k)
+  laid-header : (k : ℕ) → signatureAt ≢ k → k < headerWords → after m (layOut sp) (wordOf sp k) ≡ headed (wordOf sp k)
   laid-header k d u = laid-word k d (header-word (sp .pages) k u)
 
   laid-book : bookOf (after m (layOut sp)) sp ≡ record { head = 0; free = newFree sp; aside = 0; tickets = 0 }
-  unfolding headed markAt headAt freeAt asideAt ticketsAt headerWords
+  unfolding headed signatureAt headAt freeAt asideAt ticketsAt headerWords
   laid-book =
       rw (laid-header headAt (omega arith) (omega arith), laid-header freeAt (omega arith) (omega arith), laid-header asideAt (omega arith) (omega arith), laid-header ticketsAt (omega arith) (omega arith))
       (headed-book counted sp (newFree sp))
 
   -- position k lists the page k behind the root's next
   laid-page : (k : ℕ) → k < newFree sp → pageAt (after m (layOut sp)) sp k ≡ sp .root + 1 + k
-  unfolding pageAt filled counted headed markAt slotAt countAt
+  unfolding pageAt filled counted headed signatureAt slotAt countAt
   laid-page k u =
-      ap (λ (b : Book). after m (layOut sp) (wordOf sp (slotAt (spotOf (sp .pages) (b .head) k)))) laid-book
-      ∙ ap (λ x. after m (layOut sp) (wordOf sp (slotAt x))) (spot-ahead (sp .pages) 0 k (omega (arith, r .enough)) ∙ omega arith)
+      ap (λ (b : Book). after m (layOut sp) (wordOf sp (slotAt (slotOf (sp .pages) (b .head) k)))) laid-book
+      ∙ ap (λ x. after m (layOut sp) (wordOf sp (slotAt x))) (slot-ahead (sp .pages) 0 k (omega (arith, r .enough)) ∙ omega arith)
       ∙ laid-word (slotAt k) (omega arith) (slot-word (sp .pages) k (omega arith))
       ∙ headed-behind counted sp (newFree sp) (slotAt k) (omega arith)
       ∙ row-other filled sp (slotAt (newFree sp)) (λ j. 0) (2 * sp .pages - newFree sp) (slotAt k) (inl (omega arith))
@@ -137,11 +137,11 @@ module _ (m : ℕ → ℕ) (sp : Space) (r : Roomy sp) (n : New sp) where
 
   -- what no operation uses yet: the header's last words, and the counts
   pub laid-rest : (k : ℕ) → headAt < k → k < headerWords → after m (layOut sp) (wordOf sp k) ≡ 0
-  unfolding headed markAt asideAt headAt
+  unfolding headed signatureAt asideAt headAt
   laid-rest k u v = laid-header k (omega arith) v ∙ headed-rest counted sp (newFree sp) k (omega arith) v
 
   pub laid-counts : (k : ℕ) → k < sp .pages → after m (layOut sp) (wordOf sp (countAt (sp .pages) k)) ≡ 0
-  unfolding counted headed markAt slotAt countAt bookWords
+  unfolding counted headed signatureAt slotAt countAt bookWords
   laid-counts k u =
       laid-word (countAt (sp .pages) k) (omega arith) (omega arith)
       ∙ headed-behind counted sp (newFree sp) (countAt (sp .pages) k) (omega arith)
@@ -152,12 +152,12 @@ module _ (m : ℕ → ℕ) (sp : Space) (r : Roomy sp) (n : New sp) where
   unfolding cleared
   laid-root j u =
       ap (λ (f : ℕ → ℕ). f (at (sp .root) j)) laid-is
-      ∙ after-other cleared (put sp markAt mark ∷ []) (sp .root) j u (every-map (λ q e x. omega (arith, e .1, n .behind)) (put sp markAt mark ∷ []) (mark-proper sp mark (omega arith)))
+      ∙ after-other cleared (put sp signatureAt signature ∷ []) (sp .root) j u (every-map (λ q e x. omega (arith, e .1, n .behind)) (put sp signatureAt signature ∷ []) (mark-proper sp signature (omega arith)))
       ∙ after-zeros headed (sp .root) 512 j u (omega arith)
 
   -- a page of the book but the first begins with a slot or a count
-  book-alone : (j : ℕ) → 0 < j → j < bookPages (sp .pages) → after m (layOut sp) (wordOf sp (512 * j)) ≢ mark
-  unfolding filled counted headed markAt slotAt headerWords bookWords bookPages
+  book-alone : (j : ℕ) → 0 < j → j < bookPages (sp .pages) → after m (layOut sp) (wordOf sp (512 * j)) ≢ signature
+  unfolding filled counted headed signatureAt slotAt headerWords bookWords bookPages
   book-alone j u v = go (decLt (512 * j) (slotAt (newFree sp)))
     where
       k : ℕ
@@ -166,7 +166,7 @@ module _ (m : ℕ → ℕ) (sp : Space) (r : Roomy sp) (n : New sp) where
       here : after m (layOut sp) (wordOf sp k) ≡ counted (wordOf sp k)
       here = laid-word k (omega arith) (omega arith) ∙ headed-behind counted sp (newFree sp) k (omega arith)
 
-      go : Dec (k < slotAt (newFree sp)) → after m (layOut sp) (wordOf sp k) ≢ mark
+      go : Dec (k < slotAt (newFree sp)) → after m (layOut sp) (wordOf sp k) ≢ signature
       go (yes a) e =
           let w = row-other filled sp (slotAt (newFree sp)) (λ i. 0) (2 * sp .pages - newFree sp) k (inl a) in
           let z = row-word bare sp (slotAt 0) (λ i. sp .root + 1 + i) (newFree sp) k (omega arith) (omega arith) in
@@ -180,23 +180,23 @@ module _ (m : ℕ → ℕ) (sp : Space) (r : Roomy sp) (n : New sp) where
   free-alone p u v =
       ap (λ (f : ℕ → ℕ). f (at p 0)) (after-append m (bared sp (newFree sp)) _)
       ∙ after-other bare _ p 0 (omega arith) behind
-      ∙ ap (λ (f : ℕ → ℕ). f (at p 0)) (after-append m (put sp markAt 0 ∷ []) (unmarks (sp .root + 1) (newFree sp)))
-      ∙ unmarks-first (after m (put sp markAt 0 ∷ [])) (sp .root + 1) (newFree sp) p (omega arith) (omega (arith, n .behind))
+      ∙ ap (λ (f : ℕ → ℕ). f (at p 0)) (after-append m (put sp signatureAt 0 ∷ []) (unmarks (sp .root + 1) (newFree sp)))
+      ∙ unmarks-first (after m (put sp signatureAt 0 ∷ [])) (sp .root + 1) (newFree sp) p (omega arith) (omega (arith, n .behind))
     where
       off : (xs : List Write) → Every (OfBook sp) xs → Every (λ q. q ≢ p) xs
       off xs h = every-map (λ q k e. omega (arith, k .1, e, n .behind)) xs h
 
-      behind : Every (λ q. q ≢ p) (slots sp (newFree sp) ++ (header sp (newFree sp) ++ (zeros (sp .root) 512 ++ (put sp markAt mark ∷ []))))
+      behind : Every (λ q. q ≢ p) (slots sp (newFree sp) ++ (headerWrites sp (newFree sp) ++ (zeros (sp .root) 512 ++ (put sp signatureAt signature ∷ []))))
       behind =
           every-append (slots sp (newFree sp)) _
           (every-append (fills sp (sp .root + 1) (newFree sp)) _ (off _ (fills-proper sp (sp .root + 1) (newFree sp) (omega arith) (omega (arith, r .small, r .low))))
           (off _ (rest-proper sp (newFree sp) (omega arith))))
-          (every-append (header sp (newFree sp)) _ (off _ (header-writes-proper sp (newFree sp) (omega (arith, r .small)) (omega (arith, r .low)) (omega (arith, r .small))))
-          (every-append (zeros (sp .root) 512) _ (every-zeros (sp .root) 512 (λ e. omega arith) (omega arith)) (off _ (mark-proper sp mark (omega arith)))))
+          (every-append (headerWrites sp (newFree sp)) _ (off _ (header-writes-proper sp (newFree sp) (omega (arith, r .small)) (omega (arith, r .low)) (omega (arith, r .small))))
+          (every-append (zeros (sp .root) 512) _ (every-zeros (sp .root) 512 (λ e. omega arith) (omega arith)) (off _ (mark-proper sp signature (omega arith)))))
 
   -- ONE BOOK: no other page of a new pool begins as one
   pub laid-alone : Alone sp (after m (layOut sp))
-  unfolding markAt
+  unfolding signatureAt
   laid-alone p u v e = go (decLt p (sp .root)) (decLt (sp .root) p)
     where
       go : Dec (p < sp .root) → Dec (sp .root < p) → ⊥
@@ -216,7 +216,7 @@ module _ (m : ℕ → ℕ) (sp : Space) (r : Roomy sp) (n : New sp) where
 
   -- THE BOOK OF A NEW POOL IS TRUE
   pub laid-booked : Booked sp (after m (layOut sp)) (newRole sp)
-  unfolding headed markAt pagesAt rootAt headerWords
+  unfolding headed signatureAt pagesAt rootAt headerWords
   laid-booked =
       booked-by sp (after m (layOut sp)) laid-book laid-mark
       (laid-header pagesAt (omega arith) (omega arith) ∙ headed-size counted sp (newFree sp))

@@ -14,9 +14,9 @@ use Rattle.pool.specs.declared.Book.{Book}
 use Rattle.pool.specs.declared.Listed.{Listed}
 use Rattle.pool.specs.declared.Listed.the-variants.{Page, Bad}
 use Rattle.pool.specs.Layout.{slotAt, bookPages}
-use Rattle.pool.specs.Book.{wordOf, bookOf, spotOf, pageAt, inPool, soundOf, namesOf, openedOf, usableOf, namedOf, listedOf}
+use Rattle.pool.specs.Book.{wordOf, bookOf, slotOf, pageAt, inPool, addsUpOf, namesOf, openedOf, usableOf, namedOf, listedOf}
 use Rattle.pool.specs.Booked.{Booked, Owned}
-use Rattle.pool.proofs.Counts.{InPool, pool-in, in-pool, is-sound, spot-in}
+use Rattle.pool.proofs.Counts.{InPool, pool-in, in-pool, is-sound, slot-in}
 use Rattle.pool.proofs.Words.{word-page, slot-word}
 use Rattle.pool.specs.declared.Fit.the-variants as fit
 use Rattle.pool.specs.declared.Opened.the-variants as opened
@@ -38,8 +38,8 @@ same-page p q e = cc
 pub listed-usable : (h : ℕ → Bool) (m : ℕ → ℕ) (sp : Space) (b : Book) (k p : ℕ) → listedOf h m sp b k ≡ Page p → Usable sp p
 unfolding listedOf namedOf usableOf
 listed-usable h m sp b k p e =
-    let w = slotAt (spotOf (sp .pages) (b .head) k) in
-    let a = page-yes (ltb k (b .free) && soundOf (sp .pages) b) _ p e in
+    let w = slotAt (slotOf (sp .pages) (b .head) k) in
+    let a = page-yes (ltb k (b .free) && addsUpOf (sp .pages) b) _ p e in
     let d = page-yes (h (sp .first + w / 512)) _ p (a .1) in
     let g = page-yes (not (eqb (m (wordOf sp w)) (sp .root)) && inPool sp (m (wordOf sp w))) _ p (d .1) in
     let t = and-both _ _ (g .0) in
@@ -93,10 +93,10 @@ module _ {sp : Space} {m : ℕ → ℕ} {role : ℕ → Role} (b : Booked sp m r
       → listedOf h m sp (bookOf m sp) k ≡ Page (pageAt m sp k)
   unfolding listedOf namedOf usableOf pageAt
   listed-free h w k u =
-      let j = spotOf (sp .pages) (bookOf m sp .head) k in
+      let j = slotOf (sp .pages) (bookOf m sp .head) k in
       let x = free-usable (m (wordOf sp (slotAt j))) (b .lists .frees k u) in
       simp (lt-ltb k (bookOf m sp .free) u, is-sound (sp .pages) (bookOf m sp) (b .sound))
-      (simp (held j (spot-in (sp .pages) (bookOf m sp .head) k (b .sound .head-in) (omega (arith, b .sound .room))), ne-eqb _ _ (x .no-root), in-pool sp _ (x .in-the-pool)))
+      (simp (held j (slot-in (sp .pages) (bookOf m sp .head) k (b .sound .head-in) (omega (arith, b .sound .room))), ne-eqb _ _ (x .no-root), in-pool sp _ (x .in-the-pool)))
     where
       -- the page of a slot
       held : (j : ℕ) → j < sp .pages → h (sp .first + slotAt j / 512) ≡ true

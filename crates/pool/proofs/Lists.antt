@@ -6,7 +6,7 @@ use native.Mathlib.Decide.{ℕ-discrete, decLt}
 use native.Mathlib.Omega.{arith}
 use Rattle.word.specs.Memory.{set}
 use Rattle.word.proofs.Set.{set-at, set-other}
-use Rattle.tables.specs.Roles.{Role, free, aside, table, Idle}
+use Rattle.tables.specs.Roles.{Role, free, aside, table, Unwalked}
 use Rattle.tables.proofs.Unseen.{Shifted}
 use Rattle.pool.specs.Booked.{Lists, Taken, thawed}
 
@@ -169,7 +169,7 @@ module _ {f : ℕ → ℕ} {n a : ℕ} {role : ℕ → Role} (h : Lists f n a ro
   thawed-shifted p = go (turned p)
     where
       go : ((j : ℕ) × (j < k) × (f (n + j) ≡ p)) ⊎ ((j : ℕ) → j < k → f (n + j) ≢ p)
-          → (thawed f n k role p ≡ role p) ⊎ (Idle (role p) × Idle (thawed f n k role p))
+          → (thawed f n k role p ≡ role p) ⊎ (Unwalked (role p) × Unwalked (thawed f n k role p))
       go (inl r) =
           let was : role p ≡ aside = ap role (sym (r .2)) ∙ h .asides (r .0) (omega (arith, r .1)) in
           let is : thawed f n k role p ≡ free = ap (thawed f n k role) (sym (r .2)) ∙ thawed-free f n k role (r .0) (r .1) in

@@ -13,10 +13,10 @@ use Rattle.pool.specs.declared.Space.{Space}
 use Rattle.pool.specs.declared.Fit.{Fit}
 use Rattle.pool.specs.declared.Fit.the-variants as fit
 use Rattle.pool.specs.declared.Created.the-variants as created
-use Rattle.pool.specs.Layout.{markAt, headAt, headerWords, slotAt, countAt, bookPages}
-use Rattle.pool.specs.Book.{wordOf, mark, roomOf}
+use Rattle.pool.specs.Layout.{signatureAt, headAt, headerWords, slotAt, countAt, bookPages}
+use Rattle.pool.specs.Book.{wordOf, signature, roomOf}
 use Rattle.pool.specs.Changes.{put}
-use Rattle.pool.specs.Create.{mayCreate, newSpace, fills, blanks, unmarks, bared, slots, header, newFree, layOut, Roomy, createdOf, createdIn, createWrites, createIn}
+use Rattle.pool.specs.Create.{mayCreate, newSpace, fills, blanks, unmarks, bared, slots, headerWrites, newFree, layOut, Roomy, createdOf, createdIn, createWrites, createIn}
 use Rattle.pool.specs.Booked.{settingOf, Booked, Alone, newRole}
 use Rattle.pool.proofs.Opening.{Fitting, may-fit, fit-small, fit-inside, roomy}
 use Rattle.pool.proofs.Proper.{OfBook, fills-proper, rest-proper, header-writes-proper, mark-proper}
@@ -29,23 +29,23 @@ pub laid-proper : (sp : Space) → Roomy sp → New sp → Every (λ p. (sp .fir
 unfolding layOut bared slots
 laid-proper sp r n =
     every-append (bared sp (newFree sp)) _
-    (every-append (put sp markAt 0 ∷ []) _ (wide (put sp markAt 0 ∷ []) (mark-proper sp 0 (omega arith)))
+    (every-append (put sp signatureAt 0 ∷ []) _ (wide (put sp signatureAt 0 ∷ []) (mark-proper sp 0 (omega arith)))
     (unmarks-proper (sp .root + 1) (newFree sp) (λ q u v. (omega (arith, n .behind), omega (arith, n .behind, r .enough)))))
     (every-append (slots sp (newFree sp)) _
     (every-append (fills sp (sp .root + 1) (newFree sp)) _
     (wide (fills sp (sp .root + 1) (newFree sp)) (fills-proper sp (sp .root + 1) (newFree sp) (omega arith) (omega (arith, r .small, r .low))))
     (wide (blanks sp (slotAt (newFree sp)) (2 * sp .pages - newFree sp)) (rest-proper sp (newFree sp) (omega arith))))
-    (every-append (header sp (newFree sp)) _
-    (wide (header sp (newFree sp)) (header-writes-proper sp (newFree sp) (omega (arith, r .small)) (omega (arith, r .low)) (omega (arith, r .small))))
+    (every-append (headerWrites sp (newFree sp)) _
+    (wide (headerWrites sp (newFree sp)) (header-writes-proper sp (newFree sp) (omega (arith, r .small)) (omega (arith, r .low)) (omega (arith, r .small))))
     (every-append (zeros (sp .root) 512) _
     (every-zeros (sp .root) 512 (omega (arith, n .behind), omega (arith, n .behind, r .enough)) (omega arith))
-    (wide (put sp markAt mark ∷ []) (mark-proper sp mark (omega arith))))))
+    (wide (put sp signatureAt signature ∷ []) (mark-proper sp signature (omega arith))))))
   where
     wide : (xs : List Write) → Every (OfBook sp) xs → Every (λ p. (sp .first ≤ p) × (p < sp .first + sp .pages)) xs
     wide xs h = every-map (λ p k. (k .0, omega (arith, k .1, r .enough))) xs h
 
 -- tables that were built, with a true book, in these bytes; every page behind the root is free, and what later requests keep in the book is 0
-pub record Fresh (s : List ℕ) (sp : Space) : Type 0 where
+pub record NewPool (s : List ℕ) (sp : Space) : Type 0 where
   pub sound : tables.Sound (settingOf (holds s (sp .origin)) sp) (memory s (sp .origin)) (newRole sp)
   pub booked : Booked sp (memory s (sp .origin)) (newRole sp)
   pub alone : Alone sp (memory s (sp .origin))
@@ -53,7 +53,7 @@ pub record Fresh (s : List ℕ) (sp : Space) : Type 0 where
   pub counts : (k : ℕ) → k < sp .pages → memory s (sp .origin) (wordOf sp (countAt (sp .pages) k)) ≡ 0
 
 module _ (s : List ℕ) (origin first pages : ℕ) where
-  pub fit-fresh : mayCreate (length s) (holds s origin) origin first pages ≡ fit.Fits → Fresh (carried s origin (layOut (newSpace origin first pages))) (newSpace origin first pages)
+  pub fit-fresh : mayCreate (length s) (holds s origin) origin first pages ≡ fit.Fits → NewPool (carried s origin (layOut (newSpace origin first pages))) (newSpace origin first pages)
   fit-fresh e = record {
     sound =
         rw (holds-carried s origin (layOut sp), bytes)
@@ -84,12 +84,12 @@ module _ (s : List ℕ) (origin first pages : ℕ) where
 
   -- WHAT CREATE HAS MADE, by its answer: the bytes that it leaves hold an empty root and a true book
   pub create-makes : (p : ℕ) → createdOf (length s) (holds s origin) origin first pages ≡ created.Root p
-      → (p ≡ first + bookPages pages) × Fresh (carried s origin (createWrites (length s) (holds s origin) origin first pages)) (newSpace origin first pages)
+      → (p ≡ first + bookPages pages) × NewPool (carried s origin (createWrites (length s) (holds s origin) origin first pages)) (newSpace origin first pages)
   unfolding createdOf createdIn createWrites createIn
   create-makes p e = go (mayCreate (length s) (holds s origin) origin first pages) refl e
     where
       go : (r : Fit) → mayCreate (length s) (holds s origin) origin first pages ≡ r → createdIn first pages r ≡ created.Root p
-          → (p ≡ first + bookPages pages) × Fresh (carried s origin (createIn (newSpace origin first pages) r)) (newSpace origin first pages)
+          → (p ≡ first + bookPages pages) × NewPool (carried s origin (createIn (newSpace origin first pages) r)) (newSpace origin first pages)
       go fit.Fits f e = (cc, fit-fresh f)
       go (fit.Refused r) f e = let z : _≡_ {A = ℕ} 0 1 = cc in absurd (omega arith)
 
@@ -98,8 +98,8 @@ unfolding mayCreate roomOf holds bookPages
 fits-three s e = rw e
 
 -- A WITNESS: any three pages at address 0, of zeros for one, become a pool of three pages, one of them free
-pub three-pages : (s : List ℕ) → length s ≡ 12288 → Fresh (carried s 0 (layOut (newSpace 0 0 3))) (newSpace 0 0 3)
+pub three-pages : (s : List ℕ) → length s ≡ 12288 → NewPool (carried s 0 (layOut (newSpace 0 0 3))) (newSpace 0 0 3)
 three-pages s e = fit-fresh s 0 0 3 (fits-three s e)
 
-pub three-zero-pages : Fresh (carried (replicate {A = ℕ} 12288 0) 0 (layOut (newSpace 0 0 3))) (newSpace 0 0 3)
+pub three-zero-pages : NewPool (carried (replicate {A = ℕ} 12288 0) 0 (layOut (newSpace 0 0 3))) (newSpace 0 0 3)
 three-zero-pages = three-pages (replicate {A = ℕ} 12288 0) (length-replicate {A = ℕ} 12288 0)

@@ -7,7 +7,7 @@ use native.Mathlib.Decide.{decLe, decLt, ℕ-discrete}
 use native.Mathlib.Omega.{arith}
 use borrow.Author.Tests.{le-leb, lt-leb, lt-ltb, le-ltb, eq-eqb, ne-eqb}
 use Rattle.tables.specs.Roles.{Role, foreign, free, aside, book, root, table, Sound, Zero}
-use Rattle.tables.specs.Start.{Fresh}
+use Rattle.tables.specs.Start.{NewRoles}
 use Rattle.tables.proofs.Start.{fresh-sound}
 use Rattle.pool.specs.declared.Space.{Space}
 use Rattle.pool.specs.Layout.{bookPages}
@@ -20,18 +20,18 @@ pub record New (sp : Space) : Type 0 where
   pub behind : sp .root ≡ sp .first + bookPages (sp .pages)
 
 -- where a page lies, by its role
-data Lies (sp : Space) (p : ℕ) : Role → Type 0 where
-  in-book : sp .first ≤ p → p < sp .first + bookPages (sp .pages) → Lies sp p book
-  at-root : p ≡ sp .root → Lies sp p root
-  beyond : sp .root < p → p < sp .first + sp .pages → Lies sp p free
-  out : ¬ ((sp .first ≤ p) × (p < sp .first + sp .pages)) → Lies sp p foreign
+data LiesByRole (sp : Space) (p : ℕ) : Role → Type 0 where
+  in-book : sp .first ≤ p → p < sp .first + bookPages (sp .pages) → LiesByRole sp p book
+  at-root : p ≡ sp .root → LiesByRole sp p root
+  beyond : sp .root < p → p < sp .first + sp .pages → LiesByRole sp p free
+  out : ¬ ((sp .first ≤ p) × (p < sp .first + sp .pages)) → LiesByRole sp p foreign
 
 module _ {sp : Space} (n : New sp) where
-  lies : (p : ℕ) → Lies sp p (newRole sp p)
+  lies : (p : ℕ) → LiesByRole sp p (newRole sp p)
   unfolding newRole
   lies p = go (decLe (sp .first) p) (decLt p (sp .first + sp .pages)) (decLt p (sp .first + bookPages (sp .pages))) (ℕ-discrete p (sp .first + bookPages (sp .pages)))
     where
-      go : Dec (sp .first ≤ p) → Dec (p < sp .first + sp .pages) → Dec (p < sp .first + bookPages (sp .pages)) → Dec (p ≡ sp .first + bookPages (sp .pages)) → Lies sp p (newRole sp p)
+      go : Dec (sp .first ≤ p) → Dec (p < sp .first + sp .pages) → Dec (p < sp .first + bookPages (sp .pages)) → Dec (p ≡ sp .first + bookPages (sp .pages)) → LiesByRole sp p (newRole sp p)
       go (no a) b c d = rw (lt-leb (sp .first) p (omega arith)) (out (λ x. a (x .0)))
       go (yes a) (no b) c d = rw (le-leb (sp .first) p a, le-ltb p (sp .first + sp .pages) (omega arith)) (out (λ x. b (x .1)))
       go (yes a) (yes b) (yes c) d =
@@ -44,19 +44,19 @@ module _ {sp : Space} (n : New sp) where
           (beyond (omega (arith, n .behind)) b)
 
   -- its role, by where it lies
-  role-book : (r : Role) (p : ℕ) → Lies sp p r → sp .first ≤ p → p < sp .first + bookPages (sp .pages) → r ≡ book
+  role-book : (r : Role) (p : ℕ) → LiesByRole sp p r → sp .first ≤ p → p < sp .first + bookPages (sp .pages) → r ≡ book
   role-book r p (in-book x y) u v = refl
   role-book r p (at-root x) u v = absurd (omega (arith, n .behind))
   role-book r p (beyond x y) u v = absurd (omega (arith, n .behind))
   role-book r p (out x) u v = absurd (x (u, omega (arith, n .enough)))
 
-  role-root : (r : Role) → Lies sp (sp .root) r → r ≡ root
+  role-root : (r : Role) → LiesByRole sp (sp .root) r → r ≡ root
   role-root r (in-book x y) = absurd (omega (arith, n .behind))
   role-root r (at-root x) = refl
   role-root r (beyond x y) = absurd (omega arith)
   role-root r (out x) = absurd (x (omega (arith, n .behind), omega (arith, n .behind, n .enough)))
 
-  role-free : (r : Role) (p : ℕ) → Lies sp p r → sp .root < p → p < sp .first + sp .pages → r ≡ free
+  role-free : (r : Role) (p : ℕ) → LiesByRole sp p r → sp .root < p → p < sp .first + sp .pages → r ≡ free
   role-free r p (in-book x y) u v = absurd (omega (arith, n .behind))
   role-free r p (at-root x) u v = absurd (omega arith)
   role-free r p (beyond x y) u v = refl
@@ -75,7 +75,7 @@ module _ {sp : Space} (n : New sp) where
   pub book-lies : (p : ℕ) → newRole sp p ≡ book → (sp .first ≤ p) × (p < sp .first + bookPages (sp .pages))
   book-lies p e = go (newRole sp p) (lies p) e
     where
-      go : (r : Role) → Lies sp p r → r ≡ book → (sp .first ≤ p) × (p < sp .first + bookPages (sp .pages))
+      go : (r : Role) → LiesByRole sp p r → r ≡ book → (sp .first ≤ p) × (p < sp .first + bookPages (sp .pages))
       go r (in-book x y) e = (x, y)
       go r (at-root x) e = let z : _≡_ {A = ℕ} 0 1 = cc in absurd (omega arith)
       go r (beyond x y) e = let z : _≡_ {A = ℕ} 0 1 = cc in absurd (omega arith)
@@ -84,7 +84,7 @@ module _ {sp : Space} (n : New sp) where
   pub free-lies : (p : ℕ) → newRole sp p ≡ free → (sp .root < p) × (p < sp .first + sp .pages)
   free-lies p e = go (newRole sp p) (lies p) e
     where
-      go : (r : Role) → Lies sp p r → r ≡ free → (sp .root < p) × (p < sp .first + sp .pages)
+      go : (r : Role) → LiesByRole sp p r → r ≡ free → (sp .root < p) × (p < sp .first + sp .pages)
       go r (in-book x y) e = let z : _≡_ {A = ℕ} 0 1 = cc in absurd (omega arith)
       go r (at-root x) e = let z : _≡_ {A = ℕ} 0 1 = cc in absurd (omega arith)
       go r (beyond x y) e = (x, y)
@@ -94,7 +94,7 @@ module _ {sp : Space} (n : New sp) where
   pub never-aside : (p : ℕ) → newRole sp p ≢ aside
   never-aside p e = go (newRole sp p) (lies p) e
     where
-      go : (r : Role) → Lies sp p r → r ≢ aside
+      go : (r : Role) → LiesByRole sp p r → r ≢ aside
       go r (in-book x y) e = let z : _≡_ {A = ℕ} 0 1 = cc in omega arith
       go r (at-root x) e = let z : _≡_ {A = ℕ} 0 1 = cc in omega arith
       go r (beyond x y) e = let z : _≡_ {A = ℕ} 0 1 = cc in omega arith
@@ -103,7 +103,7 @@ module _ {sp : Space} (n : New sp) where
   never-table : (p l q i : ℕ) → newRole sp p ≢ table l q i
   never-table p l q i e = go (newRole sp p) (lies p) e
     where
-      go : (r : Role) → Lies sp p r → r ≢ table l q i
+      go : (r : Role) → LiesByRole sp p r → r ≢ table l q i
       go r (in-book x y) e = let z : _≡_ {A = ℕ} 0 1 = cc in omega arith
       go r (at-root x) e = let z : _≡_ {A = ℕ} 0 1 = cc in omega arith
       go r (beyond x y) e = let z : _≡_ {A = ℕ} 0 1 = cc in omega arith
@@ -112,7 +112,7 @@ module _ {sp : Space} (n : New sp) where
   in-pool : (p : ℕ) → newRole sp p ≢ foreign → (sp .first ≤ p) × (p < sp .first + sp .pages)
   in-pool p d = go (newRole sp p) (lies p) d
     where
-      go : (r : Role) → Lies sp p r → r ≢ foreign → (sp .first ≤ p) × (p < sp .first + sp .pages)
+      go : (r : Role) → LiesByRole sp p r → r ≢ foreign → (sp .first ≤ p) × (p < sp .first + sp .pages)
       go r (in-book x y) d = (x, omega (arith, n .enough))
       go r (at-root x) d = (omega (arith, n .behind), omega (arith, n .behind, n .enough))
       go r (beyond x y) d = (omega (arith, n .behind), y)
@@ -121,7 +121,7 @@ module _ {sp : Space} (n : New sp) where
   not-foreign : (p : ℕ) → sp .first ≤ p → p < sp .first + sp .pages → newRole sp p ≢ foreign
   not-foreign p u v e = go (newRole sp p) (lies p) e
     where
-      go : (r : Role) → Lies sp p r → r ≢ foreign
+      go : (r : Role) → LiesByRole sp p r → r ≢ foreign
       go r (in-book x y) e = let z : _≡_ {A = ℕ} 0 1 = cc in omega arith
       go r (at-root x) e = let z : _≡_ {A = ℕ} 0 1 = cc in omega arith
       go r (beyond x y) e = let z : _≡_ {A = ℕ} 0 1 = cc in omega arith
@@ -130,7 +130,7 @@ module _ {sp : Space} (n : New sp) where
   root-lies : (p : ℕ) → newRole sp p ≡ root → p ≡ sp .root
   root-lies p e = go (newRole sp p) (lies p) e
     where
-      go : (r : Role) → Lies sp p r → r ≡ root → p ≡ sp .root
+      go : (r : Role) → LiesByRole sp p r → r ≡ root → p ≡ sp .root
       go r (in-book x y) e = let z : _≡_ {A = ℕ} 0 1 = cc in absurd (omega arith)
       go r (at-root x) e = x
       go r (beyond x y) e = let z : _≡_ {A = ℕ} 0 1 = cc in absurd (omega arith)
@@ -141,7 +141,7 @@ module _ {sp : Space} (n : New sp) where
       → Sound (settingOf h sp) m (newRole sp)
   new-sound h m low w z = fresh-sound m fresh (rw (root-page (sp .root) low) z)
     where
-      fresh : Fresh (settingOf h sp) (newRole sp)
+      fresh : NewRoles (settingOf h sp) (newRole sp)
       fresh = record {
         home = λ p d. let k = in-pool p d in record { from = k .0; upto = k .1; held = w p (k .0) (k .1) };
         whole = not-foreign;

@@ -10,15 +10,15 @@ use Rattle.word.specs.declared.Cell.{Cell}
 use Rattle.word.specs.declared.Cell.the-variants as cell
 use Rattle.word.proofs.Memory.{read-word, read-outside, held}
 use Rattle.word.specs.Runs.{amongOf}
-use Rattle.word.proofs.Runs.{Run, Among, spans-run, spans-ends, run-holds, word-among, outside-among}
+use Rattle.word.proofs.Runs.{Run, InRun, spans-run, spans-ends, run-holds, word-among, outside-among}
 use Rattle.word.proofs.Tests.{and-both}
 use Rattle.pool.specs.declared.Space.{Space}
 use Rattle.pool.specs.declared.Fit.{Fit}
 use Rattle.pool.specs.declared.Fit.the-variants as fit
 use Rattle.pool.specs.declared.Reason.{Reason}
 use Rattle.pool.specs.declared.Listed.the-variants.{Bad}
-use Rattle.pool.specs.Layout.{markAt, pagesAt, rootAt, headAt, freeAt, asideAt, ticketsAt, bookPages}
-use Rattle.pool.specs.Book.{wordOf, mark, bookOf, roomOf, inPool, soundOf, Sound, headedOf, rootedIn, namesOf, namesIn, openedOf, openedIn, countsOf, namedOf, usableOf}
+use Rattle.pool.specs.Layout.{signatureAt, pagesAt, rootAt, headAt, freeAt, asideAt, ticketsAt, bookPages}
+use Rattle.pool.specs.Book.{wordOf, signature, bookOf, roomOf, inPool, addsUpOf, AddsUp, headedOf, rootedIn, namesOf, namesIn, openedOf, openedIn, countsOf, namedOf, usableOf}
 use Rattle.pool.specs.State.{wordIn, wordNow, bookNow}
 use Rattle.pool.specs.Stands.{standsOf}
 use Rattle.pool.specs.Create.{mayCreate, newSpace, Roomy}
@@ -27,7 +27,7 @@ use borrow.Author.Tests.{leb-true, le-leb, eqb-true, eq-eqb}
 use Rattle.pool.specs.declared.Book.{Book}
 use Rattle.pool.specs.declared.Opened.{Opened}
 use Rattle.pool.specs.declared.Opened.the-variants as opened
-use Rattle.pool.proofs.Counts.{InPool, pool-in, in-pool, sound-is, is-sound}
+use Rattle.pool.proofs.Counts.{InPool, pool-in, in-pool, adds-up-is, is-sound}
 
 module _ (s : List ℕ) (sp : Space) (k : ℕ) where
   pub named-word : (w : ℕ) → readOf s (sp .origin) (sp .first + k / 512) (k % 512) ≡ cell.Word w → usableOf sp w ≡ namedOf (holds s (sp .origin)) (memory s (sp .origin)) sp k
@@ -83,7 +83,7 @@ fit-inside s origin first pages f = run-holds s origin first pages (fit-runs s o
 
 -- a word of the header, as the code reads it
 head-among : (s : List ℕ) (sp : Space) (i : ℕ) → i < 512 → roomOf (holds s (sp .origin)) (sp .first) (sp .pages) ≡ fit.Fits
-    → Among s (sp .origin) (sp .first) (sp .pages) 0 (sp .first) i
+    → InRun s (sp .origin) (sp .first) (sp .pages) 0 (sp .first) i
 head-among s sp i u e =
     let f = fitting (holds s (sp .origin)) (sp .first) (sp .pages) e in
     record { run = fit-runs s (sp .origin) (sp .first) (sp .pages) f; small = u; behind = omega arith; before-end = omega (arith, f .enough) }
@@ -112,7 +112,7 @@ now-is s sp f = rw (word 6 (omega arith), word 4 (omega arith), word 5 (omega ar
 pub record Names (h : ℕ → Bool) (m : ℕ → ℕ) (sp : Space) : Type 0 where
   pub fits : Fitting h (sp .first) (sp .pages)
   pub inside : InPool sp (sp .root)
-  pub marked : m (wordOf sp markAt) ≡ mark
+  pub marked : m (wordOf sp signatureAt) ≡ signature
   pub sized : m (wordOf sp pagesAt) ≡ sp .pages
   pub rooted : m (wordOf sp rootAt) ≡ sp .root
 
@@ -137,7 +137,7 @@ module _ (h : ℕ → Bool) (m : ℕ → ℕ) (sp : Space) where
   names-shows e =
       let f = names-room e in
       let r = root-yes sp (headedOf m sp) (rw f at e) in
-      let a = fit-yes (eqb (m (wordOf sp markAt)) mark) _ _ (r .0) in
+      let a = fit-yes (eqb (m (wordOf sp signatureAt)) signature) _ _ (r .0) in
       let b = fit-yes (eqb (m (wordOf sp pagesAt)) (sp .pages)) _ _ (a .1) in
       let d = fit-yes (eqb (m (wordOf sp rootAt)) (sp .root)) _ _ (b .1) in
       record {
@@ -162,7 +162,7 @@ module _ (h : ℕ → Bool) (m : ℕ → ℕ) (sp : Space) where
 -- WHAT AN OPENED BOOK SHOWS, for any bytes
 pub record Open (h : ℕ → Bool) (m : ℕ → ℕ) (sp : Space) (b : Book) : Type 0 where
   pub names : Names h m sp
-  pub sound : Sound (sp .pages) b
+  pub sound : AddsUp (sp .pages) b
   pub read : bookOf m sp ≡ b
 
 open-yes : (t : Bool) (x : Opened) (r : Reason) (b : Book) → cond t x (opened.Refused r) ≡ opened.Book b → (t ≡ true) × (x ≡ opened.Book b)
@@ -179,15 +179,15 @@ open-shows h m sp b e = go (namesOf h m sp) refl e
     go : (r : Fit) → namesOf h m sp ≡ r → openedIn m sp r ≡ opened.Book b → Open h m sp b
     go (fit.Refused r) f e = let z : _≡_ {A = ℕ} 0 1 = cc in absurd (omega arith)
     go fit.Fits f e =
-        let k = open-yes (soundOf (sp .pages) (bookOf m sp)) _ _ b e in
+        let k = open-yes (addsUpOf (sp .pages) (bookOf m sp)) _ _ b e in
         let same = same-book (bookOf m sp) b (k .1) in
         record {
           names = names-shows h m sp f;
-          sound = subst (λ (x : Book). Sound (sp .pages) x) same (sound-is (sp .pages) (bookOf m sp) (k .0));
+          sound = subst (λ (x : Book). AddsUp (sp .pages) x) same (adds-up-is (sp .pages) (bookOf m sp) (k .0));
           read = same;
         }
 
 -- and so it is opened
-pub opens : (h : ℕ → Bool) (m : ℕ → ℕ) (sp : Space) → Names h m sp → Sound (sp .pages) (bookOf m sp) → openedOf h m sp ≡ opened.Book (bookOf m sp)
+pub opens : (h : ℕ → Bool) (m : ℕ → ℕ) (sp : Space) → Names h m sp → AddsUp (sp .pages) (bookOf m sp) → openedOf h m sp ≡ opened.Book (bookOf m sp)
 unfolding openedOf openedIn countsOf
 opens h m sp k s = simp (names h m sp k, is-sound (sp .pages) (bookOf m sp) s)

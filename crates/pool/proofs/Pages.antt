@@ -10,7 +10,7 @@ use Rattle.pool.specs.Layout.{bookPages}
 use Rattle.pool.specs.Book.{bookOf, pageAt}
 use Rattle.entry.specs.Entry.{tableOf}
 use Rattle.pool.specs.Booked.{settingOf, Booked, tablesOf, howMany, isFree, isAside, isBook, isRoot, Owned, OneOf, of-book, listed-free, listed-aside, the-root, a-table}
-use Rattle.pool.proofs.Census.{Names, names-count, census}
+use Rattle.pool.proofs.Census.{ListsAll, names-count, census}
 
 -- the root's page, from CR3
 pub root-page : (p : ℕ) → p < 2 ^ 40 → tableOf (4096 * p) ≡ p
@@ -64,7 +64,7 @@ module _ {sp : Space} {role : ℕ → Role} (o : Owned sp role) where
   within : (t : Role → Bool) (x : Role) → t x ≡ true → x ≢ foreign → (p : ℕ) → role p ≡ x → (sp .first ≤ p) × (p < sp .first + sp .pages) × (t (role p) ≡ true)
   within t x y n p e = let k = o .home p (λ z. n (sym e ∙ z)) in (k .0, k .1, ap t e ∙ y)
 
-  root-names : Names (λ p. isRoot (role p)) (sp .first) (sp .pages) (λ j. sp .root) 1
+  root-names : ListsAll (λ p. isRoot (role p)) (sp .first) (sp .pages) (λ j. sp .root) 1
   root-names = record {
     within = λ j u. within isRoot root refl (λ e. let z : _≡_ {A = ℕ} 0 1 = cc in omega arith) (sp .root) (o .starts);
     all = λ p u v e. (0, omega arith, sym (o .alone p (root-is (role p) e)));
@@ -72,21 +72,21 @@ module _ {sp : Space} {role : ℕ → Role} (o : Owned sp role) where
   }
 
   module _ {m : ℕ → ℕ} (b : Booked sp m role) where
-    free-names : Names (λ p. isFree (role p)) (sp .first) (sp .pages) (pageAt m sp) (bookOf m sp .free)
+    free-names : ListsAll (λ p. isFree (role p)) (sp .first) (sp .pages) (pageAt m sp) (bookOf m sp .free)
     free-names = record {
       within = λ j u. within isFree free refl (λ e. let z : _≡_ {A = ℕ} 0 1 = cc in omega arith) (pageAt m sp j) (b .lists .frees j u);
       all = λ p u v e. b .lists .free-listed p (free-is (role p) e);
       once = λ i j u v e. b .lists .once i j (omega arith) (omega arith) e;
     }
 
-    aside-names : Names (λ p. isAside (role p)) (sp .first) (sp .pages) (λ j. pageAt m sp (bookOf m sp .free + j)) (bookOf m sp .aside)
+    aside-names : ListsAll (λ p. isAside (role p)) (sp .first) (sp .pages) (λ j. pageAt m sp (bookOf m sp .free + j)) (bookOf m sp .aside)
     aside-names = record {
       within = λ j u. within isAside aside refl (λ e. let z : _≡_ {A = ℕ} 0 1 = cc in omega arith) (pageAt m sp (bookOf m sp .free + j)) (b .lists .asides j u);
       all = λ p u v e. b .lists .aside-listed p (aside-is (role p) e);
       once = λ i j u v e. let r = b .lists .once (bookOf m sp .free + i) (bookOf m sp .free + j) (omega arith) (omega arith) e in omega arith;
     }
 
-    book-names : Names (λ p. isBook (role p)) (sp .first) (sp .pages) (λ j. sp .first + j) (bookPages (sp .pages))
+    book-names : ListsAll (λ p. isBook (role p)) (sp .first) (sp .pages) (λ j. sp .first + j) (bookPages (sp .pages))
     book-names = record {
       within = λ j u. within isBook book refl (λ e. let z : _≡_ {A = ℕ} 0 1 = cc in omega arith) (sp .first + j) (b .in-book (sp .first + j) (omega arith) (omega arith));
       all = λ p u v e. let k = b .no-other p (book-is (role p) e) in (p - sp .first, omega (arith, k .0, k .1), omega (arith, k .0));

@@ -12,11 +12,11 @@ use Rattle.word.proofs.Writes.{every-append}
 use Rattle.word.specs.Writes.Every.{none, more}
 use Rattle.pool.specs.declared.Space.{Space}
 use Rattle.pool.specs.declared.Book.{Book}
-use Rattle.pool.specs.Layout.{markAt, pagesAt, rootAt, ticketsAt, freeAt, asideAt, headAt, headerWords, slotAt, bookWords, bookPages}
-use Rattle.pool.specs.Book.{spotOf, soundOf, Sound}
+use Rattle.pool.specs.Layout.{signatureAt, pagesAt, rootAt, ticketsAt, freeAt, asideAt, headAt, headerWords, slotAt, bookWords, bookPages}
+use Rattle.pool.specs.Book.{slotOf, addsUpOf, AddsUp}
 use Rattle.pool.specs.Changes.{put, tookWrites, asideWrites, releaseWrites}
-use Rattle.pool.specs.Create.{row, fills, blanks, header}
-use Rattle.pool.proofs.Counts.{sound-is, spot-in}
+use Rattle.pool.specs.Create.{row, fills, blanks, headerWrites}
+use Rattle.pool.proofs.Counts.{adds-up-is, slot-in}
 use Rattle.pool.proofs.Words.{word-page, header-word, slot-word}
 
 -- page q is one of the book's
@@ -40,27 +40,27 @@ slot-proper sp j w u v = word-proper sp (slotAt j) w (slot-word (sp .pages) j u)
 
 pub took-proper : (sp : Space) (b : Book) (k : ℕ) → Every (OfBook sp) (tookWrites sp b k)
 unfolding tookWrites headAt freeAt headerWords
-took-proper sp b k = if-so (leb k (b .free) && soundOf (sp .pages) b) _ (λ e. let t = and-both (leb k (b .free)) (soundOf (sp .pages) b) e in go (leb-true k (b .free) (t .0)) (sound-is (sp .pages) b (t .1)))
+took-proper sp b k = if-so (leb k (b .free) && addsUpOf (sp .pages) b) _ (λ e. let t = and-both (leb k (b .free)) (addsUpOf (sp .pages) b) e in go (leb-true k (b .free) (t .0)) (adds-up-is (sp .pages) b (t .1)))
   where
-    go : k ≤ b .free → Sound (sp .pages) b → Every (OfBook sp) (put sp headAt (spotOf (sp .pages) (b .head) k) ∷ put sp freeAt (b .free - k) ∷ [])
+    go : k ≤ b .free → AddsUp (sp .pages) b → Every (OfBook sp) (put sp headAt (slotOf (sp .pages) (b .head) k) ∷ put sp freeAt (b .free - k) ∷ [])
     go u s =
-        more (header-proper sp headAt (spotOf (sp .pages) (b .head) k) (omega arith) (omega (arith, s .small, spot-in (sp .pages) (b .head) k (s .head-in) (omega (arith, s .room)))))
+        more (header-proper sp headAt (slotOf (sp .pages) (b .head) k) (omega arith) (omega (arith, s .small, slot-in (sp .pages) (b .head) k (s .head-in) (omega (arith, s .room)))))
         (more (header-proper sp freeAt (b .free - k) (omega arith) (omega (arith, s .small, s .room))) none)
 
 pub aside-proper : (sp : Space) (b : Book) (p : ℕ) → p < 2 ^ 64 → Every (OfBook sp) (asideWrites sp b p)
 unfolding asideWrites asideAt headerWords
-aside-proper sp b p u = if-so (soundOf (sp .pages) b) _ (λ e. go (sound-is (sp .pages) b e))
+aside-proper sp b p u = if-so (addsUpOf (sp .pages) b) _ (λ e. go (adds-up-is (sp .pages) b e))
   where
-    go : Sound (sp .pages) b → Every (OfBook sp) (put sp (slotAt (spotOf (sp .pages) (b .head) (b .free + b .aside))) p ∷ put sp asideAt (b .aside + 1) ∷ [])
+    go : AddsUp (sp .pages) b → Every (OfBook sp) (put sp (slotAt (slotOf (sp .pages) (b .head) (b .free + b .aside))) p ∷ put sp asideAt (b .aside + 1) ∷ [])
     go s =
-        more (slot-proper sp _ p (spot-in (sp .pages) (b .head) (b .free + b .aside) (s .head-in) (omega (arith, s .room))) u)
+        more (slot-proper sp _ p (slot-in (sp .pages) (b .head) (b .free + b .aside) (s .head-in) (omega (arith, s .room))) u)
         (more (header-proper sp asideAt (b .aside + 1) (omega arith) (omega (arith, s .small, s .room))) none)
 
 pub release-proper : (sp : Space) (b : Book) (k : ℕ) → Every (OfBook sp) (releaseWrites sp b k)
 unfolding releaseWrites freeAt asideAt ticketsAt headerWords
-release-proper sp b k = if-so (leb k (b .aside) && soundOf (sp .pages) b) _ (λ e. let t = and-both (leb k (b .aside)) (soundOf (sp .pages) b) e in go (leb-true k (b .aside) (t .0)) (sound-is (sp .pages) b (t .1)))
+release-proper sp b k = if-so (leb k (b .aside) && addsUpOf (sp .pages) b) _ (λ e. let t = and-both (leb k (b .aside)) (addsUpOf (sp .pages) b) e in go (leb-true k (b .aside) (t .0)) (adds-up-is (sp .pages) b (t .1)))
   where
-    go : k ≤ b .aside → Sound (sp .pages) b → Every (OfBook sp) (put sp freeAt (b .free + k) ∷ put sp asideAt (b .aside - k) ∷ put sp ticketsAt (b .tickets + k) ∷ [])
+    go : k ≤ b .aside → AddsUp (sp .pages) b → Every (OfBook sp) (put sp freeAt (b .free + k) ∷ put sp asideAt (b .aside - k) ∷ put sp ticketsAt (b .tickets + k) ∷ [])
     go u s =
         more (header-proper sp freeAt (b .free + k) (omega arith) (omega (arith, s .small, s .room)))
         (more (header-proper sp asideAt (b .aside - k) (omega arith) (omega (arith, s .small, s .room)))
@@ -81,14 +81,14 @@ pub rest-proper : (sp : Space) (n : ℕ) → n ≤ 2 * sp .pages → Every (OfBo
 unfolding slotAt bookWords
 rest-proper sp n u = row-proper sp (slotAt n) (λ j. 0) (2 * sp .pages - n) (omega arith) (λ j w. omega arith)
 
-pub header-writes-proper : (sp : Space) (free : ℕ) → sp .pages < 2 ^ 64 → sp .root < 2 ^ 64 → free < 2 ^ 64 → Every (OfBook sp) (header sp free)
-unfolding header pagesAt rootAt ticketsAt freeAt asideAt bookWords
+pub header-writes-proper : (sp : Space) (free : ℕ) → sp .pages < 2 ^ 64 → sp .root < 2 ^ 64 → free < 2 ^ 64 → Every (OfBook sp) (headerWrites sp free)
+unfolding headerWrites pagesAt rootAt ticketsAt freeAt asideAt bookWords
 header-writes-proper sp free u r v =
     more (header-proper sp pagesAt _ (omega arith) u)
     (more (header-proper sp rootAt _ (omega arith) r)
     (more (header-proper sp ticketsAt 0 (omega arith) (omega arith))
     (more (header-proper sp freeAt _ (omega arith) v) (row-proper sp asideAt (λ j. 0) (headerWords - asideAt) (omega arith) (λ j w. omega arith)))))
 
-pub mark-proper : (sp : Space) (w : ℕ) → w < 2 ^ 64 → Every (OfBook sp) (put sp markAt w ∷ [])
-unfolding markAt headerWords
-mark-proper sp w u = more (header-proper sp markAt w (omega arith) u) none
+pub mark-proper : (sp : Space) (w : ℕ) → w < 2 ^ 64 → Every (OfBook sp) (put sp signatureAt w ∷ [])
+unfolding signatureAt headerWords
+mark-proper sp w u = more (header-proper sp signatureAt w (omega arith) u) none

@@ -11,8 +11,8 @@ use Rattle.word.specs.Writes.{after}
 use Rattle.tables.specs.Roles.{Role, free, aside, book}
 use Rattle.pool.specs.declared.Space.{Space}
 use Rattle.pool.specs.declared.Book.{Book}
-use Rattle.pool.specs.Layout.{markAt, pagesAt, rootAt, headAt, freeAt, asideAt, ticketsAt, headerWords, slotAt}
-use Rattle.pool.specs.Book.{wordOf, bookOf, spotOf, pageAt, Sound, dueOf}
+use Rattle.pool.specs.Layout.{signatureAt, pagesAt, rootAt, headAt, freeAt, asideAt, ticketsAt, headerWords, slotAt}
+use Rattle.pool.specs.Book.{wordOf, bookOf, slotOf, pageAt, AddsUp, dueOf}
 use Rattle.pool.specs.Changes.{releaseWrites}
 use Rattle.pool.specs.declared.Due.the-variants as due
 use Rattle.pool.specs.Booked.{Lists, Booked, released, Numbered}
@@ -50,8 +50,8 @@ module _ {sp : Space} {m : ℕ → ℕ} {role : ℕ → Role} (b : Booked sp m r
   page-then : (j : ℕ) → pageAt then sp j ≡ pageAt m sp j
   unfolding pageAt then now words becomes freeAt asideAt ticketsAt headerWords
   page-then j =
-      let s = spotOf (sp .pages) (bookOf m sp .head) j in
-      ap (λ (x : Book). then (wordOf sp (slotAt (spotOf (sp .pages) (x .head) j)))) book-then
+      let s = slotOf (sp .pages) (bookOf m sp .head) j in
+      ap (λ (x : Book). then (wordOf sp (slotAt (slotOf (sp .pages) (x .head) j)))) book-then
       ∙ puts-word m sp words (slotAt s)
       ∙ rw (header-slot freeAt s (omega arith), header-slot asideAt s (omega arith), header-slot ticketsAt s (omega arith))
 
@@ -70,7 +70,7 @@ module _ {sp : Space} {m : ℕ → ℕ} {role : ℕ → Role} (b : Booked sp m r
 
   -- THE k OLDEST PAGES SET ASIDE BECOME FREE
   pub release-booked : bookOf m sp .tickets + k ≤ 2 ^ 62 → Booked sp (after m (releaseWrites sp (bookOf m sp) k)) (released m sp k role)
-  unfolding then now words becomes markAt pagesAt rootAt freeAt asideAt ticketsAt
+  unfolding then now words becomes signatureAt pagesAt rootAt freeAt asideAt ticketsAt
   release-booked w =
       rw writes-are
       (changed b words now book-then (λ w. (refl, refl, refl))
@@ -108,7 +108,7 @@ pub record Exactly (b : Book) (t k : ℕ) : Type 0 where
   pub below : (n : ℕ) → b .tickets ≤ n → n < t → n < b .tickets + k
   pub above : (n : ℕ) → t ≤ n → b .tickets ≤ n → b .tickets + k ≤ n
 
-pub due-exactly : (pages : ℕ) (b : Book) (t k : ℕ) → Sound pages b → dueOf b t ≡ due.Pages k → Exactly b t k
+pub due-exactly : (pages : ℕ) (b : Book) (t k : ℕ) → AddsUp pages b → dueOf b t ≡ due.Pages k → Exactly b t k
 unfolding dueOf
 due-exactly pages b t k s e = first (leb t (b .tickets)) refl e
   where
@@ -143,13 +143,13 @@ module _ {sp : Space} {m : ℕ → ℕ} {role : ℕ → Role} (b : Booked sp m r
       omega (arith, h .3, k .3)
 
   -- WHAT A REPORT DOES: pages with a number below the ticket are free, all others that were set aside stay so, with their numbers
-  pub record Told (t k : ℕ) : Type 0 where
+  pub record Releases (t k : ℕ) : Type 0 where
     pub booked : Booked sp (after m (releaseWrites sp (bookOf m sp) k)) (released m sp k role)
     pub frees : (p n : ℕ) → Numbered m sp p n → n < t → released m sp k role p ≡ free
     pub stays : (p n : ℕ) → Numbered m sp p n → t ≤ n → released m sp k role p ≡ aside
     pub keeps : (p n : ℕ) → Numbered m sp p n → t ≤ n → Numbered (after m (releaseWrites sp (bookOf m sp) k)) sp p n
 
-  pub told : (t k : ℕ) → dueOf (bookOf m sp) t ≡ due.Pages k → Told t k
+  pub told : (t k : ℕ) → dueOf (bookOf m sp) t ≡ due.Pages k → Releases t k
   told t k e = record {
     booked = release-booked b k (x .enough) (x .early);
     frees = λ p n h u. release-frees b k (x .enough) p n h (x .below n (low p n h) u);

@@ -14,7 +14,7 @@ use Rattle.word.proofs.Writes.{every-append, every-one, after-append}
 use Rattle.pool.specs.declared.Space.{Space}
 use Rattle.pool.specs.Book.{wordOf}
 use Rattle.pool.specs.Changes.{put}
-use Rattle.pool.specs.Layout.{markAt}
+use Rattle.pool.specs.Layout.{signatureAt}
 use Rattle.pool.specs.Create.{row, unmarks}
 use Rattle.pool.proofs.Words.{after-put}
 
@@ -35,7 +35,7 @@ wrote-no-mark origin p left s = wrote-none origin left s
 
 pub wrote-mark : (origin p n l0 l1 l2 : ℕ) (s0 s1 s2 : List ℕ) → Wrote origin (unmarks p n) l0 l1 s0 s1
     → Wrote origin (write (p + n) 0 0 ∷ []) l1 l2 s1 s2 → Wrote origin (unmarks p (n + 1)) l0 l2 s0 s2
-unfolding unmarks markAt
+unfolding unmarks signatureAt
 wrote-mark origin p n l0 l1 l2 s0 s1 s2 a b = rw add-one (wrote-then origin (unmarks p n) (write (p + n) 0 0 ∷ []) l0 l1 l2 s0 s1 s2 a b)
 
 -- The words -----------------------------------------------------------------------------------------------------------------------
@@ -80,14 +80,14 @@ row-other m sp k f (suc n) j u = row-more m sp k f n j ∙ put-other (after m (r
 
 -- only these pages are written
 pub unmarks-proper : {Q : ℕ → Type 0} (p n : ℕ) → ((q : ℕ) → p ≤ q → q < p + n → Q q) → Every Q (unmarks p n)
-unfolding unmarks markAt
+unfolding unmarks signatureAt
 unmarks-proper p zero h = none
 unmarks-proper p (suc n) h =
     every-append (unmarks p n) _ (unmarks-proper p n (λ q u v. h q u (omega arith))) (every-one (p + n) 0 0 (h (p + n) (omega arith) (omega arith)) (omega arith) (omega arith))
 
 -- and they begin with 0
 pub unmarks-first : (m : ℕ → ℕ) (p n q : ℕ) → p ≤ q → q < p + n → after m (unmarks p n) (at q 0) ≡ 0
-unfolding unmarks markAt after
+unfolding unmarks signatureAt after
 unmarks-first m p zero q u v = absurd (omega arith)
 unmarks-first m p (suc n) q u v =
     ap (λ (f : ℕ → ℕ). f (at q 0)) (after-append m (unmarks p n) (write (p + n) 0 0 ∷ [])) ∙ go (ℕ-discrete (p + n) q) (unmarks-first m p n q u)

@@ -12,11 +12,11 @@ use Rattle.word.proofs.Set.{set-at, set-other}
 use Rattle.tables.specs.Roles.{Role, aside, book, table}
 use Rattle.pool.specs.declared.Space.{Space}
 use Rattle.pool.specs.declared.Book.{Book}
-use Rattle.pool.specs.Layout.{markAt, pagesAt, rootAt, headAt, freeAt, asideAt, ticketsAt, headerWords, slotAt, bookPages}
-use Rattle.pool.specs.Book.{wordOf, bookOf, spotOf, pageAt, Sound}
+use Rattle.pool.specs.Layout.{signatureAt, pagesAt, rootAt, headAt, freeAt, asideAt, ticketsAt, headerWords, slotAt, bookPages}
+use Rattle.pool.specs.Book.{wordOf, bookOf, slotOf, pageAt, AddsUp}
 use Rattle.pool.specs.Changes.{asideWrites, asideBook}
 use Rattle.pool.specs.Booked.{Lists, Booked, Numbered, tablesOf, isTable, Owned}
-use Rattle.pool.proofs.Counts.{is-sound, spot-once}
+use Rattle.pool.proofs.Counts.{is-sound, slot-apart}
 use Rattle.pool.proofs.Lists.{lists-aside}
 use Rattle.pool.proofs.Census.{many-some}
 use Rattle.pool.proofs.Pages.{adds-up}
@@ -26,7 +26,7 @@ use Rattle.pool.proofs.Booked.{numbered-by, changed}
 module _ {sp : Space} {m : ℕ → ℕ} {role : ℕ → Role} (b : Booked sp m role) (p : ℕ) where
   -- the slot where it is listed
   place : ℕ
-  place = spotOf (sp .pages) (bookOf m sp .head) (bookOf m sp .free + bookOf m sp .aside)
+  place = slotOf (sp .pages) (bookOf m sp .head) (bookOf m sp .free + bookOf m sp .aside)
 
   -- what is written, the memory after it, and its book
   words : List (ℕ × ℕ)
@@ -68,13 +68,13 @@ module _ {sp : Space} {m : ℕ → ℕ} {role : ℕ → Role} (b : Booked sp m r
   unfolding pageAt now place
   page-then j u =
       let s = b .sound in
-      ap (λ (x : Book). then (wordOf sp (slotAt (spotOf (sp .pages) (x .head) j)))) book-then
-      ∙ slot-then (spotOf (sp .pages) (bookOf m sp .head) j)
-      (λ e. omega (arith, spot-once (sp .pages) (bookOf m sp .head) (bookOf m sp .free + bookOf m sp .aside) j (s .head-in) (omega (arith, s .room)) (omega (arith, s .room)) e))
+      ap (λ (x : Book). then (wordOf sp (slotAt (slotOf (sp .pages) (x .head) j)))) book-then
+      ∙ slot-then (slotOf (sp .pages) (bookOf m sp .head) j)
+      (λ e. omega (arith, slot-apart (sp .pages) (bookOf m sp .head) (bookOf m sp .free + bookOf m sp .aside) j (s .head-in) (omega (arith, s .room)) (omega (arith, s .room)) e))
 
   last-then : pageAt then sp (bookOf m sp .free + bookOf m sp .aside) ≡ p
   unfolding pageAt now place
-  last-then = ap (λ (x : Book). then (wordOf sp (slotAt (spotOf (sp .pages) (x .head) (bookOf m sp .free + bookOf m sp .aside))))) book-then ∙ place-then
+  last-then = ap (λ (x : Book). then (wordOf sp (slotAt (slotOf (sp .pages) (x .head) (bookOf m sp .free + bookOf m sp .aside))))) book-then ∙ place-then
 
   module _ (o : Owned sp role) (l q i : ℕ) (is : role p ≡ table l q i) where
     -- there is a table, so not all pages are listed
@@ -84,7 +84,7 @@ module _ {sp : Space} {m : ℕ → ℕ} {role : ℕ → Role} (b : Booked sp m r
         let t : 1 ≤ tablesOf sp role = many-some (λ x. isTable (role x)) (sp .first) (sp .pages) p (k .0) (k .1) (ap isTable is) in
         omega (arith, adds-up o b)
 
-    sound-then : Sound (sp .pages) now
+    sound-then : AddsUp (sp .pages) now
     unfolding now
     sound-then = record { small = b .sound .small; head-in = b .sound .head-in; room = omega (arith, room); early = b .sound .early }
 
@@ -103,10 +103,10 @@ module _ {sp : Space} {m : ℕ → ℕ} {role : ℕ → Role} (b : Booked sp m r
 
     -- A TABLE IS SET ASIDE
     pub aside-booked : Booked sp (after m (asideWrites sp (bookOf m sp) p)) (set role p aside)
-    unfolding then markAt pagesAt rootAt asideAt headerWords
+    unfolding then signatureAt pagesAt rootAt asideAt headerWords
     aside-booked =
         rw writes-are
-        (changed b words now book-then (λ w. (stays markAt w (omega arith) (omega arith), stays pagesAt w (omega arith) (omega arith), stays rootAt w (omega arith) (omega arith))) sound-then lists-then
+        (changed b words now book-then (λ w. (stays signatureAt w (omega arith) (omega arith), stays pagesAt w (omega arith) (omega arith), stays rootAt w (omega arith) (omega arith))) sound-then lists-then
         (λ x. no-book x (ℕ-discrete p x)))
 
   -- it gets the number that the ticket of the moment before was, and the others keep theirs

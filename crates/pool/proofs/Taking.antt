@@ -9,11 +9,11 @@ use Rattle.word.specs.Writes.{after}
 use Rattle.tables.specs.Roles.{Role, free, book, table}
 use Rattle.pool.specs.declared.Space.{Space}
 use Rattle.pool.specs.declared.Book.{Book}
-use Rattle.pool.specs.Layout.{markAt, pagesAt, rootAt, headAt, freeAt, asideAt, ticketsAt, headerWords, slotAt}
-use Rattle.pool.specs.Book.{wordOf, bookOf, spotOf, pageAt, Sound}
+use Rattle.pool.specs.Layout.{signatureAt, pagesAt, rootAt, headAt, freeAt, asideAt, ticketsAt, headerWords, slotAt}
+use Rattle.pool.specs.Book.{wordOf, bookOf, slotOf, pageAt, AddsUp}
 use Rattle.pool.specs.Changes.{tookWrites}
 use Rattle.pool.specs.Booked.{Lists, Booked, Taken, Numbered}
-use Rattle.pool.proofs.Counts.{is-sound, spot-in, spot-more}
+use Rattle.pool.proofs.Counts.{is-sound, slot-in, slot-more}
 use Rattle.pool.proofs.Lists.{among, lists-same, lists-taken}
 use Rattle.pool.proofs.Words.{header-slot, puts, becomes, puts-word, puts-book}
 use Rattle.pool.proofs.Booked.{numbered-by, changed}
@@ -21,7 +21,7 @@ use Rattle.pool.proofs.Booked.{numbered-by, changed}
 module _ {sp : Space} {m : ℕ → ℕ} {role : ℕ → Role} (b : Booked sp m role) (k : ℕ) (u : k ≤ bookOf m sp .free) where
   -- what is written, the memory after it, and its book
   words : List (ℕ × ℕ)
-  words = (headAt, spotOf (sp .pages) (bookOf m sp .head) k) ∷ (freeAt, bookOf m sp .free - k) ∷ []
+  words = (headAt, slotOf (sp .pages) (bookOf m sp .head) k) ∷ (freeAt, bookOf m sp .free - k) ∷ []
 
   writes-are : tookWrites sp (bookOf m sp) k ≡ puts sp words
   unfolding tookWrites puts words
@@ -31,7 +31,7 @@ module _ {sp : Space} {m : ℕ → ℕ} {role : ℕ → Role} (b : Booked sp m r
   then = after m (puts sp words)
 
   now : Book
-  now = record { head = spotOf (sp .pages) (bookOf m sp .head) k; free = bookOf m sp .free - k; aside = bookOf m sp .aside; tickets = bookOf m sp .tickets }
+  now = record { head = slotOf (sp .pages) (bookOf m sp .head) k; free = bookOf m sp .free - k; aside = bookOf m sp .aside; tickets = bookOf m sp .tickets }
 
   book-then : bookOf then sp ≡ now
   unfolding then now words becomes headAt freeAt asideAt ticketsAt
@@ -39,7 +39,7 @@ module _ {sp : Space} {m : ℕ → ℕ} {role : ℕ → Role} (b : Booked sp m r
 
   -- THE BOOK AFTER IT
   pub took-book : bookOf (after m (tookWrites sp (bookOf m sp) k)) sp
-      ≡ record { head = spotOf (sp .pages) (bookOf m sp .head) k; free = bookOf m sp .free - k; aside = bookOf m sp .aside; tickets = bookOf m sp .tickets }
+      ≡ record { head = slotOf (sp .pages) (bookOf m sp .head) k; free = bookOf m sp .free - k; aside = bookOf m sp .aside; tickets = bookOf m sp .tickets }
   unfolding now then
   took-book = rw writes-are book-then
 
@@ -51,15 +51,15 @@ module _ {sp : Space} {m : ℕ → ℕ} {role : ℕ → Role} (b : Booked sp m r
   page-then : (j : ℕ) → k + j < sp .pages → pageAt then sp j ≡ pageAt m sp (k + j)
   unfolding pageAt now
   page-then j v =
-      ap (λ (x : Book). then (wordOf sp (slotAt (spotOf (sp .pages) (x .head) j)))) book-then
-      ∙ slot-then (spotOf (sp .pages) (spotOf (sp .pages) (bookOf m sp .head) k) j)
-      ∙ ap (λ x. m (wordOf sp (slotAt x))) (spot-more (sp .pages) (bookOf m sp .head) k j (b .sound .head-in) v)
+      ap (λ (x : Book). then (wordOf sp (slotAt (slotOf (sp .pages) (x .head) j)))) book-then
+      ∙ slot-then (slotOf (sp .pages) (slotOf (sp .pages) (bookOf m sp .head) k) j)
+      ∙ ap (λ x. m (wordOf sp (slotAt x))) (slot-more (sp .pages) (bookOf m sp .head) k j (b .sound .head-in) v)
 
-  sound-then : Sound (sp .pages) now
+  sound-then : AddsUp (sp .pages) now
   unfolding now
   sound-then = record {
     small = b .sound .small;
-    head-in = spot-in (sp .pages) (bookOf m sp .head) k (b .sound .head-in) (omega (arith, b .sound .room));
+    head-in = slot-in (sp .pages) (bookOf m sp .head) k (b .sound .head-in) (omega (arith, b .sound .room));
     room = omega (arith, b .sound .room);
     early = b .sound .early;
   }
@@ -80,7 +80,7 @@ module _ {sp : Space} {m : ℕ → ℕ} {role : ℕ → Role} (b : Booked sp m r
 
     -- THE k OLDEST FREE PAGES BECOME TABLES
     pub took-booked : Booked sp (after m (tookWrites sp (bookOf m sp) k)) role'
-    unfolding then words becomes markAt pagesAt rootAt headAt freeAt
+    unfolding then words becomes signatureAt pagesAt rootAt headAt freeAt
     took-booked = rw writes-are (changed b words now book-then (λ w. (refl, refl, refl)) sound-then lists-then (λ p. no-book p (among (pageAt m sp) k p)))
 
     -- the page behind those that were taken is free as before

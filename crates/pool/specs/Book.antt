@@ -15,27 +15,27 @@ use Rattle.pool.specs.declared.Listed.{Listed}
 use Rattle.pool.specs.declared.Listed.the-variants.{Page, Bad}
 use Rattle.pool.specs.declared.Due.{Due}
 use Rattle.pool.specs.declared.Due.the-variants.{Pages, Unknown, Spent}
-use Rattle.pool.specs.Layout.{markAt, pagesAt, rootAt, headAt, freeAt, asideAt, ticketsAt, slotAt, bookPages}
+use Rattle.pool.specs.Layout.{signatureAt, pagesAt, rootAt, headAt, freeAt, asideAt, ticketsAt, slotAt, bookPages}
 
 -- the number of word k of the book, in memory
 abbrev pub wordOf : Space → ℕ → ℕ
 wordOf sp k = 512 * sp .first + k
 
 -- "the-book" in ASCII
-abbrev pub mark : ℕ
-mark = 7741528751932270708
+abbrev pub signature : ℕ
+signature = 7741528751932270708
 
 -- the header's counts
 abbrev pub bookOf : (ℕ → ℕ) → Space → Book
 bookOf m sp = record { head = m (wordOf sp headAt); free = m (wordOf sp freeAt); aside = m (wordOf sp asideAt); tickets = m (wordOf sp ticketsAt) }
 
 -- the slot k positions behind the head, on a ring of so many slots
-unfoldable pub spotOf : ℕ → ℕ → ℕ → ℕ
-spotOf pages head k = cond (ltb k (pages - head)) (head + k) (k - (pages - head))
+unfoldable pub slotOf : ℕ → ℕ → ℕ → ℕ
+slotOf pages head k = cond (ltb k (pages - head)) (head + k) (k - (pages - head))
 
 -- the page at position k
 unfoldable pub pageAt : (ℕ → ℕ) → Space → ℕ → ℕ
-pageAt m sp k = m (wordOf sp (slotAt (spotOf (sp .pages) (bookOf m sp .head) k)))
+pageAt m sp k = m (wordOf sp (slotAt (slotOf (sp .pages) (bookOf m sp .head) k)))
 
 -- What is tested --------------------------------------------------------------------------------------------------------------
 
@@ -53,12 +53,12 @@ unfoldable pub inPool : Space → ℕ → Bool
 inPool sp p = leb (sp .first + bookPages (sp .pages)) p && ltb p (sp .first + sp .pages)
 
 -- counts that the book of a pool of so many pages can have
-unfoldable pub soundOf : ℕ → Book → Bool
-soundOf pages b =
+unfoldable pub addsUpOf : ℕ → Book → Bool
+addsUpOf pages b =
     (leb pages (2 ^ 32) && ltb (b .head) pages) && (leb (b .free + b .aside + bookPages pages + 1) pages && leb (b .tickets) (2 ^ 62))
 
 -- the same, as numbers
-pub record Sound (pages : ℕ) (b : Book) : Type 0 where
+pub record AddsUp (pages : ℕ) (b : Book) : Type 0 where
   pub small : pages ≤ 2 ^ 32
   pub head-in : b .head < pages
   pub room : b .free + b .aside + bookPages pages + 1 ≤ pages
@@ -67,7 +67,7 @@ pub record Sound (pages : ℕ) (b : Book) : Type 0 where
 -- the header is that of a book of so many pages, with that root
 unfoldable pub headedOf : (ℕ → ℕ) → Space → Fit
 headedOf m sp =
-    cond (eqb (m (wordOf sp markAt)) mark)
+    cond (eqb (m (wordOf sp signatureAt)) signature)
     (cond (eqb (m (wordOf sp pagesAt)) (sp .pages))
     (cond (eqb (m (wordOf sp rootAt)) (sp .root)) fit.Fits (fit.Refused BadRoot))
     (fit.Refused OtherBook))
@@ -82,12 +82,12 @@ unfoldable pub namesIn : (ℕ → ℕ) → Space → Fit → Fit
 namesIn m sp fit.Fits = rootedIn sp (headedOf m sp)
 namesIn m sp (fit.Refused r) = fit.Refused r
 
--- THE BOOK NAMES THIS SPACE: the pool lies in the window, and the book there has its mark, its pages and its root
+-- THE BOOK NAMES THIS SPACE: the pool lies in the window, and the book there has its signature, its pages and its root
 unfoldable pub namesOf : (ℕ → Bool) → (ℕ → ℕ) → Space → Fit
 namesOf h m sp = namesIn m sp (roomOf h (sp .first) (sp .pages))
 
 unfoldable pub countsOf : (ℕ → ℕ) → Space → Opened
-countsOf m sp = cond (soundOf (sp .pages) (bookOf m sp)) (opened.Book (bookOf m sp)) (opened.Refused BadBook)
+countsOf m sp = cond (addsUpOf (sp .pages) (bookOf m sp)) (opened.Book (bookOf m sp)) (opened.Refused BadBook)
 
 unfoldable pub openedIn : (ℕ → ℕ) → Space → Fit → Opened
 openedIn m sp fit.Fits = countsOf m sp
@@ -108,7 +108,7 @@ namedOf h m sp k = cond (h (sp .first + k / 512)) (usableOf sp (m (wordOf sp k))
 -- the free page at position k
 unfoldable pub listedOf : (ℕ → Bool) → (ℕ → ℕ) → Space → Book → ℕ → Listed
 listedOf h m sp b k =
-    cond (ltb k (b .free) && soundOf (sp .pages) b) (namedOf h m sp (slotAt (spotOf (sp .pages) (b .head) k))) Bad
+    cond (ltb k (b .free) && addsUpOf (sp .pages) b) (namedOf h m sp (slotAt (slotOf (sp .pages) (b .head) k))) Bad
 
 -- Tickets ---------------------------------------------------------------------------------------------------------------------
 

@@ -7,8 +7,8 @@ use lib.Dec.{leb, ltb, eqb}
 use Rattle.word.specs.Memory.{at, set}
 use Rattle.tables.specs.Roles.{Setting, Role, foreign, free, aside, book, root, table}
 use Rattle.pool.specs.declared.Space.{Space}
-use Rattle.pool.specs.Layout.{markAt, pagesAt, rootAt, bookWords, bookPages}
-use Rattle.pool.specs.Book.{wordOf, mark, bookOf, pageAt, Sound}
+use Rattle.pool.specs.Layout.{signatureAt, pagesAt, rootAt, bookWords, bookPages}
+use Rattle.pool.specs.Book.{wordOf, signature, bookOf, pageAt, AddsUp}
 
 -- a pool as the tables see it
 abbrev pub settingOf : (ℕ → Bool) → Space → Setting
@@ -23,17 +23,17 @@ pub record Lists (f : ℕ → ℕ) (n a : ℕ) (role : ℕ → Role) : Type 0 wh
   pub once : (j k : ℕ) → j < n + a → k < n + a → f j ≡ f k → j ≡ k
 
 pub record Booked (sp : Space) (m : ℕ → ℕ) (role : ℕ → Role) : Type 0 where
-  pub marked : m (wordOf sp markAt) ≡ mark
+  pub marked : m (wordOf sp signatureAt) ≡ signature
   pub sized : m (wordOf sp pagesAt) ≡ sp .pages
   pub rooted : m (wordOf sp rootAt) ≡ sp .root
-  pub sound : Sound (sp .pages) (bookOf m sp)
+  pub sound : AddsUp (sp .pages) (bookOf m sp)
   pub lists : Lists (pageAt m sp) (bookOf m sp .free) (bookOf m sp .aside) role
   pub in-book : (p : ℕ) → sp .first ≤ p → p < sp .first + bookPages (sp .pages) → role p ≡ book
   pub no-other : (p : ℕ) → role p ≡ book → (sp .first ≤ p) × (p < sp .first + bookPages (sp .pages))
 
 -- no other page of the pool begins as a book does
 abbrev pub Alone : Space → (ℕ → ℕ) → Type 0
-Alone sp m = (p : ℕ) → sp .first < p → p < sp .first + sp .pages → m (at p markAt) ≢ mark
+Alone sp m = (p : ℕ) → sp .first < p → p < sp .first + sp .pages → m (at p signatureAt) ≢ signature
 
 -- the two memories have the same words in the book
 pub record SameBook (sp : Space) (m m' : ℕ → ℕ) : Type 0 where

@@ -12,8 +12,8 @@ use Rattle.pool.specs.declared.Fit.the-variants as fit
 use Rattle.pool.specs.declared.Reason.the-variants.{OriginUnaligned, LengthUnaligned}
 use Rattle.pool.specs.declared.Created.{Created}
 use Rattle.pool.specs.declared.Created.the-variants as created
-use Rattle.pool.specs.Layout.{markAt, pagesAt, rootAt, ticketsAt, freeAt, asideAt, headerWords, slotAt, bookPages}
-use Rattle.pool.specs.Book.{mark, roomOf}
+use Rattle.pool.specs.Layout.{signatureAt, pagesAt, rootAt, ticketsAt, freeAt, asideAt, headerWords, slotAt, bookPages}
+use Rattle.pool.specs.Book.{signature, roomOf}
 use Rattle.pool.specs.Changes.{put}
 
 -- the window's ends are page boundaries, and the pool fits
@@ -40,31 +40,31 @@ fills sp from n = row sp (slotAt 0) (λ j. from + j) n
 abbrev pub blanks : Space → ℕ → ℕ → List Write
 blanks sp k n = row sp k (λ j. 0) n
 
--- n pages from page p on begin with 0, where a book would have its mark
+-- n pages from page p on begin with 0, where a book would have its signature
 unfoldable pub unmarks : ℕ → ℕ → List Write
 unmarks p zero = []
-unmarks p (suc n) = unmarks p n ++ (write (p + n) markAt 0 ∷ [])
+unmarks p (suc n) = unmarks p n ++ (write (p + n) signatureAt 0 ∷ [])
 
--- no mark is left, here or in the n pages behind the root
+-- no signature is left, here or in the n pages behind the root
 unfoldable pub bared : Space → ℕ → List Write
-bared sp n = put sp markAt 0 ∷ unmarks (sp .root + 1) n
+bared sp n = put sp signatureAt 0 ∷ unmarks (sp .root + 1) n
 
 -- the first n slots list the pages behind the root; every other slot is 0, and every count
 unfoldable pub slots : Space → ℕ → List Write
 slots sp n = fills sp (sp .root + 1) n ++ blanks sp (slotAt n) (2 * sp .pages - n)
 
--- a header without its mark: the pool's pages and its root, how many pages are free, and else 0
-unfoldable pub header : Space → ℕ → List Write
-header sp free =
+-- a header without its signature: the pool's pages and its root, how many pages are free, and else 0
+unfoldable pub headerWrites : Space → ℕ → List Write
+headerWrites sp free =
     put sp pagesAt (sp .pages) ∷ put sp rootAt (sp .root) ∷ put sp ticketsAt 0 ∷ put sp freeAt free ∷ blanks sp asideAt (headerWords - asideAt)
 
 -- how many pages of a new pool are free
 abbrev pub newFree : Space → ℕ
 newFree sp = sp .pages - bookPages (sp .pages) - 1
 
--- first no mark; then the slots and the counts, the header, the root, and the mark last
+-- first no signature; then the slots and the counts, the header, the root, and the signature last
 unfoldable pub layOut : Space → List Write
-layOut sp = bared sp (newFree sp) ++ (slots sp (newFree sp) ++ (header sp (newFree sp) ++ (zeros (sp .root) 512 ++ (put sp markAt mark ∷ []))))
+layOut sp = bared sp (newFree sp) ++ (slots sp (newFree sp) ++ (headerWrites sp (newFree sp) ++ (zeros (sp .root) 512 ++ (put sp signatureAt signature ∷ []))))
 
 -- there is room for the book, the root and a page more, and the numbers are small
 pub record Roomy (sp : Space) : Type 0 where
@@ -89,5 +89,5 @@ unfoldable pub createWrites : ℕ → (ℕ → Bool) → ℕ → ℕ → ℕ →
 createWrites len h origin first pages = createIn (newSpace origin first pages) (mayCreate len h origin first pages)
 
 -- the window when so many of these words are written
-abbrev pub begun : List ℕ → ℕ → ℕ → ℕ → ℕ → List ℕ
-begun s origin first pages k = carried s origin (take k (createWrites (length s) (holds s origin) origin first pages))
+abbrev pub createdUpTo : List ℕ → ℕ → ℕ → ℕ → ℕ → List ℕ
+createdUpTo s origin first pages k = carried s origin (take k (createWrites (length s) (holds s origin) origin first pages))

@@ -2,9 +2,9 @@
 -- is written anywhere else but in src/layout.rt.
 use Prim.Native.Nat.{ℕ, _+_, _*_, _/_}
 
--- the header: the mark, the number of pages, the root, how many pages were ever released, the free, those set aside, the ring's head
-unfoldable pub markAt : ℕ
-markAt = 0
+-- the header: the signature, the number of pages, the root, how many pages were ever released, the free, those set aside, the ring's head
+unfoldable pub signatureAt : ℕ
+signatureAt = 0
 
 unfoldable pub pagesAt : ℕ
 pagesAt = 1

@@ -12,15 +12,15 @@ use Rattle.pool.specs.declared.Space.{Space}
 use Rattle.pool.specs.declared.Book.{Book}
 use Rattle.pool.specs.declared.Fit.{Fit}
 use Rattle.pool.specs.Layout.{bookPages}
-use Rattle.pool.specs.Book.{roomOf, rootedIn, soundOf}
+use Rattle.pool.specs.Book.{roomOf, rootedIn, addsUpOf}
 
 -- the pool lies in the window with its book, and the root behind that
 unfoldable pub standsOf : (ℕ → Bool) → Space → Fit
 standsOf h sp = rootedIn sp (roomOf h (sp .first) (sp .pages))
 
 -- what reading entry i of page p answers, where the pool lies in the window and p is a page of it, and not the book's
-unfoldable pub entryOf : List ℕ → Space → ℕ → ℕ → Cell
-entryOf s sp p i = cond (leb (sp .pages) (2 ^ 32)) (amongOf s (sp .origin) (sp .first) (bookPages (sp .pages)) (sp .pages) p i) Outside
+unfoldable pub readEntryOf : List ℕ → Space → ℕ → ℕ → Cell
+readEntryOf s sp p i = cond (leb (sp .pages) (2 ^ 32)) (amongOf s (sp .origin) (sp .first) (bookPages (sp .pages)) (sp .pages) p i) Outside
 
 -- setting that entry to w is one write; where there is none, no write
 unfoldable pub entryWrites : List ℕ → Space → ℕ → ℕ → ℕ → List Write
@@ -28,7 +28,7 @@ entryWrites s sp p i w = cond (leb (sp .pages) (2 ^ 32)) (amongWrites s (sp .ori
 
 -- n pages more can be set aside
 unfoldable pub takesOf : Space → Book → ℕ → Bool
-takesOf sp b n = soundOf (sp .pages) b && leb (b .free + b .aside + n + bookPages (sp .pages) + 1) (sp .pages)
+takesOf sp b n = addsUpOf (sp .pages) b && leb (b .free + b .aside + n + bookPages (sp .pages) + 1) (sp .pages)
 
 -- the numbers of a pool that lies in a window
 pub record Counted (sp : Space) : Type 0 where

@@ -19,7 +19,7 @@ pub fn book_of(pages: u64) -> u64
 }
 
 // By one comparison, where the pool's numbers are those of one in a window.
-fn lies(space: Space, p: u64) -> bool
+fn in_pool_by_one(space: Space, p: u64) -> bool
     requires { ⌜ stand.Counted space ⌝ }
     ensures { λ r. ⌜ r ≡ the.inPool space p ⌝ }
 {
@@ -32,7 +32,7 @@ fn lies(space: Space, p: u64) -> bool
 }
 
 // By three, for any numbers.
-fn among(space: Space, p: u64) -> bool
+fn in_pool_by_three(space: Space, p: u64) -> bool
     ensures { λ r. ⌜ r ≡ the.inPool space p ⌝ }
 {
     if p < space.first {
@@ -54,20 +54,20 @@ pub fn in_pool(space: Space, p: u64) -> bool
     ensures { λ r. ⌜ r ≡ the.inPool space p ⌝ }
 {
     if 4294967296 < space.pages {
-        return among(space, p);
+        return in_pool_by_three(space, p);
     }
     if space.pages < book_of(space.pages) + 2 {
-        return among(space, p);
+        return in_pool_by_three(space, p);
     }
     if word::PAGE_COUNT - space.pages < space.first {
-        return among(space, p);
+        return in_pool_by_three(space, p);
     }
-    lies(space, p)
+    in_pool_by_one(space, p)
 }
 
 // Entry i of page p, where the pool lies in the window and p is a page of it, and not the book's.
 pub fn entry(mem: &[u8], space: Space, p: u64, i: u64) -> Cell
-    ensures { λ r. ⌜ r ≡ stand.entryOf (now (mem .entry)) space p i ⌝ }
+    ensures { λ r. ⌜ r ≡ stand.readEntryOf (now (mem .entry)) space p i ⌝ }
 {
     if 4294967296 < space.pages {
         return Cell::Outside;

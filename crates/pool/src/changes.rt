@@ -6,14 +6,14 @@ ghost use Rattle.pool.specs.Changes as to;
 ghost use Rattle.pool.specs.Stands as stand;
 use crate::Book;
 use crate::Space;
+use crate::adds_up;
 use crate::book_pages;
 use crate::layout::ASIDE_AT;
 use crate::layout::FREE_AT;
 use crate::layout::HEAD_AT;
 use crate::layout::HEADER;
 use crate::layout::TICKETS_AT;
-use crate::sound;
-use crate::spot;
+use crate::slot;
 
 // Sets word k of the book: one write of the budget. A page from 2^40 on lies in no window, so any such page will do.
 pub fn put(mem: &mut [u8], left: &mut u64, space: Space, k: u64, w: u64)
@@ -33,8 +33,8 @@ pub fn took(mem: &mut [u8], left: &mut u64, space: Space, book: Book, k: u64)
     if book.free < k {
         return;
     }
-    if sound(space.pages, book) {
-        put(mem, left, space, HEAD_AT, spot(space.pages, book.head, k));
+    if adds_up(space.pages, book) {
+        put(mem, left, space, HEAD_AT, slot(space.pages, book.head, k));
         put(mem, left, space, FREE_AT, book.free - k);
     }
 }
@@ -44,8 +44,8 @@ pub fn set_aside(mem: &mut [u8], left: &mut u64, space: Space, book: Book, p: u6
     ensures { λ r. ⌜ r ≡ to.asideBook space book ⌝ }
     ensures { λ _. ⌜ Wrote (space .origin) (to.asideWrites space book p) (now (left .entry)) (now (left .exit)) (now (mem .entry)) (now (mem .exit)) ⌝ }
 {
-    if sound(space.pages, book) {
-        let at = spot(space.pages, book.head, book.free + book.aside);
+    if adds_up(space.pages, book) {
+        let at = slot(space.pages, book.head, book.free + book.aside);
         put(mem, left, space, HEADER + at, p);
         put(mem, left, space, ASIDE_AT, book.aside + 1);
         return Book {
@@ -65,7 +65,7 @@ pub fn release(mem: &mut [u8], left: &mut u64, space: Space, book: Book, k: u64)
     if book.aside < k {
         return;
     }
-    if sound(space.pages, book) {
+    if adds_up(space.pages, book) {
         put(mem, left, space, FREE_AT, book.free + k);
         put(mem, left, space, ASIDE_AT, book.aside - k);
         put(mem, left, space, TICKETS_AT, book.tickets + k);
@@ -76,7 +76,7 @@ pub fn release(mem: &mut [u8], left: &mut u64, space: Space, book: Book, k: u64)
 pub fn takes(space: Space, book: Book, n: u64) -> bool
     ensures { λ r. ⌜ r ≡ stand.takesOf space book n ⌝ }
 {
-    if sound(space.pages, book) {
+    if adds_up(space.pages, book) {
         let most = space.pages - book_pages(space.pages) - 1;
         if most - book.free - book.aside < n {
             return false;

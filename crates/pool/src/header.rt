@@ -7,20 +7,20 @@ ghost use Rattle.pool.specs.Book as the;
 ghost use Rattle.pool.specs.State as say;
 use crate::Book;
 use crate::Fit;
-use crate::MARK;
 use crate::Opened;
 use crate::Reason;
+use crate::SIGNATURE;
 use crate::Space;
+use crate::adds_up;
 use crate::in_pool;
 use crate::layout::ASIDE_AT;
 use crate::layout::FREE_AT;
 use crate::layout::HEAD_AT;
-use crate::layout::MARK_AT;
 use crate::layout::PAGES_AT;
 use crate::layout::ROOT_AT;
+use crate::layout::SIGNATURE_AT;
 use crate::layout::TICKETS_AT;
 use crate::room;
-use crate::sound;
 use word::Cell;
 
 // Word i of the header, where the pool lies in the window: that was tested before, and the compiler leaves out the second test.
@@ -48,7 +48,7 @@ fn get(mem: &[u8], space: Space, i: u64) -> u64
 fn headed(mem: &[u8], space: Space) -> Fit
     ensures { λ r. ⌜ (the.roomOf (holds (now (mem .entry)) (space .origin)) (space .first) (space .pages) ≡ Fits → r ≡ the.headedOf (memory (now (mem .entry)) (space .origin)) space) ⌝ }
 {
-    if get(mem, space, MARK_AT) != MARK {
+    if get(mem, space, SIGNATURE_AT) != SIGNATURE {
         return Fit::Refused(Reason::NoBook);
     }
     if get(mem, space, PAGES_AT) != space.pages {
@@ -95,7 +95,7 @@ fn counts(mem: &[u8], space: Space) -> Opened
     ensures { λ r. ⌜ (the.roomOf (holds (now (mem .entry)) (space .origin)) (space .first) (space .pages) ≡ Fits → r ≡ the.countsOf (memory (now (mem .entry)) (space .origin)) space) ⌝ }
 {
     let b = book_now(mem, space);
-    if sound(space.pages, b) {
+    if adds_up(space.pages, b) {
         return Opened::Book(b);
     }
     Opened::Refused(Reason::BadBook)

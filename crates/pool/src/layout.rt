@@ -1,6 +1,6 @@
 // Where a book has what, by words: specs/Layout.antt says the same, and explains it. No number of these is written anywhere else.
 // The header.
-pub const MARK_AT: u64 = 0;
+pub const SIGNATURE_AT: u64 = 0;
 
 pub const PAGES_AT: u64 = 1;
 

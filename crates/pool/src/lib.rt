@@ -36,7 +36,7 @@ pub use moment::Stated;
 pub use moment::state;
 
 // "the-book" in ASCII.
-const MARK: u64 = 7741528751932270708;
+const SIGNATURE: u64 = 7741528751932270708;
 // The most pages that a pool may have: 16 TiB of tables.
 const MOST: u64 = 4294967296;
 // Tickets end here; it takes a million releases a second for 146,000 years.
@@ -66,7 +66,7 @@ pub enum Reason {
     PoolOutside,
     // no page of the pool behind its book, or not the one that the book names
     BadRoot,
-    // there is no mark
+    // there is no signature
     NoBook,
     // the book of a pool of another size
     OtherBook,
@@ -129,8 +129,8 @@ fn room(mem: &[u8], origin: u64, first: u64, pages: u64) -> Fit
 }
 
 // Can a pool of that many pages have a book with these counts?
-fn sound(pages: u64, b: Book) -> bool
-    ensures { λ r. ⌜ r ≡ the.soundOf pages b ⌝ }
+fn adds_up(pages: u64, b: Book) -> bool
+    ensures { λ r. ⌜ r ≡ the.addsUpOf pages b ⌝ }
 {
     if MOST < pages {
         return false;
@@ -153,8 +153,8 @@ fn sound(pages: u64, b: Book) -> bool
 }
 
 // The slot k positions behind the head, on the ring of slots.
-fn spot(pages: u64, head: u64, k: u64) -> u64
-    ensures { λ r. ⌜ r ≡ the.spotOf pages head k ⌝ }
+fn slot(pages: u64, head: u64, k: u64) -> u64
+    ensures { λ r. ⌜ r ≡ the.slotOf pages head k ⌝ }
 {
     if pages <= head {
         return k;
@@ -199,8 +199,8 @@ pub fn free_page(mem: &[u8], space: Space, book: Book, k: u64) -> Listed
     if book.free <= k {
         return Listed::Bad;
     }
-    if sound(space.pages, book) {
-        return named(mem, space, HEADER + spot(space.pages, book.head, k));
+    if adds_up(space.pages, book) {
+        return named(mem, space, HEADER + slot(space.pages, book.head, k));
     }
     Listed::Bad
 }

@@ -7,17 +7,17 @@ ghost use Rattle.word.specs.Writes.{Wrote};
 ghost use Rattle.pool.specs.Create as made;
 use crate::Created;
 use crate::Fit;
-use crate::MARK;
 use crate::Reason;
+use crate::SIGNATURE;
 use crate::Space;
 use crate::book_pages;
 use crate::changes::put;
 use crate::layout::ASIDE_AT;
 use crate::layout::FREE_AT;
 use crate::layout::HEADER;
-use crate::layout::MARK_AT;
 use crate::layout::PAGES_AT;
 use crate::layout::ROOT_AT;
+use crate::layout::SIGNATURE_AT;
 use crate::layout::TICKETS_AT;
 use crate::room;
 
@@ -58,24 +58,24 @@ fn blank(mem: &mut [u8], left: &mut u64, space: Space, k: u64, n: u64)
     }
 }
 
-// n pages from page p on begin with 0, where a book would have its mark.
+// n pages from page p on begin with 0, where a book would have its signature.
 fn unmark(mem: &mut [u8], left: &mut u64, origin: u64, p: u64, n: u64)
     requires { ⌜ p + n < 2 ^ 63 ⌝ }
     ensures { λ _. ⌜ Wrote origin (made.unmarks p n) (now (left .entry)) (now (left .exit)) (now (mem .entry)) (now (mem .exit)) ⌝ }
 {
     let mut j: u64 = 0;
     while j < n {
-        word::write(mem, left, origin, p + j, MARK_AT, 0);
+        word::write(mem, left, origin, p + j, SIGNATURE_AT, 0);
         j += 1;
     }
 }
 
-// No mark is left, here or in the n pages behind the root.
+// No signature is left, here or in the n pages behind the root.
 fn bare(mem: &mut [u8], left: &mut u64, space: Space, n: u64)
     requires { ⌜ (space .root < 2 ^ 41) × (n ≤ 2 ^ 32) ⌝ }
     ensures { λ _. ⌜ Wrote (space .origin) (made.bared space n) (now (left .entry)) (now (left .exit)) (now (mem .entry)) (now (mem .exit)) ⌝ }
 {
-    put(mem, left, space, MARK_AT, 0);
+    put(mem, left, space, SIGNATURE_AT, 0);
     unmark(mem, left, space.origin, space.root + 1, n);
 }
 
@@ -88,9 +88,9 @@ fn put_slots(mem: &mut [u8], left: &mut u64, space: Space, n: u64)
     blank(mem, left, space, HEADER + n, 2 * space.pages - n);
 }
 
-// All of the header but its mark: so many pages are free.
+// All of the header but its signature: so many pages are free.
 fn put_header(mem: &mut [u8], left: &mut u64, space: Space, free: u64)
-    ensures { λ _. ⌜ Wrote (space .origin) (made.header space free) (now (left .entry)) (now (left .exit)) (now (mem .entry)) (now (mem .exit)) ⌝ }
+    ensures { λ _. ⌜ Wrote (space .origin) (made.headerWrites space free) (now (left .entry)) (now (left .exit)) (now (mem .entry)) (now (mem .exit)) ⌝ }
 {
     put(mem, left, space, PAGES_AT, space.pages);
     put(mem, left, space, ROOT_AT, space.root);
@@ -99,8 +99,8 @@ fn put_header(mem: &mut [u8], left: &mut u64, space: Space, free: u64)
     blank(mem, left, space, ASIDE_AT, HEADER - ASIDE_AT);
 }
 
-// The book of a new pool, all of whose pages behind the root are free, and an empty root. The mark goes first and comes last: in between there
-// is no book. No page that becomes free is left with the mark of an older one.
+// The book of a new pool, all of whose pages behind the root are free, and an empty root. The signature goes first and comes last: in between there
+// is no book. No page that becomes free is left with the signature of an older one.
 fn lay_out(mem: &mut [u8], left: &mut u64, space: Space)
     requires { ⌜ made.Roomy space ⌝ }
     ensures { λ _. ⌜ Wrote (space .origin) (made.layOut space) (now (left .entry)) (now (left .exit)) (now (mem .entry)) (now (mem .exit)) ⌝ }
@@ -110,7 +110,7 @@ fn lay_out(mem: &mut [u8], left: &mut u64, space: Space)
     put_slots(mem, left, space, free);
     put_header(mem, left, space, free);
     word::clear(mem, left, space.origin, space.root);
-    put(mem, left, space, MARK_AT, MARK);
+    put(mem, left, space, SIGNATURE_AT, SIGNATURE);
 }
 
 // Makes a pool of these pages, with its book and an empty root, or refuses and changes nothing.

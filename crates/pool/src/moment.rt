@@ -27,7 +27,7 @@ pub enum Stated {
 
 // What an opened book says of its pool.
 fn counted(space: Space, b: Book) -> Counts
-    requires { ⌜ the.Sound (space .pages) b ⌝ }
+    requires { ⌜ the.AddsUp (space .pages) b ⌝ }
     ensures { λ r. ⌜ r ≡ say.countedOf space b ⌝ }
 {
     Counts {

@@ -20,9 +20,9 @@ use Rattle.world.proofs.Discipline.{interleaving}
 use Rattle.world.specs.Rules.{frozen}
 use Rattle.world.proofs.Rules.{safe-first, safe-rest}
 use Rattle.world.specs.Frozen.{SomeReads}
-use Rattle.world.specs.Turns.{Turn, events, Idle, places, begun}
+use Rattle.world.specs.Turns.{Turn, events, Idle, places, atStart}
 use Rattle.world.proofs.Turns.{each-walk}
-use Rattle.tables.specs.Walks.{At}
+use Rattle.tables.specs.Walks.{Position}
 use Rattle.tables.proofs.Walks.{one-space-meaning, laws-of}
 use Rattle.world.proofs.Cut.{read-or-frozen}
 use Rattle.tables.specs.Roles.{Role}
@@ -53,7 +53,7 @@ frozen-stays h sp (store a v ∷ gs) F m n x s o f r =
 module _ (h : ℕ → Bool) (sp : Space) (n : ℕ) (m : ℕ → ℕ) (role : ℕ → Role) (w : Whole h sp m role) (u : n ≤ ticketOf (bookOf m sp)) (cs : List Act) where
   -- EACH WALK, without a cache: cut what happens at its first read and at its last; it ends with what its address meant at some moment between.
   pub each-walk-ends : (who : ℕ → ℕ) (earlier during later : List (Turn ℕ)) → Reached h sp n m cs (events (earlier ++ (during ++ later))) → (i : ℕ) → Idle i earlier → Idle i later
-      → (o : Found) → Gives (walkerOf (settingOf h sp)) (who i) (places (walkerOf (settingOf h sp)) who m (begun (walkerOf (settingOf h sp)) who) (earlier ++ (during ++ later)) i) o
+      → (o : Found) → Gives (walkerOf (settingOf h sp)) (who i) (places (walkerOf (settingOf h sp)) who m (atStart (walkerOf (settingOf h sp)) who) (earlier ++ (during ++ later)) i) o
       → Among (after m (events earlier)) (events during) (λ x. means h sp x (who i) ≡ o)
   each-walk-ends who earlier during later r i d d' o g =
       among-map (events during) (after m (events earlier)) _ _ (λ x e. sym (one-space-meaning h (4096 * sp .root) x (who i)) ∙ e)
@@ -61,7 +61,7 @@ module _ (h : ℕ → Bool) (sp : Space) (n : ℕ) (m : ℕ → ℕ) (role : ℕ
 
   module _ (gs : List (Event ℕ)) (r : Reached h sp n m cs gs) where
     -- EVERY CACHE that was empty at first, and every walk that goes on from what one holds: since then.
-    pub every-answer : (va : ℕ) (p : At) (o : Found) → Can (walkerOf (settingOf h sp)) m gs (None (walkerOf (settingOf h sp))) va p
+    pub every-answer : (va : ℕ) (p : Position) (o : Found) → Can (walkerOf (settingOf h sp)) m gs (None (walkerOf (settingOf h sp))) va p
         → Gives (walkerOf (settingOf h sp)) va p o → Among m gs (λ x. means h sp x va ≡ o)
     every-answer va p o c g =
         among-map gs m _ _ (λ x e. sym (one-space-meaning h (4096 * sp .root) x va) ∙ e)

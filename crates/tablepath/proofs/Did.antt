@@ -122,12 +122,12 @@ module _ (h : ℕ → Bool) (sp : Space) where
     unmap-stirs va (removing.Refused y) e = stirs-none (calls.unmap va) m
     unmap-stirs va (removing.Go r) e =
         let d = unmapped w va r e in
-        turned (calls.unmap va) va (r .spot .way .level) Nothing (d .role') (unmap.writesOf sp va r) (d .changed)
+        turned (calls.unmap va) va (r .page .way .level) Nothing (d .role') (unmap.writesOf sp va r) (d .changed)
         (λ vb n.
-        let i = near-in va (r .spot .way .level) (r .spot .size) vb (d .size-is) (d .aligned) n in
+        let i = near-in va (r .page .way .level) (r .page .size) vb (d .size-is) (d .aligned) n in
         let g = unmap-goes h m sp va r e in
         gone (g .0, g .1, i .0, omega (arith, i .1, g .2))
-        (near-page va (r .spot .way .level) (r .spot .size) (r .spot .frame) (d .had) (d .size-is) (d .aligned) (d .before) vb n) refl)
+        (near-page va (r .page .way .level) (r .page .size) (r .page .frame) (d .had) (d .size-is) (d .aligned) (d .before) vb n) refl)
 
     protect-stirs : (va : ℕ) (g : Rights) (x : Changing) → protect.decideOf h m sp va g ≡ x → Stirs (calls.protect va g) m m (eventsOf (protect.didOf x))
     unfolding protect.didOf Protects

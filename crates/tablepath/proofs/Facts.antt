@@ -14,7 +14,7 @@ use Rattle.pool.specs.Book.{bookOf, ticketOf}
 use Rattle.pool.specs.declared.Space.{Space}
 use Rattle.effect.specs.Whole.{Whole}
 use Rattle.tablepath.specs.Calls.{Within, Saw, Act, actWrites, wrote, Runs, UpTo, Others, Reached}
-use Rattle.tablepath.specs.Nights.{Night, dusk, calls, happens, begins, done, history, lastBegan, lastSince, behind, joined, lately, due, uncovered, waiting, seen}
+use Rattle.tablepath.specs.Nights.{Night, dusk, calls, happens, begins, done, history, lastBegan, lastSince, behind, joined, lately, due, uncovered, waiting, codeSees}
 use Rattle.tablepath.proofs.Marking.{writes-append, saw-self, saw-then, others-saw, others-append}
 use Rattle.tablepath.proofs.Periods.{joined-append, wrote-append, runs-more, saw-same, upto-more, Later, Chain, chain-longer, chain-begins, later-whole, later-reached, later-waits}
 
@@ -78,7 +78,7 @@ module _ (h : ℕ → Bool) (sp : Space) where
   unfolding history last underway lately due waiting Chain
   facts-dusk m role w = record { role = role; whole = w; reached = reach-none (ticketOf (bookOf m sp)) m; chain = tt }
 
-  pub facts-calls : (N : Night) (a : Act) → Facts N → Saw sp (seen h sp N) (a .saw) → Within (ticketOf (bookOf (lastBegan N) sp)) (a .call) → Facts (calls N a)
+  pub facts-calls : (N : Night) (a : Act) → Facts N → Saw sp (codeSees h sp N) (a .saw) → Within (ticketOf (bookOf (lastBegan N) sp)) (a .call) → Facts (calls N a)
   unfolding history lately due waiting
   facts-calls N a f saw within = record {
     role = f .role;

@@ -37,7 +37,7 @@ use Rattle.tablepath.specs.Calls.{means, Call, Within, callWrites, Saw, 
 use Rattle.tablepath.specs.Calls as calls
 use Rattle.tablepath.specs.Nights.{Night, history, lastBegan, lastSince, joined, Some, lately, due, covered, uncovered, butRights, untoldKept, Gets, Honest, Telling, Complete}
 use Rattle.tablepath.specs.Nights as night
-use Rattle.tablepath.specs.Gone.{dawn, Avoids, MappedAt, Maps, Mapped}
+use Rattle.tablepath.specs.Gone.{dawn, Avoids, MappedAt, Maps, StillMapped}
 use Rattle.tablepath.specs.Shown.{FrameGone}
 use Rattle.tablepath.proofs.Serving.{IsBuilt}
 use Rattle.tablepath.proofs.Running.{act-served, act-whole, act-ticket, seen-whole, Ran, reached-ran, reached-all}
@@ -55,13 +55,13 @@ module _ (h : ℕ → Bool) (sp : Space) where
       nowhere (settingOf h sp) m b y (unmap-exactly w b .refused y .0 e) (record { address = va; size = size; frame = frame; rights = r; means = k })
   unmap-clears m role w b (removing.Go g) e va size frame r k =
       let d = unmapped w b g e in
-      let far : ¬ Near (g .spot .way .level) b va = λ n. let z : _≡_ {A = ℕ} 0 1 = cc (d .changed .turns .in-range va n) in omega arith in
+      let far : ¬ Near (g .page .way .level) b va = λ n. let z : _≡_ {A = ℕ} 0 1 = cc (d .changed .turns .in-range va n) in omega arith in
       let was : means h sp m va ≡ Page b size frame r = sym (d .changed .turns .elsewhere va far) ∙ k in
       let c = page-covers h m (4096 * sp .root) va b size frame r was in
-      let first : Page b size frame r ≡ Page b (g .spot .size) (g .spot .frame) (d .had) = sym (c .everywhere b (omega arith) (omega (arith, c .begins, c .reaches))) ∙ d .before in
-      let sizes : size ≡ g .spot .size = cc in
-      let base : baseOf (g .spot .way .level) b ≡ b = aligned-base (g .spot .way .level) b (subst (λ z. b % z ≡ 0) (d .size-is) (d .aligned)) in
-      far (near-range (g .spot .way .level) b va .1 (omega (arith, c .begins), omega (arith, c .reaches, d .size-is)))
+      let first : Page b size frame r ≡ Page b (g .page .size) (g .page .frame) (d .had) = sym (c .everywhere b (omega arith) (omega (arith, c .begins, c .reaches))) ∙ d .before in
+      let sizes : size ≡ g .page .size = cc in
+      let base : baseOf (g .page .way .level) b ≡ b = aligned-base (g .page .way .level) b (subst (λ z. b % z ≡ 0) (d .size-is) (d .aligned)) in
+      far (near-range (g .page .way .level) b va .1 (omega (arith, c .begins), omega (arith, c .reaches, d .size-is)))
 
   module _ (f s : ℕ) where
     -- U has the base of every page that meets the frame
@@ -135,8 +135,8 @@ module _ (h : ℕ → Bool) (sp : Space) where
     -- A run -----------------------------------------------------------------------------------------------------------------------------------
 
     run-has : (n : ℕ) (m : ℕ → ℕ) (role : ℕ → Role) (cs : List Act) → Whole h sp m role → n ≤ ticketOf (bookOf m sp) → Runs h sp m cs → UpTo n cs
-        → (U : ℕ → Type 0) → Has U m → Has (Mapped h sp f s U cs) (after m (wrote h sp cs))
-    unfolding wrote Runs UpTo Mapped after
+        → (U : ℕ → Type 0) → Has U m → Has (StillMapped h sp f s U cs) (after m (wrote h sp cs))
+    unfolding wrote Runs UpTo StillMapped after
     run-has n m role [] w u r t U has = has
     run-has n m role (a ∷ cs) w u r t U has = λ va base size frame g k.
         run-has n (after m (actWrites h sp a)) (act-served h sp n m role w u a (r .0) (t .0) .role) cs (act-whole h sp n m role w u a (r .0) (t .0)) (act-ticket h sp n m role w u a (r .0) (t .0)) (r .1) (t .1)
@@ -153,26 +153,26 @@ module _ (h : ℕ → Bool) (sp : Space) where
         (run-clear n (after m (actWrites h sp a)) (act-served h sp n m role w u a (r .0) (t .0) .role) cs (act-whole h sp n m role w u a (r .0) (t .0)) (act-ticket h sp n m role w u a (r .0) (t .0)) (r .1) (t .1)
         (λ b x. spares b (inr x)) (all-last (actWrites h sp a) m Clear one))
 
-    mapped-append : (cs ds : List Act) (U : ℕ → Type 0) (b : ℕ) → Mapped h sp f s (Mapped h sp f s U cs) ds b → Mapped h sp f s U (cs ++ ds) b
-    unfolding Mapped
+    mapped-append : (cs ds : List Act) (U : ℕ → Type 0) (b : ℕ) → StillMapped h sp f s (StillMapped h sp f s U cs) ds b → StillMapped h sp f s U (cs ++ ds) b
+    unfolding StillMapped
     mapped-append [] ds U b x = x
     mapped-append (c ∷ cs) ds U b x = mapped-append cs ds _ b x
 
     -- A night ---------------------------------------------------------------------------------------------------------------------------------
 
     -- what the calls say that a shootdown covers: when it began, no page met the frame but those that were not unmapped
-    night-has : (N : Night) → Honest h sp untoldKept N → Complete h sp N → Has (Mapped h sp f s (MappedAt h sp f s (dawn N)) (covered N)) (lastBegan N)
+    night-has : (N : Night) → Honest h sp untoldKept N → Complete h sp N → Has (StillMapped h sp f s (MappedAt h sp f s (dawn N)) (covered N)) (lastBegan N)
     unfolding Honest Telling dawn covered history last
     night-has (night.dusk m) k c = λ va base size frame r e below above.
-        unfold Mapped in record { address = va; size = size; frame = frame; rights = r; meant = e; begins-before = below; ends-behind = above }
+        unfold StillMapped in record { address = va; size = size; frame = frame; rights = r; meant = e; begins-before = below; ends-behind = above }
     night-has (night.calls N a) k c = night-has N (k .0) c
     night-has (night.happens N x) k c = night-has N (k .0) c
     night-has (night.begins N) k c = night-has N (k .0) c
     night-has (night.done N T) (k, D, Ds, e) c = λ va base size frame r i below above.
         mapped-append (covered N) (night.front (due N)) (MappedAt h sp f s (dawn N)) base
-        (subst (λ l. Mapped h sp f s (Mapped h sp f s (MappedAt h sp f s (dawn N)) (covered N)) (night.front l) base) (sym e)
+        (subst (λ l. StillMapped h sp f s (StillMapped h sp f s (MappedAt h sp f s (dawn N)) (covered N)) (night.front l) base) (sym e)
         (run-has (ticketOf (bookOf (lastBegan N) sp)) (lastBegan N) (fs .role) D (fs .whole) (omega arith) (runs-front h sp D (joined Ds ++ lately N) (lastBegan N) (r1 .runs))
-        (upto-front (ticketOf (bookOf (lastBegan N) sp)) D (joined Ds ++ lately N) (r1 .upto)) (Mapped h sp f s (MappedAt h sp f s (dawn N)) (covered N)) (night-has N k (c .0)) va base size frame r
+        (upto-front (ticketOf (bookOf (lastBegan N) sp)) D (joined Ds ++ lately N) (r1 .upto)) (StillMapped h sp f s (MappedAt h sp f s (dawn N)) (covered N)) (night-has N k (c .0)) va base size frame r
         (sym (saw-means h sp _ _ (saw-later h sp (last (history N)) (next (history N)) D (joined Ds ++ lately N) (coming h sp N D Ds e fs .later) (fs .role) (fs .whole) r1) (built .role, built .whole .sound .built) va) ∙ i)
         below above))
       where
@@ -201,7 +201,7 @@ module _ (h : ℕ → Bool) (sp : Space) where
     but-avoids o NoAddress e k b z g q i = let x : _≡_ {A = ℕ} 0 1 = cc in absurd (omega arith)
 
     gone-now : (N : Night) → Honest h sp untoldKept N → Complete h sp N
-        → ((b : ℕ) → ¬ Mapped h sp f s (MappedAt h sp f s (dawn N)) (covered N) b) → ((b : ℕ) → ¬ Some (Maps h sp f s b) (uncovered N))
+        → ((b : ℕ) → ¬ StillMapped h sp f s (MappedAt h sp f s (dawn N)) (covered N) b) → ((b : ℕ) → ¬ Some (Maps h sp f s b) (uncovered N))
         → (va : ℕ) (o : Found) → Gets h sp untoldKept N va o → Avoids f s o
     gone-now N k c unmapped-all spares va o gets =
         let fs = night-facts h sp N k c in

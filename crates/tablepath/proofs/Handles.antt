@@ -14,9 +14,9 @@ use Rattle.entry.specs.declared.Rights.{Rights}
 use Rattle.entry.specs.Clean.{Clean}
 use Rattle.entry.specs.Entry.{says}
 use Rattle.tables.specs.Roles.{Role, left}
-use Rattle.tables.proofs.Unseen.{Alike, alike-sound}
-use Rattle.pool.specs.Layout.{markAt, pagesAt, rootAt}
-use Rattle.pool.specs.Book.{wordOf, mark, roomOf, headedOf, rootedIn, namesIn, namesOf, openedOf, openedIn}
+use Rattle.tables.proofs.Unseen.{TablesAlike, alike-sound}
+use Rattle.pool.specs.Layout.{signatureAt, pagesAt, rootAt}
+use Rattle.pool.specs.Book.{wordOf, signature, roomOf, headedOf, rootedIn, namesIn, namesOf, openedOf, openedIn}
 use Rattle.pool.specs.Booked.{settingOf, SameBook}
 use Rattle.pool.specs.declared.Space.{Space}
 use Rattle.pool.specs.declared.Fit.{Fit}
@@ -26,7 +26,7 @@ use Rattle.pool.proofs.Far.{word-at}
 use Rattle.pool.proofs.Booked.{booked-same}
 use Rattle.pool.proofs.Opening.{names-shows, fit-inside}
 use Rattle.pool.proofs.Words.{word-in}
-use Rattle.plan.specs.Find.{foundOf, soughtOf}
+use Rattle.plan.specs.Find.{findOf, soughtOf}
 use Rattle.plan.specs.Map as map
 use Rattle.plan.specs.Unmap as unmap
 use Rattle.plan.specs.Protect as protect
@@ -48,13 +48,13 @@ use Rattle.tablepath.specs.Looks.{WholeBytes}
 -- A space that no book names --------------------------------------------------------------------------------------------------------
 
 module _ (h : ℕ → Bool) (m : ℕ → ℕ) (sp : Space) (r : PoolReason) (e : namesOf h m sp ≡ fit.Refused r) where
-  not-found : (va : ℕ) → foundOf h m sp va ≡ sought.Refused (Pool r)
-  unfolding foundOf soughtOf
+  not-found : (va : ℕ) → findOf h m sp va ≡ sought.Refused (Pool r)
+  unfolding findOf soughtOf
   not-found va = rw e
 
-  not-unmapped : (va : ℕ) → unmap.decideOf h m sp va ≡ unmap.soughtOf h m sp va (sought.Refused (Pool r))
+  not-unmapped : (va : ℕ) → unmap.decideOf h m sp va ≡ unmap.removingOf h m sp va (sought.Refused (Pool r))
   unfolding unmap.decideOf
-  not-unmapped va = ap (unmap.soughtOf h m sp va) (not-found va)
+  not-unmapped va = ap (unmap.removingOf h m sp va) (not-found va)
 
   not-mapped : (q : Asked) → (y : Reason) × (map.decideOf h m sp q ≡ map.Refused y)
   unfolding map.decideOf map.shapedOf map.standingOf map.fittingOf
@@ -66,7 +66,7 @@ module _ (h : ℕ → Bool) (m : ℕ → ℕ) (sp : Space) (r : PoolReason) (e :
 
   -- EVERY CALL WITH IT IS REJECTED
   pub unnamed-rejected : (c : Call) → Rejected h m sp c
-  unfolding callWrites mapAnswer mapWrites mapSaid map.didOf unmapAnswer unmapWrites unmapSaid unmap.soughtOf unmap.didOf protectAnswer protectWrites protectSaid protect.decideOf protect.changingOf protect.didOf toldAnswer toldWrites toldSaid toldDid openedOf openedIn
+  unfolding callWrites mapAnswer mapWrites mapSaid map.didOf unmapAnswer unmapWrites unmapSaid unmap.removingOf unmap.didOf protectAnswer protectWrites protectSaid protect.decideOf protect.changingOf protect.didOf toldAnswer toldWrites toldSaid toldDid openedOf openedIn
   unnamed-rejected (calls.map q) = let k = not-mapped q in record { refused = (k .0, rw (k .1)); nothing = rw (k .1) }
   unnamed-rejected (calls.unmap va) = record { refused = (Pool r, rw (not-unmapped va)); nothing = rw (not-unmapped va) }
   unnamed-rejected (calls.protect va g) = record { refused = (Pool r, rw (not-found va)); nothing = rw (not-found va) }
@@ -74,7 +74,7 @@ module _ (h : ℕ → Bool) (m : ℕ → ℕ) (sp : Space) (r : PoolReason) (e :
 
   -- AND FOR THAT REASON
   pub unnamed-reason : RefusedFor r h m sp
-  unfolding mapAnswer mapSaid map.decideOf map.shapedOf map.standingOf map.fittingOf unmapAnswer unmapSaid unmap.soughtOf protectAnswer protectSaid protect.decideOf protect.changingOf toldAnswer toldSaid openedOf openedIn
+  unfolding mapAnswer mapSaid map.decideOf map.shapedOf map.standingOf map.fittingOf unmapAnswer unmapSaid unmap.removingOf protectAnswer protectSaid protect.decideOf protect.changingOf toldAnswer toldSaid openedOf openedIn
   unnamed-reason = record {
     map = λ q l s. rw (s, e);
     unmap = λ va. rw (not-unmapped va);
@@ -132,10 +132,10 @@ same-whole {h} {sp} {m} {role} m' w same = record {
   small = w .small;
   sound = alike-sound (w .sound .built) m' alike (w .sound .filled);
   booked = booked-same book (w .booked);
-  alone = λ p u v e. w .alone p u v (sym (same p markAt (omega arith, v) (unfold markAt in omega arith)) ∙ e);
+  alone = λ p u v e. w .alone p u v (sym (same p signatureAt (omega arith, v) (unfold signatureAt in omega arith)) ∙ e);
 }
   where
-    alike : Alike role m m'
+    alike : TablesAlike role m m'
     alike q l i live u =
         let home = w .sound .built .home q (λ z. omega (arith, live, ap left z)) in
         let e = same q i (home .from, home .upto) u in

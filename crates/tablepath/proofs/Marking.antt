@@ -21,10 +21,10 @@ use Rattle.world.proofs.Events.{all-first}
 use Rattle.world.specs.Marks.{writes, Fair, Agree}
 use Rattle.tables.specs.Roles.{Role, Built}
 use Rattle.tables.proofs.Meaning.{live-home}
-use Rattle.tables.proofs.Unseen.{Alike, alike-sound}
+use Rattle.tables.proofs.Unseen.{TablesAlike, alike-sound}
 use Rattle.tables.specs.Discipline.{walkerOf}
 use Rattle.tables.specs.Clearing.{eventsOf}
-use Rattle.pool.specs.Layout.{markAt, bookPages}
+use Rattle.pool.specs.Layout.{signatureAt, bookPages}
 use Rattle.pool.specs.Book.{wordOf}
 use Rattle.pool.specs.Book as book
 use Rattle.pool.specs.Booked.{settingOf, SameBook}
@@ -194,7 +194,7 @@ module _ (h : ℕ → Bool) (sp : Space) where
   book-fits w = omega (arith, w .booked .sound .room)
 
   -- the tables say the same
-  pub saw-alike : {m n : ℕ → ℕ} {role : ℕ → Role} → Saw sp m n → Built (settingOf h sp) m role → Alike role m n
+  pub saw-alike : {m n : ℕ → ℕ} {role : ℕ → Role} → Saw sp m n → Built (settingOf h sp) m role → TablesAlike role m n
   saw-alike {m} {n} k b q l i live u =
       let home = live-home b live in
       let in-pool : PoolWord sp (at q i) = subst (λ x. (sp .first ≤ x) × (x < sp .first + sp .pages)) (sym (page-of q i u)) (home .from, home .upto) in
@@ -203,15 +203,15 @@ module _ (h : ℕ → Bool) (sp : Space) where
 
   -- ALL THAT HOLDS BETWEEN OPERATIONS holds of the one as of the other.
   pub saw-whole : {m n : ℕ → ℕ} {role : ℕ → Role} → Saw sp m n → Whole h sp m role → Whole h sp n role
-  unfolding markAt
+  unfolding signatureAt
   saw-whole {m} {n} {role} k w = record {
     stands = w .stands;
     small = w .small;
     sound = alike-sound (w .sound .built) n (saw-alike k (w .sound .built)) (w .sound .filled);
     booked = booked-same (saw-book sp k (book-fits w)) (w .booked);
-    alone = λ p u v e. alone p u v e (k (at p markAt) (omega (arith, page-of p markAt (omega arith)), omega (arith, page-of p markAt (omega arith))));
+    alone = λ p u v e. alone p u v e (k (at p signatureAt) (omega (arith, page-of p signatureAt (omega arith)), omega (arith, page-of p signatureAt (omega arith))));
   }
     where
-      alone : (p : ℕ) → sp .first < p → p < sp .first + sp .pages → n (at p markAt) ≡ book.mark → Remarked sp (at p markAt) (m (at p markAt)) (n (at p markAt)) → ⊥
+      alone : (p : ℕ) → sp .first < p → p < sp .first + sp .pages → n (at p signatureAt) ≡ book.signature → Remarked sp (at p signatureAt) (m (at p signatureAt)) (n (at p signatureAt)) → ⊥
       alone p u v e (inl f) = w .alone p u v (sym f ∙ e)
-      alone p u v e (inr (j, o, b)) = omega (arith, e, marked-odd (n (at p markAt)) (m (at p markAt)) j o)
+      alone p u v e (inr (j, o, b)) = omega (arith, e, marked-odd (n (at p signatureAt)) (m (at p signatureAt)) j o)

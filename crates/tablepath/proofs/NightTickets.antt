@@ -14,7 +14,7 @@ use Rattle.pool.specs.declared.Space.{Space}
 use Rattle.effect.specs.Whole.{Whole}
 use Rattle.tablepath.specs.Calls.{Saw, Act, wrote, Reached}
 use Rattle.tablepath.specs.Tickets.{Handed}
-use Rattle.tablepath.specs.Nights.{Night, dusk, calls, happens, begins, done, history, lastBegan, lastSince, front, joined, Some, lately, due, covered, uncovered, untoldKept, waiting, seen, Honest, Telling, Complete}
+use Rattle.tablepath.specs.Nights.{Night, dusk, calls, happens, begins, done, history, lastBegan, lastSince, front, joined, Some, lately, due, covered, uncovered, untoldKept, waiting, codeSees, Honest, Telling, Complete}
 use Rattle.tablepath.specs.Gone.{Links}
 use Rattle.tablepath.specs.Shown.{CoveredTicket, UncoveredTicket, TicketCovers, ReleasedUnread}
 use Rattle.tablepath.proofs.Marking.{saw-back, saw-whole}
@@ -87,12 +87,12 @@ module _ (h : ℕ → Bool) (sp : Space) where
       ran : Ran h sp n (lastBegan N) (uncovered N)
       ran = reached-ran h sp n (lastBegan N) (f .role) (f .whole) (omega arith) (uncovered N) (lastSince N) (f .reached .0)
 
-      saw : Saw sp (after (lastBegan N) (wrote h sp (uncovered N))) (seen h sp N)
+      saw : Saw sp (after (lastBegan N) (wrote h sp (uncovered N))) (codeSees h sp N)
       saw = reach-saw h sp n (lastBegan N) (uncovered N) (lastSince N) (waiting h sp N) (f .reached) (now (history N)) (last-ends (history N))
 
       before : Numbered (lastBegan N) sp p j × ¬ Some (Links h sp p) (uncovered N)
       before = run-earlier h sp n (lastBegan N) (f .role) (uncovered N) (f .whole) (omega arith) (f .reached .0 .runs) (f .reached .0 .upto) p j
           (saw-keeps h sp (seen-whole-now) (saw-back sp saw) .numbers p j numbered) u
         where
-          seen-whole-now : Whole h sp (seen h sp N) (ran .role)
+          seen-whole-now : Whole h sp (codeSees h sp N) (ran .role)
           seen-whole-now = saw-whole h sp saw (ran .whole)

@@ -18,7 +18,7 @@ use Rattle.walk.specs.declared.Found.the-variants as found
 use Rattle.walk.proofs.Ranges.{page-covers}
 use Rattle.world.specs.Events.{Event, write, happen, after}
 use Rattle.world.specs.Reports.{fromNow, eachLonger, now, last, underway, oldest, Caches}
-use Rattle.tables.specs.Walks.{At}
+use Rattle.tables.specs.Walks.{Position}
 use Rattle.walk.specs.declared.Found.{Found}
 use Rattle.tables.specs.Roles.{table, entryAt}
 use Rattle.tables.proofs.Near.{near-range}
@@ -44,9 +44,9 @@ use Rattle.tablepath.specs.declared.Gone.{Gone}
 use Rattle.tablepath.specs.declared.Unmapped.the-variants as unmapped′
 use Rattle.tablepath.specs.Calls.{Call, Within, callWrites, Act, actWrites}
 use Rattle.tablepath.specs.Calls as calls
-use Rattle.tablepath.specs.Nights.{Night, history, lastBegan, behind, front, joined, lately, due, covered, uncovered, Some, untoldKept, waiting, seen, Unmaps, Protects, Hit, Hits, Gets, Allowed, Honest, Telling, Exact}
+use Rattle.tablepath.specs.Nights.{Night, history, lastBegan, behind, front, joined, lately, due, covered, uncovered, Some, untoldKept, waiting, codeSees, Unmaps, Protects, Hit, Hits, Gets, Allowed, Honest, Telling, Exact}
 use Rattle.tablepath.specs.Nights as night
-use Rattle.tablepath.specs.Gone.{dawn, Avoids, MappedAt, Maps, Mapped}
+use Rattle.tablepath.specs.Gone.{dawn, Avoids, MappedAt, Maps, StillMapped}
 use Rattle.tablepath.proofs.Marking.{saw-self}
 use Rattle.tablepath.proofs.Says.{unmap-says}
 use Rattle.tablepath.proofs.Nights.{exact-complete}
@@ -58,7 +58,7 @@ use Rattle.tablepath.specs.NightWitness.{arrive, act, calm, window, cont
 -- A call whose writes reach memory at once ------------------------------------------------------------------------------------------------
 
 module _ (h : ℕ → Bool) (sp : Space) where
-  arrive-honest : (C : Caches At Found) (ws : List Write) (N : Night) (rest : List (Event ℕ)) → Honest h sp C N → waiting h sp N ≡ eventsOf ws ++ rest
+  arrive-honest : (C : Caches Position Found) (ws : List Write) (N : Night) (rest : List (Event ℕ)) → Honest h sp C N → waiting h sp N ≡ eventsOf ws ++ rest
       → Honest h sp C (arrive N ws) × (waiting h sp (arrive N ws) ≡ rest)
   unfolding arrive eventsOf Honest Allowed waiting
   arrive-honest C [] N rest k e = (k, e)
@@ -66,7 +66,7 @@ module _ (h : ℕ → Bool) (sp : Space) where
       arrive-honest C ws (night.happens N (write (at (w .page) (w .index)) (w .word))) rest (k, (eventsOf ws ++ rest, e)) (ap behind e)
 
   -- what it leaves
-  record Same (N M : Night) : Type 0 where
+  record SameNight (N M : Night) : Type 0 where
     began : lastBegan M ≡ lastBegan N
     dues : due M ≡ due N
     recent : lately M ≡ lately N
@@ -75,7 +75,7 @@ module _ (h : ℕ → Bool) (sp : Space) where
     cover : covered M ≡ covered N
     first : dawn M ≡ dawn N
 
-  arrive-same : (ws : List Write) (N : Night) → Same N (arrive N ws)
+  arrive-same : (ws : List Write) (N : Night) → SameNight N (arrive N ws)
   unfolding arrive history last underway eachLonger due lately Telling covered dawn
   arrive-same [] N = record { began = refl; dues = refl; recent = refl; none = λ u. u; told = λ c. c; cover = refl; first = refl }
   arrive-same (w ∷ ws) N =
@@ -87,24 +87,24 @@ module _ (h : ℕ → Bool) (sp : Space) where
   arrive-now [] N = refl
   arrive-now (w ∷ ws) N = arrive-now ws (night.happens N (write (at (w .page) (w .index)) (w .word)))
 
-  module _ (C : Caches At Found) (N : Night) (k : Honest h sp C N) (empty : waiting h sp N ≡ []) where
-    seen-now : seen h sp N ≡ now (history N)
+  module _ (C : Caches Position Found) (N : Night) (k : Honest h sp C N) (empty : waiting h sp N ≡ []) where
+    seen-now : codeSees h sp N ≡ now (history N)
     unfolding after
     seen-now = ap (after (now (history N))) empty
 
     calm-honest : (c : Call) → Within (ticketOf (bookOf (lastBegan N) sp)) c → Honest h sp C (calm h sp N c) × (waiting h sp (calm h sp N c) ≡ [])
     unfolding calm act Honest waiting
     calm-honest c within =
-        arrive-honest C (callWrites h (seen h sp N) sp c) (night.calls N (act h sp N c)) [] (k, saw-self sp (seen h sp N), within)
+        arrive-honest C (callWrites h (codeSees h sp N) sp c) (night.calls N (act h sp N c)) [] (k, saw-self sp (codeSees h sp N), within)
         (ap (λ l. l ++ actWrites h sp (act h sp N c)) empty ∙ sym (append-nil (actWrites h sp (act h sp N c))))
 
     calm-now : (c : Call) → now (history (calm h sp N c)) ≡ word.after (now (history N)) (callWrites h (now (history N)) sp c)
     unfolding calm act history
-    calm-now c = arrive-now (callWrites h (seen h sp N) sp c) (night.calls N (act h sp N c)) ∙ ap (λ x. word.after (now (history N)) (callWrites h x sp c)) seen-now
+    calm-now c = arrive-now (callWrites h (codeSees h sp N) sp c) (night.calls N (act h sp N c)) ∙ ap (λ x. word.after (now (history N)) (callWrites h x sp c)) seen-now
 
-  calm-same : (N : Night) (c : Call) → Same (night.calls N (act h sp N c)) (calm h sp N c)
+  calm-same : (N : Night) (c : Call) → SameNight (night.calls N (act h sp N c)) (calm h sp N c)
   unfolding calm
-  calm-same N c = arrive-same (callWrites h (seen h sp N) sp c) (night.calls N (act h sp N c))
+  calm-same N c = arrive-same (callWrites h (codeSees h sp N) sp c) (night.calls N (act h sp N c))
 
 -- Five pages -----------------------------------------------------------------------------------------------------------------------------------
 
@@ -129,10 +129,10 @@ module _ (s : List ℕ) (e : length s ≡ 20480) where
   abbrev m₂ : ℕ → ℕ
   m₂ = word.after m₁ (unmap.writesOf five 0 (removes .0))
 
-  same-page : found.Page 0 (removes .0 .spot .size) (removes .0 .spot .frame) (removed .had) ≡ found.Page 0 4096 1048576 everything
+  same-page : found.Page 0 (removes .0 .page .size) (removes .0 .page .frame) (removed .had) ≡ found.Page 0 4096 1048576 everything
   same-page = sym (removed .before) ∙ means₁
 
-  long : removes .0 .spot .size ≡ 4096
+  long : removes .0 .page .size ≡ 4096
   long = cc same-page
 
   -- so that nothing is mapped
@@ -140,7 +140,7 @@ module _ (s : List ℕ) (e : length s ≡ 20480) where
   nothing₂ va a = go (decLt va 4096)
     where
       level : ℕ
-      level = removes .0 .spot .way .level
+      level = removes .0 .page .way .level
 
       size-is : sizeOf level ≡ 4096
       size-is = sym (removed .size-is) ∙ long
@@ -224,7 +224,7 @@ module _ (s : List ℕ) (e : length s ≡ 20480) where
     λ va k. hits va (subst (λ l. Hits (window s) five (Hit (window s) five) l va) made (subst (λ l. Hits (window s) five (Hit (window s) five) (front (l ++ (lately (gone s) ∷ []))) va) none-due k)),
   )
     where
-      answered : (g : Gone) → unmapAnswer (window s) (seen (window s) five (mapped s)) five 0 ≡ unmapped′.Done g → g .size ≡ 4096
+      answered : (g : Gone) → unmapAnswer (window s) (codeSees (window s) five (mapped s)) five 0 ≡ unmapped′.Done g → g .size ≡ 4096
       answered g a =
           let there : unmapAnswer (window s) m₁ five 0 ≡ unmapped′.Done g = subst (λ x. unmapAnswer (window s) x five 0 ≡ unmapped′.Done g) (seen-now (window s) five untoldKept (mapped s) (honest₁ .0) (honest₁ .1) ∙ now₁) a in
           let p : found.Page 0 (g .size) (g .frame) _ ≡ found.Page 0 4096 1048576 everything = sym (unmap-says whole₁ 0 .gone g there .before) ∙ means₁ in
@@ -250,10 +250,10 @@ module _ (s : List ℕ) (e : length s ≡ 20480) where
       )
 
   -- SO THE FRAME IS GONE: of the page that was mapped and unmapped nothing is given.
-  frame-mapped : (b : ℕ) → ¬ Mapped (window s) five 1048576 4096 (MappedAt (window s) five 1048576 4096 (dawn (reported s))) (covered (reported s)) b
-  unfolding Mapped covered due dawn act
+  frame-mapped : (b : ℕ) → ¬ StillMapped (window s) five 1048576 4096 (MappedAt (window s) five 1048576 4096 (dawn (reported s))) (covered (reported s)) b
+  unfolding StillMapped covered due dawn act
   frame-mapped b k =
-      go (subst (λ l. Mapped (window s) five 1048576 4096 (MappedAt (window s) five 1048576 4096 (contents s)) l b) list (subst (λ x. Mapped (window s) five 1048576 4096 (MappedAt (window s) five 1048576 4096 x) (covered (reported s)) b) dawns k))
+      go (subst (λ l. StillMapped (window s) five 1048576 4096 (MappedAt (window s) five 1048576 4096 (contents s)) l b) list (subst (λ x. StillMapped (window s) five 1048576 4096 (MappedAt (window s) five 1048576 4096 x) (covered (reported s)) b) dawns k))
     where
       dawns : dawn (reported s) ≡ contents s
       dawns = calm-same (window s) five (shot s) (calls.told (ticketOf (bookOf (lastBegan (shot s)) five))) .first ∙ calm-same (window s) five (mapped s) (calls.unmap 0) .first ∙ calm-same (window s) five (night.dusk (contents s)) (calls.map page) .first
@@ -263,7 +263,7 @@ module _ (s : List ℕ) (e : length s ≡ 20480) where
           ∙ ap (λ l. l ++ front (due (gone s) ++ (lately (gone s) ∷ []))) (calm-same (window s) five (mapped s) (calls.unmap 0) .cover ∙ calm-same (window s) five (night.dusk (contents s)) (calls.map page) .cover)
           ∙ ap (λ l. front (l ++ (lately (gone s) ∷ []))) none-due ∙ made
 
-      go : Mapped (window s) five 1048576 4096 (MappedAt (window s) five 1048576 4096 (contents s)) acts b → ⊥
+      go : StillMapped (window s) five 1048576 4096 (MappedAt (window s) five 1048576 4096 (contents s)) acts b → ⊥
       go (inl (inl at-first, other), last) = none-mapped (start s e) (at-first .address) _ _ _ _ (at-first .meant)
       go (inl (inr by-map, other), last) =
           let same : calls.map page ≡ calls.map (by-map .asked) = by-map .is-map in

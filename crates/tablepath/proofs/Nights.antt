@@ -13,9 +13,9 @@ use Rattle.world.specs.Events.{Event, write, mark, store, happen, Among, All}
 use Rattle.world.proofs.Events.{among-map, all-last}
 use Rattle.world.specs.Marks.{writes}
 use Rattle.world.specs.Walker.{Reads}
-use Rattle.tables.specs.Walks.{At, SamePrefix}
+use Rattle.tables.specs.Walks.{Position, SamePrefix}
 use Rattle.tables.proofs.Walks.{one-space-meaning, laws-of}
-use Rattle.world.specs.Reports.{fromNow, now, last, next, Caches, NoMore, Held, Keeps, OnWay, Untold, Tells, Fresh, Enough}
+use Rattle.world.specs.Reports.{fromNow, now, last, next, Caches, NoMore, Held, Disciplined, WasOn, Untold, Tells, Fresh, Enough}
 use Rattle.world.proofs.Reports.{last-ends, fresh, reaches-none, half-on, as-if-all, flushed, no-more-held}
 use Rattle.tables.specs.Discipline.{walkerOf}
 use Rattle.pool.specs.Book.{bookOf, ticketOf}
@@ -32,19 +32,19 @@ use Rattle.tablepath.proofs.Facts.{Facts, facts-dusk, facts-calls, fact
 use Rattle.tablepath.proofs.Telling.{last-built, last-thawed, OutsidePool, means-outside, meant-outside, given-outside, half-later, half-told, page-told}
 
 -- caches that keep finished translations, and these half-done walks
-abbrev cachesOf : (At → Type 0) → Caches At Found
+abbrev cachesOf : (Position → Type 0) → Caches Position Found
 cachesOf half = record { half = half; finished = λ p. IsFinished (p .place); page = IsPage }
 
 module _ (h : ℕ → Bool) (sp : Space) where
   -- WHAT AN HONEST NIGHT SHOWS ---------------------------------------------------------------------------------------------------------------
 
-  record Sure (half : At → Type 0) (N : Night) : Type 0 where
+  record Sure (half : Position → Type 0) (N : Night) : Type 0 where
     facts : Facts h sp N
-    keeps : Keeps (walkerOf (settingOf h sp)) (history N)
+    keeps : Disciplined (walkerOf (settingOf h sp)) (history N)
     tells : Tells (walkerOf (settingOf h sp)) (cachesOf half) (history N)
     outside : (va : ℕ) (o : Found) → Fresh (walkerOf (settingOf h sp)) (cachesOf half) (history N) va o → OutsidePool h sp o
 
-  module _ (half : At → Type 0) (sub : (p : At) → half p → IsHalf (p .place)) where
+  module _ (half : Position → Type 0) (sub : (p : Position) → half p → IsHalf (p .place)) where
     given-apart : (N : Night) → Sure half N → StaysOut h sp (cachesOf half) N
     given-apart N s a g =
         given-outside h sp (cachesOf half) N a g
@@ -52,13 +52,13 @@ module _ (h : ℕ → Bool) (sp : Space) where
         (fresh (walkerOf (settingOf h sp)) (laws-of (settingOf h sp)) (cachesOf half) (finishes h sp half) (history N) (s .keeps) (s .tells) (g .address) (g .gets .place) _ (g .gets .held) (g .gets .gives)))
 
     -- what happens: a write that waited first, a mark, or another's store outside the pool
-    pub record Fits (N : Night) (e : Event ℕ) : Type 0 where
+    pub record MayHappen (N : Night) (e : Event ℕ) : Type 0 where
       pub rest : List (Event ℕ)
       pub order : writes (e ∷ []) ++ rest ≡ waiting h sp N
       pub left-over : waiting h sp (happens N e) ≡ rest
       pub others : Others sp (now (history N)) (e ∷ [])
 
-    allowed-fits : (N : Night) (e : Event ℕ) → Sure half N → Allowed h sp (cachesOf half) N e → Fits N e
+    allowed-fits : (N : Night) (e : Event ℕ) → Sure half N → Allowed h sp (cachesOf half) N e → MayHappen N e
     unfolding Allowed waiting writes Others
     allowed-fits N (write a v) s (rest, w) = record { rest = rest; order = sym w; left-over = ap behind w; others = tt }
     allowed-fits N (mark a v) s k = record { rest = waiting h sp N; order = refl; left-over = refl; others = (k, tt) }
@@ -66,7 +66,7 @@ module _ (h : ℕ → Bool) (sp : Space) where
     allowed-fits N (store a v) s (inr k) = record { rest = waiting h sp N; order = refl; left-over = refl; others = (given-apart N s a k, tt) }
 
     sure-event : (N : Night) (e : Event ℕ) → Sure half N → Facts h sp (happens N e) → Sure half (happens N e)
-    unfolding history Keeps Tells Fresh last now
+    unfolding history Disciplined Tells Fresh last now
     sure-event N e s f = record {
       facts = f;
       keeps = (s .keeps, last-thawed h sp (happens N e) f);
@@ -78,9 +78,9 @@ module _ (h : ℕ → Bool) (sp : Space) where
         built = subst (IsBuilt h sp) (last-ends (history (happens N e))) (all-last (lastSince (happens N e)) (lastBegan (happens N e)) (IsBuilt h sp) (last-built h sp (happens N e) f))
 
     sure-done : (N : Night) (T : ℕ → Type 0) (D : List Act) (Ds : List (List Act)) → due N ≡ D ∷ Ds → Sure half N
-        → ((va : ℕ) (p : At) → half p → Untold (walkerOf (settingOf h sp)) T va p → OnWay (walkerOf (settingOf h sp)) (last (history N)) va p → OnWay (walkerOf (settingOf h sp)) (next (history N)) va p)
+        → ((va : ℕ) (p : Position) → half p → Untold (walkerOf (settingOf h sp)) T va p → WasOn (walkerOf (settingOf h sp)) (last (history N)) va p → WasOn (walkerOf (settingOf h sp)) (next (history N)) va p)
         → Sure half (done N T)
-    unfolding history Keeps Tells Fresh last now
+    unfolding history Disciplined Tells Fresh last now
     sure-done N T D Ds e s told = record {
       facts = f;
       keeps = (s .keeps, last-thawed h sp (done N T) f);
@@ -91,8 +91,8 @@ module _ (h : ℕ → Bool) (sp : Space) where
         f : Facts h sp (done N T)
         f = facts-done h sp N T D Ds e (s .facts)
 
-    sure : (N : Night) → Honest h sp (cachesOf half) N → Complete h sp N ⊎ ((p : At) → ¬ half p) → Sure half N
-    unfolding Honest Telling history Keeps Tells Fresh last now
+    sure : (N : Night) → Honest h sp (cachesOf half) N → Complete h sp N ⊎ ((p : Position) → ¬ half p) → Sure half N
+    unfolding Honest Telling history Disciplined Tells Fresh last now
     sure (dusk m) (role, w) t = record { facts = facts-dusk h sp m role w; keeps = tt; tells = tt; outside = means-outside h sp m (role, w .sound .built) }
     sure (calls N a) (k, saw, within) t =
         let s = sure N k t in
@@ -134,7 +134,7 @@ module _ (h : ℕ → Bool) (sp : Space) where
   unfolding history
   night-flushed N T all C va p = flushed (walkerOf (settingOf h sp)) (laws-of (settingOf h sp)) C (history N) T all va p
 
-  abbrev Half : At → Type 0
+  abbrev Half : Position → Type 0
   Half p = IsHalf (p .place)
 
   -- WHERE EACH SHOOTDOWN TELLS THE UNMAPPED ADDRESSES (AMD's, with EFER.TCE)
@@ -151,10 +151,10 @@ module _ (h : ℕ → Bool) (sp : Space) where
         reaches-none (walkerOf (settingOf h sp)) (laws-of (settingOf h sp)) untoldKept (finishes h sp Half) (history N) (s .keeps) (s .tells) va x none (r .place) (r .held) (r .reads)
 
     -- a half-done walk that is held was on its way in the last period
-    half-was-on : (va : ℕ) (p : At) → Held (walkerOf (settingOf h sp)) untoldKept (history N) va p → IsHalf (p .place) → OnWay (walkerOf (settingOf h sp)) (last (history N)) va p
+    half-was-on : (va : ℕ) (p : Position) → Held (walkerOf (settingOf h sp)) untoldKept (history N) va p → IsHalf (p .place) → WasOn (walkerOf (settingOf h sp)) (last (history N)) va p
     half-was-on va p held half = half-on (walkerOf (settingOf h sp)) (laws-of (settingOf h sp)) untoldKept (finishes h sp Half) (history N) (s .keeps) (s .tells) va p held (not-both p half)
       where
-        not-both : (p : At) → IsHalf (p .place) → ¬ IsFinished (p .place)
+        not-both : (p : Position) → IsHalf (p .place) → ¬ IsFinished (p .place)
         not-both p = go (p .place)
           where
             go : (q : Place) → IsHalf q → ¬ IsFinished q
@@ -165,7 +165,7 @@ module _ (h : ℕ → Bool) (sp : Space) where
     stays-out = given-apart Half (λ p x. x) N s
 
     -- what happens next is a write that waited first, a mark, or another's store outside the pool
-    pub night-fits : (e : Event ℕ) → Allowed h sp untoldKept N e → Fits Half (λ p x. x) N e
+    pub night-fits : (e : Event ℕ) → Allowed h sp untoldKept N e → MayHappen Half (λ p x. x) N e
     night-fits e = allowed-fits Half (λ p x. x) N e s
 
     pub upper-holds : UpperHolds h sp N
@@ -181,7 +181,7 @@ module _ (h : ℕ → Bool) (sp : Space) where
         since : Later h sp (last (history N)) (fromNow (now (history N))) (uncovered N)
         since = record { before = lastSince N; since-is = sym (append-nil (lastSince N)); began-is = sym (last-ends (history N)); all-wrote = all }
 
-        later : OnWay (walkerOf (settingOf h sp)) (fromNow (now (history N))) va p ⊎ ((vb : ℕ) × Hits h sp (Unmaps h sp) (uncovered N) vb × SamePrefix (p .levels) va vb)
+        later : WasOn (walkerOf (settingOf h sp)) (fromNow (now (history N))) va p ⊎ ((vb : ℕ) × Hits h sp (Unmaps h sp) (uncovered N) vb × SamePrefix (p .levels) va vb)
         later = half-later h sp (last (history N)) (fromNow (now (history N))) (uncovered N) [] since (f .role) (f .whole)
             (subst (λ l. Reached h sp (ticketOf (bookOf (lastBegan N) sp)) (lastBegan N) l (lastSince N)) (sym (append-nil (uncovered N))) (f .reached .0)) (last-built h sp N f)
             (unfold All in subst (IsBuilt h sp) (last-ends (history N)) (all-last (lastSince N) (lastBegan N) (IsBuilt h sp) (last-built h sp N f))) va p half (half-was-on va p held half)

@@ -9,13 +9,13 @@ use Rattle.entry.specs.declared.Rights.{Rights}
 use Rattle.entry.specs.declared.Entry.{Entry}
 use Rattle.entry.specs.declared.Entry.the-variants.{Nothing, Page, Table}
 use Rattle.walk.specs.Walk.{canonical, indexOf, entered, stepOf, start}
-use Rattle.walk.specs.Reads.{Way, begins, goes}
+use Rattle.walk.specs.Reads.{ComesBy, by-start, by-step}
 use Rattle.walk.specs.declared.Found.the-variants as found
 use Rattle.walk.specs.declared.Place.{Place}
 use Rattle.walk.specs.declared.Place.the-variants.{Going, Ended}
 use Rattle.world.specs.Walker.{On, here}
 use Rattle.world.proofs.Ways.{on-step}
-use Rattle.tables.specs.Walks.{At, stepAt}
+use Rattle.tables.specs.Walks.{Position, stepAt}
 use Rattle.tables.proofs.Ties.{on-way}
 use Rattle.tables.specs.Roles.{Setting, Role, entryAt, Built}
 use Rattle.tables.specs.Way.{Comes, begin, onto}
@@ -27,14 +27,14 @@ use Rattle.tables.proofs.Walks.{laws-of}
 
 module _ {σ : Setting} {m : ℕ → ℕ} {role : ℕ → Role} (b : Built σ m role) where
   -- on a way all rights are granted
-  way-everything : {va n : ℕ} {p : Place} (t : ℕ) (r : Rights) → Way (λ x. Unit {0}) (σ .window) m (σ .cr3) va n p → p ≡ Going t r → r ≡ everything
+  way-everything : {va n : ℕ} {p : Place} (t : ℕ) (r : Rights) → ComesBy (λ x. Unit {0}) (σ .window) m (σ .cr3) va n p → p ≡ Going t r → r ≡ everything
   unfolding start stepOf entered
-  way-everything {va} t r begins e = go (canonical va) e
+  way-everything {va} t r by-start e = go (canonical va) e
     where
       go : (x : Bool) → cond x (Going (tableOf (σ .cr3)) everything) (Ended found.NoAddress) ≡ Going t r → r ≡ everything
       go true f = cc
       go false f = let z : _≡_ {A = ℕ} 0 1 = cc in absurd (omega arith)
-  way-everything {va} t r (goes {n = n} {p = q} w k) e = by q e (λ s g f. (way-comes (λ x. Unit {0}) s g w f, way-everything s g w f))
+  way-everything {va} t r (by-step {n = n} {p = q} w k) e = by q e (λ s g f. (way-comes (λ x. Unit {0}) s g w f, way-everything s g w f))
     where
       through : (s : ℕ) (g : Rights) → Comes σ m va (suc n) s → g ≡ everything → (x : Bool) (y : Entry) → entryAt m n s (indexOf n va) ≡ y
           → cond x (entered n va g y) (Ended found.Outside) ≡ Going t r → r ≡ everything
@@ -57,9 +57,9 @@ module _ {σ : Setting} {m : ℕ → ℕ} {role : ℕ → Role} (b : Built σ m 
   pub comes-on : {va n t : ℕ} → Comes σ m va n t → On (walkerOf σ) m va (record { levels = n; place = Going t everything }) (walkerOf σ .start va)
   unfolding start stepAt stepOf entered
   comes-on {va} {n} {t} (begin e f u) =
-      subst (λ (q : At). On (walkerOf σ) m va q (walkerOf σ .start va)) (rw (u, e, f)) here
+      subst (λ (q : Position). On (walkerOf σ) m va q (walkerOf σ .start va)) (rw (u, e, f)) here
   comes-on {va} {n} {t} (onto s g c e) =
-      subst (λ (q : At). On (walkerOf σ) m va q (walkerOf σ .start va)) step (on-step (walkerOf σ) (laws-of σ) m va _ _ (comes-on c))
+      subst (λ (q : Position). On (walkerOf σ) m va q (walkerOf σ .start va)) step (on-step (walkerOf σ) (laws-of σ) m va _ _ (comes-on c))
     where
       step : stepAt (σ .window) m va (suc n) (Going s everything) ≡ record { levels = n; place = Going t everything }
       step = rw (live-home b (comes-left b c) .held, e, onto-role b c e .1, everything-both everything)

@@ -13,7 +13,7 @@ use Rattle.tablepath.specs.declared.Mapped.the-variants as mapped
 use Rattle.tablepath.specs.declared.Unmapped.the-variants as unmapped
 use Rattle.tablepath.specs.declared.Gone.{Gone}
 use Rattle.tablepath.specs.declared.Protected.the-variants as protected
-use Rattle.tablepath.specs.declared.Same.{Same}
+use Rattle.tablepath.specs.declared.Altered.{Altered}
 use Rattle.tablepath.specs.Looks.{inWindow, lookUp, In, Swapped, WholeBytes, withPage}
 use Rattle.tablepath.proofs.Means.{map-means, unmap-means, protect-means, told-means}
 
@@ -34,7 +34,7 @@ module _ (s : List ℕ) (sp : Space) (role : ℕ → Role) (w : WholeBytes s sp 
       record { had = x .had; before = x .before; inside = x .turned .inside; beside = x .turned .beside }
 
   -- LOOK-UP AFTER PROTECT: the same page with the new rights.
-  pub look-up-after-protect : (base : ℕ) (r : Rights) (g : Same) → inWindow s (sp .origin) protectAnswer sp base r ≡ protected.Done g
+  pub look-up-after-protect : (base : ℕ) (r : Rights) (g : Altered) → inWindow s (sp .origin) protectAnswer sp base r ≡ protected.Done g
       → Swapped s (carried s (sp .origin) (inWindow s (sp .origin) protectWrites sp base r)) sp base (g .size) (g .frame) (Page base (g .size) (g .frame) r)
   look-up-after-protect base r g e =
       let x = protect-means s sp base r .says role w .same g e in

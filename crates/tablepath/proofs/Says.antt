@@ -8,7 +8,7 @@ use native.Mathlib.Omega.{arith}
 use Rattle.word.specs.Memory.{at, set}
 use Rattle.word.specs.Writes.{after}
 use Rattle.word.proofs.Set.{set-at, set-other}
-use Rattle.entry.specs.Kept.{Kept}
+use Rattle.entry.specs.Kept.{SameButRights}
 use Rattle.entry.specs.declared.Rights.{Rights}
 use Rattle.walk.specs.Walk.{baseOf}
 use Rattle.walk.proofs.Ranges.{no-address-only, page-covers}
@@ -43,7 +43,7 @@ use Rattle.effect.proofs.ProtectDone.{protected}
 use Rattle.effect.proofs.ToldDone as effect
 use Rattle.effect.proofs.Exactly.{unmap-exactly, protect-exactly, told-exactly}
 use Rattle.tablepath.specs.declared.Report.the-variants as told
-use Rattle.tablepath.specs.Answers.{mapAnswer, mapWrites, mapSaid, unmapAnswer, unmapWrites, unmapSaid, goneOf, protectAnswer, protectWrites, sameOf, protectSaid, toldAnswer, toldWrites, toldSaid, toldDid, dueSaid, dueDid}
+use Rattle.tablepath.specs.Answers.{mapAnswer, mapWrites, mapSaid, unmapAnswer, unmapWrites, unmapSaid, goneOf, protectAnswer, protectWrites, alteredOf, protectSaid, toldAnswer, toldWrites, toldSaid, toldDid, dueSaid, dueDid}
 use Rattle.tablepath.proofs.SaysAny.{map-refused-by, map-done-by, unmap-refused-by, unmap-done-by, protect-refused-by, protect-done-by, due-unknown, due-spent, due-released, due-no-refusal}
 use Rattle.tablepath.specs.Calls.{means}
 use Rattle.tablepath.specs.Says.{MapMade, MapSays, UnmapGone, UnmapSays, ProtectSame, ProtectSays, ToldReleased, ToldSays, LookUpSays}
@@ -155,8 +155,8 @@ module _ {h : ℕ → Bool} {sp : Space} {m : ℕ → ℕ} {role : ℕ → Role}
     d : UnmapDone h sp m role va r
     d = unmapped w va r e
 
-    base-is : baseOf (r .spot .way .level) va ≡ va
-    base-is = aligned-base (r .spot .way .level) va (subst (λ z. va % z ≡ 0) (d .size-is) (d .aligned))
+    base-is : baseOf (r .page .way .level) va ≡ va
+    base-is = aligned-base (r .page .way .level) va (subst (λ z. va % z ≡ 0) (d .size-is) (d .aligned))
 
     whole-now : Whole h sp unmapped-now (d .role')
     unfolding unmapWrites unmap.didOf
@@ -212,14 +212,14 @@ module _ {h : ℕ → Bool} {sp : Space} {m : ℕ → ℕ} {role : ℕ → Role}
     starts = aligned-base (p .level) va (subst (λ z. va % z ≡ 0) (p .size-is) (p .aligned))
 
     -- the one word that is written keeps all but the rights
-    word-kept : (x : ℕ) → Kept (set m (at (c .table) (c .index)) (c .word) x) (m x)
+    word-kept : (x : ℕ) → SameButRights (set m (at (c .table) (c .index)) (c .word) x) (m x)
     word-kept x = elim (ℕ-discrete (at (c .table) (c .index)) x) [
-      | yes k ↦ rw (set-at m (at (c .table) (c .index)) (c .word) x k) (subst (λ a. Kept (c .word) (m a)) k (p .kept))
+      | yes k ↦ rw (set-at m (at (c .table) (c .index)) (c .word) x k) (subst (λ a. SameButRights (c .word) (m a)) k (p .kept))
       | no k ↦ rw (set-other m (at (c .table) (c .index)) (c .word) x k) (record { present = refl; middle = refl })
     ]
 
-    protect-same : ProtectSame h h sp m (after m (protectWrites h m sp va rights)) role va rights (sameOf c)
-    unfolding protectWrites protect.didOf protect.writesOf after sameOf
+    protect-same : ProtectSame h h sp m (after m (protectWrites h m sp va rights)) role va rights (alteredOf c)
+    unfolding protectWrites protect.didOf protect.writesOf after alteredOf
     protect-same = record {
       had = p .had;
       before = p .before;
@@ -244,7 +244,7 @@ module _ {h : ℕ → Bool} {sp : Space} {m : ℕ → ℕ} {role : ℕ → Role}
         );
         done = (
           λ g. let f = protect-done-by (g .0) (protect.decideOf h m sp va rights) (g .1) in x .succeeds .0 (f .0, f .1),
-          λ a. let f = x .succeeds .1 a in (sameOf (f .0), rw (f .1)),
+          λ a. let f = x .succeeds .1 a in (alteredOf (f .0), rw (f .1)),
         );
         same = λ g e. let f = protect-done-by g (protect.decideOf h m sp va rights) e in subst (ProtectSame h h sp m _ role va rights) (f .2) (protect-same rights (f .0) (f .1));
       }

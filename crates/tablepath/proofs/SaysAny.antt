@@ -37,10 +37,10 @@ use Rattle.plan.specs.declared.protects.Changing.the-variants as changing
 use Rattle.tablepath.specs.declared.Mapped.the-variants as mapped
 use Rattle.tablepath.specs.declared.Gone.{Gone}
 use Rattle.tablepath.specs.declared.Unmapped.the-variants as unmapped
-use Rattle.tablepath.specs.declared.Same.{Same}
+use Rattle.tablepath.specs.declared.Altered.{Altered}
 use Rattle.tablepath.specs.declared.Protected.the-variants as protected
 use Rattle.tablepath.specs.declared.Report.the-variants as told
-use Rattle.tablepath.specs.Answers.{mapAnswer, mapWrites, mapSaid, unmapAnswer, unmapWrites, unmapSaid, goneOf, protectAnswer, protectWrites, sameOf, protectSaid, toldAnswer, toldWrites, toldSaid, toldDid, dueSaid, dueDid}
+use Rattle.tablepath.specs.Answers.{mapAnswer, mapWrites, mapSaid, unmapAnswer, unmapWrites, unmapSaid, goneOf, protectAnswer, protectWrites, alteredOf, protectSaid, toldAnswer, toldWrites, toldSaid, toldDid, dueSaid, dueDid}
 use Rattle.tablepath.specs.Says.{ToldOpened, Declined, RefusalLeaves}
 
 -- An answer comes of one decision --------------------------------------------------------------------------------------------------
@@ -75,20 +75,20 @@ unfolding protectSaid
 protect-refused-by y (changing.Go c) e = let z : _≡_ {A = ℕ} 0 1 = cc in absurd (omega arith)
 protect-refused-by y (changing.Refused r) e = let same : r ≡ y = cc in ap changing.Refused same
 
-pub protect-done-by : (g : Same) (x : Changing) → protectSaid x ≡ protected.Done g → (c : Change) × (x ≡ changing.Go c) × (sameOf c ≡ g)
+pub protect-done-by : (g : Altered) (x : Changing) → protectSaid x ≡ protected.Done g → (c : Change) × (x ≡ changing.Go c) × (alteredOf c ≡ g)
 unfolding protectSaid
 protect-done-by g (changing.Go c) e = (c, refl, cc)
 protect-done-by g (changing.Refused y) e = let z : _≡_ {A = ℕ} 0 1 = cc in absurd (omega arith)
 
 -- where they are done, they answer the size of the page
 pub unmap-goes : (h : ℕ → Bool) (m : ℕ → ℕ) (sp : Space) (va : ℕ) (r : Removal) → unmap.decideOf h m sp va ≡ removing.Go r
-    → (g : Gone) × (unmapAnswer h m sp va ≡ unmapped.Done g) × (g .size ≡ r .spot .size)
+    → (g : Gone) × (unmapAnswer h m sp va ≡ unmapped.Done g) × (g .size ≡ r .page .size)
 unfolding unmapAnswer unmapSaid goneOf
 unmap-goes h m sp va r e = (_, ap (unmapSaid (bookOf m sp)) e, refl)
 
 pub protect-goes : (h : ℕ → Bool) (m : ℕ → ℕ) (sp : Space) (va : ℕ) (rights : Rights) (c : Change) → protect.decideOf h m sp va rights ≡ changing.Go c
-    → (g : Same) × (protectAnswer h m sp va rights ≡ protected.Done g) × (g .size ≡ c .size)
-unfolding protectAnswer protectSaid sameOf
+    → (g : Altered) × (protectAnswer h m sp va rights ≡ protected.Done g) × (g .size ≡ c .size)
+unfolding protectAnswer protectSaid alteredOf
 protect-goes h m sp va rights c e = (_, ap protectSaid e, refl)
 
 pub due-unknown : (x : Due) → dueSaid x ≡ told.Unknown → x ≡ due.Unknown

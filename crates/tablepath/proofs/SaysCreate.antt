@@ -21,7 +21,7 @@ use Rattle.pool.proofs.Opening.{fit-inside}
 use Rattle.tablepath.proofs.SaysAny.{refusal-leaves}
 use Rattle.tablepath.proofs.Wholes.{create-whole}
 use Rattle.tablepath.proofs.Witness.{nothing-yet}
-use Rattle.tablepath.specs.Says.{Aligned, CreateCause, origin-unaligned, length-unaligned, large, small, outside, CreateSays}
+use Rattle.tablepath.specs.Says.{AlignedWindow, CreateCause, origin-unaligned, length-unaligned, large, small, outside, CreateSays}
 
 module _ (s : List ℕ) (origin first pages : ℕ) where
   abbrev answer : Created
@@ -64,22 +64,22 @@ module _ (s : List ℕ) (origin first pages : ℕ) where
           go true e = absurd (false≢true (sym n ∙ ends-hold u v e p l r))
 
   -- what is answered: a refusal for its cause, or the page behind the book
-  data Verdict : Created → Type 0 where
-    refuses : (y : Reason) → CreateCause s origin first pages y → Verdict (created.Refused y)
-    makes : Verdict (created.Root (first + bookPages pages))
+  data CreateVerdict : Created → Type 0 where
+    refuses : (y : Reason) → CreateCause s origin first pages y → CreateVerdict (created.Refused y)
+    makes : CreateVerdict (created.Root (first + bookPages pages))
 
-  because : (y : Reason) → CreateCause s origin first pages y → Verdict answer
+  because : (y : Reason) → CreateCause s origin first pages y → CreateVerdict answer
   because y c = rw (cause-refuses y c) (refuses y c)
 
-  verdict : Verdict answer
+  verdict : CreateVerdict answer
   unfolding createdOf createdIn mayCreate roomOf ends
   verdict = go (ℕ-discrete (origin % 4096) 0) (ℕ-discrete (length s % 4096) 0) (decLe pages (2 ^ 32)) (decLe (bookPages pages + 2) pages)
     where
-      room : Aligned s origin → pages ≤ 2 ^ 32 → bookPages pages + 2 ≤ pages → (x : Bool) → ends ≡ x → Verdict answer
+      room : AlignedWindow s origin → pages ≤ 2 ^ 32 → bookPages pages + 2 ≤ pages → (x : Bool) → ends ≡ x → CreateVerdict answer
       room a u v false e = let k = ends-fail v e in because PoolOutside (outside a u v (k .0) (k .1) (k .2) (k .3))
       room a u v true e = rw (eq-eqb (origin % 4096) 0 (a .0), eq-eqb (length s % 4096) 0 (a .1), le-leb pages (2 ^ 32) u, le-leb (bookPages pages + 2) pages v, e) makes
 
-      go : Dec (origin % 4096 ≡ 0) → Dec (length s % 4096 ≡ 0) → Dec (pages ≤ 2 ^ 32) → Dec (bookPages pages + 2 ≤ pages) → Verdict answer
+      go : Dec (origin % 4096 ≡ 0) → Dec (length s % 4096 ≡ 0) → Dec (pages ≤ 2 ^ 32) → Dec (bookPages pages + 2 ≤ pages) → CreateVerdict answer
       go (no a) b c d = because OriginUnaligned (origin-unaligned a)
       go (yes a) (no b) c d = because LengthUnaligned (length-unaligned a b)
       go (yes a) (yes b) (no c) d = because PoolLarge (large (a, b) (omega arith))
@@ -89,7 +89,7 @@ module _ (s : List ℕ) (origin first pages : ℕ) where
   refused-cause : (y : Reason) → answer ≡ created.Refused y → CreateCause s origin first pages y
   refused-cause y = go answer verdict
     where
-      go : (x : Created) → Verdict x → x ≡ created.Refused y → CreateCause s origin first pages y
+      go : (x : Created) → CreateVerdict x → x ≡ created.Refused y → CreateCause s origin first pages y
       go x (refuses y' c) e = let same : y' ≡ y = cc in subst (CreateCause s origin first pages) same c
       go x makes e = let z : _≡_ {A = ℕ} 0 1 = cc in absurd (omega arith)
 
@@ -99,14 +99,14 @@ module _ (s : List ℕ) (origin first pages : ℕ) where
   root-behind : (p : ℕ) → answer ≡ created.Root p → p ≡ first + bookPages pages
   root-behind p = go answer verdict
     where
-      go : (x : Created) → Verdict x → x ≡ created.Root p → p ≡ first + bookPages pages
+      go : (x : Created) → CreateVerdict x → x ≡ created.Root p → p ≡ first + bookPages pages
       go x (refuses y c) e = let z : _≡_ {A = ℕ} 0 1 = cc in absurd (omega arith)
       go x makes e = cc
 
   no-cause-root : ((y : Reason) → ¬ CreateCause s origin first pages y) → answer ≡ created.Root (first + bookPages pages)
   no-cause-root n = go answer verdict
     where
-      go : (x : Created) → Verdict x → x ≡ created.Root (first + bookPages pages)
+      go : (x : Created) → CreateVerdict x → x ≡ created.Root (first + bookPages pages)
       go x (refuses y c) = absurd (n y c)
       go x makes = refl
 

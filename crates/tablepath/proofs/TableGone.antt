@@ -52,7 +52,7 @@ use Rattle.tablepath.specs.Answers.{mapAnswer, mapWrites, unmapWrites, p
 use Rattle.tablepath.specs.Calls.{Call, callWrites, Saw, Act, actWrites, wrote, Runs, UpTo}
 use Rattle.tablepath.specs.Calls as calls
 use Rattle.tablepath.specs.Nights.{Night, lastBegan, lastSince, Some, uncovered, untoldKept, MayRead, Honest, Complete}
-use Rattle.tablepath.specs.Gone.{Listed, Links}
+use Rattle.tablepath.specs.Gone.{InBook, Links}
 use Rattle.tablepath.specs.Shown.{TableGone}
 use Rattle.tablepath.proofs.SaysAny.{map-goes}
 use Rattle.tablepath.proofs.Marking.{planned-writes, planned-others, saw-back, others-all, saw-agree, saw-whole}
@@ -63,10 +63,10 @@ use Rattle.tablepath.proofs.Nights.{night-facts, night-reads}
 
 module _ (h : ℕ → Bool) (sp : Space) (t : ℕ) where
   -- page t is no table
-  abbrev Spare : (ℕ → Role) → Type 0
-  Spare role = (role t ≡ free) ⊎ (role t ≡ aside)
+  abbrev NoTable : (ℕ → Role) → Type 0
+  NoTable role = (role t ≡ free) ⊎ (role t ≡ aside)
 
-  spare-left : (role : ℕ → Role) → Spare role → left (role t) ≡ 0
+  spare-left : (role : ℕ → Role) → NoTable role → left (role t) ≡ 0
   spare-left role (inl e) = ap left e
   spare-left role (inr e) = ap left e
 
@@ -82,19 +82,19 @@ module _ (h : ℕ → Bool) (sp : Space) (t : ℕ) where
       f i u va (follows-agree (walkerOf (settingOf h sp)) (laws-of (settingOf h sp)) va x y (walkerOf (settingOf h sp) .start va) (λ z q. saw-agree h sp k z (built-inside h sp x b va z q)) .within (at t i) r)
 
   -- A CALL LEAVES IT, as its writes alone make memory: the space is whole with roles by which t is still no table, and none read it meanwhile.
-  record Leaves (m : ℕ → ℕ) (ws : List Write) : Type 0 where
+  record LeavesIt (m : ℕ → ℕ) (ws : List Write) : Type 0 where
     role : ℕ → Role
     whole : Whole h sp (word.after m ws) role
-    spare : Spare role
+    spare : NoTable role
     unreads : All m (eventsOf ws) Unreads
 
-  module _ (m : ℕ → ℕ) (role : ℕ → Role) (w : Whole h sp m role) (s : Spare role) where
-    leaves-none : Leaves m []
+  module _ (m : ℕ → ℕ) (role : ℕ → Role) (w : Whole h sp m role) (s : NoTable role) where
+    leaves-none : LeavesIt m []
     unfolding word.after eventsOf All
     leaves-none = record { role = role; whole = w; spare = s; unreads = built-unreads m role (w .sound .built) (spare-left role s) }
 
     changed-leaves : (va l : ℕ) (o : Found) (role' : ℕ → Role) (ws : List Write) → Changed (settingOf h sp) m role va l o ws (word.after m ws) role' → Whole h sp (word.after m ws) role'
-        → role' t ≡ role t → Leaves m ws
+        → role' t ≡ role t → LeavesIt m ws
     changed-leaves va l o role' ws k w' e = record {
       role = role';
       whole = w';
@@ -106,30 +106,30 @@ module _ (h : ℕ → Bool) (sp : Space) (t : ℕ) where
         idle x i (inl f) = ap left f ∙ spare-left role s
         idle x i (inr f) = ap left (f ∙ e) ∙ spare-left role s
 
-    map-leaves : (q : Asked) (x : Placed) → map.decideOf h m sp q ≡ x → ((k j : ℕ) → mapAnswer h m sp q ≡ mapped.Done k → j < k → pageAt m sp j ≢ t) → Leaves m (map.didOf sp x)
+    map-leaves : (q : Asked) (x : Placed) → map.decideOf h m sp q ≡ x → ((k j : ℕ) → mapAnswer h m sp q ≡ mapped.Done k → j < k → pageAt m sp j ≢ t) → LeavesIt m (map.didOf sp x)
     unfolding map.didOf
     map-leaves q (map.Refused r) e spares = leaves-none
     map-leaves q (map.Go p) e spares =
         let d = decided-done w q p e in
         changed-leaves (q .base) (p .target) _ (d .role') (map.writesOf sp p) (d .changed) (d .whole) (d .taken .stays t (λ j u f. spares (p .fresh .need) j (map-goes h m sp q p e) u f))
 
-    unmap-leaves : (va : ℕ) (x : Removing) → unmap.decideOf h m sp va ≡ x → Leaves m (unmap.didOf sp va x)
+    unmap-leaves : (va : ℕ) (x : Removing) → unmap.decideOf h m sp va ≡ x → LeavesIt m (unmap.didOf sp va x)
     unfolding unmap.didOf
     unmap-leaves va (removing.Refused y) e = leaves-none
     unmap-leaves va (removing.Go r) e =
         let d = unmapped w va r e in
-        changed-leaves va (r .spot .way .level) _ (d .role') (unmap.writesOf sp va r) (d .changed) (d .whole) (elim (d .fate t) [ inl f ↦ f | inr f ↦ absurd (no-table s (f .levels) (f .parent) (f .index) (f .was)) ])
+        changed-leaves va (r .page .way .level) _ (d .role') (unmap.writesOf sp va r) (d .changed) (d .whole) (elim (d .fate t) [ inl f ↦ f | inr f ↦ absurd (no-table s (f .levels) (f .parent) (f .index) (f .was)) ])
       where
-        no-table : Spare role → (l q i : ℕ) → ¬ (role t ≡ table l q i)
+        no-table : NoTable role → (l q i : ℕ) → ¬ (role t ≡ table l q i)
         no-table (inl f) l q i g = let z : _≡_ {A = ℕ} 0 1 = cc in omega arith
         no-table (inr f) l q i g = let z : _≡_ {A = ℕ} 0 1 = cc in omega arith
 
-    protect-leaves : (va : ℕ) (g : Rights) (x : Changing) → protect.decideOf h m sp va g ≡ x → Leaves m (protect.didOf x)
+    protect-leaves : (va : ℕ) (g : Rights) (x : Changing) → protect.decideOf h m sp va g ≡ x → LeavesIt m (protect.didOf x)
     unfolding protect.didOf
     protect-leaves va g (changing.Refused y) e = leaves-none
     protect-leaves va g (changing.Go c) e = let d = protected w va g c e in changed-leaves va (d .level) _ role (protect.writesOf c) (d .changed) (d .whole) refl
 
-    due-leaves : (n : ℕ) (x : Due) → dueOf (bookOf m sp) n ≡ x → Leaves m (dueDid sp (bookOf m sp) x)
+    due-leaves : (n : ℕ) (x : Due) → dueOf (bookOf m sp) n ≡ x → LeavesIt m (dueDid sp (bookOf m sp) x)
     unfolding dueDid
     due-leaves n due.Unknown e = leaves-none
     due-leaves n due.Spent e = leaves-none
@@ -144,17 +144,17 @@ module _ (h : ℕ → Bool) (sp : Space) (t : ℕ) where
         d : ToldDone h sp m role n k
         d = effect.told w n k e
 
-        go : Spare role → Spare (released m sp k role)
+        go : NoTable role → NoTable (released m sp k role)
         go (inl f) = inl (d .others t (λ g. let z : _≡_ {A = ℕ} 0 1 = cc in omega arith) ∙ f)
         go (inr f) =
             let g = has-number (w .booked) t f in
             elim (decLt (g .0) n) [ yes u ↦ inl (d .frees t (g .0) (g .1) u) | no u ↦ inr (d .stays t (g .0) (g .1) (omega arith) .0) ]
 
-    told-leaves : (n : ℕ) → Leaves m (toldWrites h m sp n)
+    told-leaves : (n : ℕ) → LeavesIt m (toldWrites h m sp n)
     unfolding toldWrites toldDid
     told-leaves n = rw (book-opens w) (due-leaves n (dueOf (bookOf m sp) n) refl)
 
-    plan-leaves : (c : Call) → ((q : Asked) (k j : ℕ) → c ≡ calls.map q → mapAnswer h m sp q ≡ mapped.Done k → j < k → pageAt m sp j ≢ t) → Leaves m (callWrites h m sp c)
+    plan-leaves : (c : Call) → ((q : Asked) (k j : ℕ) → c ≡ calls.map q → mapAnswer h m sp q ≡ mapped.Done k → j < k → pageAt m sp j ≢ t) → LeavesIt m (callWrites h m sp c)
     unfolding callWrites mapWrites unmapWrites protectWrites
     plan-leaves (calls.map q) spares = map-leaves q (map.decideOf h m sp q) refl (λ k j. spares q k j refl)
     plan-leaves (calls.unmap va) spares = unmap-leaves va (unmap.decideOf h m sp va) refl
@@ -163,13 +163,13 @@ module _ (h : ℕ → Bool) (sp : Space) (t : ℕ) where
 
   -- A RUN leaves it, if none of its calls links it.
   run-leaves : (n : ℕ) (m : ℕ → ℕ) (role : ℕ → Role) (cs : List Act) → Whole h sp m role → n ≤ ticketOf (bookOf m sp) → Runs h sp m cs → UpTo n cs
-      → Spare role → ¬ Some (Links h sp t) cs → All m (wrote h sp cs) Unreads
+      → NoTable role → ¬ Some (Links h sp t) cs → All m (wrote h sp cs) Unreads
   unfolding wrote Runs UpTo Some All
   run-leaves n m role [] w u r k s spares = built-unreads m role (w .sound .built) (spare-left role s)
   run-leaves n m role (a ∷ cs) w u r k s spares =
       let ws = callWrites h (a .saw) sp (a .call) in
       let seen = seen-whole h sp n m role w u a (r .0) (k .0) in
-      let one : Leaves (a .saw) ws = plan-leaves (a .saw) role seen s (a .call)
+      let one : LeavesIt (a .saw) ws = plan-leaves (a .saw) role seen s (a .call)
       (λ q j i e d v f. spares (inl (record { asked = q; is-map = e; tables = j; is-done = d; number = i; taken = v; is-page = f }))) in
       all-append (actWrites h sp a) (wrote h sp cs) m Unreads
       (others-all sp (actWrites h sp a) (a .saw) m (λ x. IsBuilt h sp x × Unreads x) Unreads saw-unreads (planned-others sp ws m) (saw-back sp (r .0))
@@ -179,7 +179,7 @@ module _ (h : ℕ → Bool) (sp : Space) (t : ℕ) where
       (act-ticket h sp n m role w u a (r .0) (k .0)) (r .1) (k .1) (one .spare) (λ x. spares (inr x)))
 
   -- what is no table when the last period begins, and is not linked since, is read from nothing that is held
-  pub spare-unread : (N : Night) (k : Honest h sp untoldKept N) (c : Complete h sp N) → Spare (night-facts h sp N k c .role) → ¬ Some (Links h sp t) (uncovered N)
+  pub spare-unread : (N : Night) (k : Honest h sp untoldKept N) (c : Complete h sp N) → NoTable (night-facts h sp N k c .role) → ¬ Some (Links h sp t) (uncovered N)
       → (va i : ℕ) → i < 512 → ¬ MayRead h sp untoldKept N va (at t i)
   spare-unread N k c spare spares va i v =
       let f = night-facts h sp N k c in
@@ -191,10 +191,10 @@ module _ (h : ℕ → Bool) (sp : Space) (t : ℕ) where
       (all-both (wrote h sp (uncovered N)) (lastBegan N) (IsBuilt h sp) Unreads (ran .built)
       (run-leaves n (lastBegan N) (f .role) (uncovered N) (f .whole) (omega arith) (f .reached .0 .runs) (f .reached .0 .upto) spare spares))))
 
-  listed-spare : (m : ℕ → ℕ) (role : ℕ → Role) → Whole h sp m role → Listed sp m t → Spare role
+  listed-spare : (m : ℕ → ℕ) (role : ℕ → Role) → Whole h sp m role → InBook sp m t → NoTable role
   listed-spare m role w (j, u, e) = go (decLt j (bookOf m sp .free))
     where
-      go : Dec (j < bookOf m sp .free) → Spare role
+      go : Dec (j < bookOf m sp .free) → NoTable role
       go (yes x) = inl (ap role (sym e) ∙ w .booked .lists .frees j x)
       go (no x) =
           let place : bookOf m sp .free + (j - bookOf m sp .free) ≡ j = omega arith in

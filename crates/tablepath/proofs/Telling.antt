@@ -15,9 +15,9 @@ use Rattle.walk.specs.declared.Place.the-variants.{Going, Ended}
 use Rattle.world.specs.Events.{Among, All}
 use Rattle.world.proofs.Events.{among-map, among-with, among-all}
 use Rattle.world.specs.Walker.{meaning, On}
-use Rattle.tables.specs.Walks.{At, SamePrefix}
+use Rattle.tables.specs.Walks.{Position, SamePrefix}
 use Rattle.tables.proofs.Walks.{one-space-meaning}
-use Rattle.world.specs.Reports.{Period, last, next, Caches, SafeIn, OnWay, Untold, Meant, MeantLike}
+use Rattle.world.specs.Reports.{Period, last, next, Caches, SafeIn, WasOn, Untold, Meant, MeantLike}
 use Rattle.tables.specs.Roles.{Role, Apart}
 use Rattle.tables.specs.Way.{Comes}
 use Rattle.tables.proofs.Meaning.{never-in-pool}
@@ -57,7 +57,7 @@ module _ (h : ℕ → Bool) (sp : Space) where
   meant-outside N f va o a = let t = among-all (lastSince N) (lastBegan N) (IsBuilt h sp) _ (last-built N f) a in means-outside (t .0) (t .1) va o (t .2)
 
   -- the page's words are none of the pool's
-  pub given-outside : (C : Caches At Found) (N : Night) (a : ℕ) (g : Given h sp C N a) → OutsidePool (Page (g .base) (g .size) (g .frame) (g .rights)) → ¬ PoolWord sp a
+  pub given-outside : (C : Caches Position Found) (N : Night) (a : ℕ) (g : Given h sp C N a) → OutsidePool (Page (g .base) (g .size) (g .frame) (g .rights)) → ¬ PoolWord sp a
   given-outside C N a g o u = go (o (g .base) (g .size) (g .frame) (g .rights) refl)
     where
       go : Apart (settingOf h sp) (g .frame) (g .size) → ⊥
@@ -67,16 +67,16 @@ module _ (h : ℕ → Bool) (sp : Space) where
   -- A HALF-DONE WALK that was on its way in a period was so in a later one, or a page was unmapped before that whose addresses share its prefix.
   pub half-later : (q r : Period ℕ) (cs ds : List Act) (k : Later h sp q r cs) (role : ℕ → Role) (w : Whole h sp (q .began) role)
       (reached : Reached h sp (ticketOf (bookOf (q .began) sp)) (q .began) (cs ++ ds) (q .since)) → All (q .began) (q .since) (IsBuilt h sp) → All (r .began) (r .since) (IsBuilt h sp)
-      → (va : ℕ) (p : At) → IsHalf (p .place) → OnWay (walkerOf (settingOf h sp)) q va p
-      → OnWay (walkerOf (settingOf h sp)) r va p ⊎ ((vb : ℕ) × Hits h sp (Unmaps h sp) cs vb × SamePrefix (p .levels) va vb)
+      → (va : ℕ) (p : Position) → IsHalf (p .place) → WasOn (walkerOf (settingOf h sp)) q va p
+      → WasOn (walkerOf (settingOf h sp)) r va p ⊎ ((vb : ℕ) × Hits h sp (Unmaps h sp) cs vb × SamePrefix (p .levels) va vb)
   unfolding IsHalf
   half-later q r cs ds k role w reached built built' va p half a = go (p .place) refl half
     where
-      go : (y : Place) → p .place ≡ y → IsHalf y → OnWay (walkerOf (settingOf h sp)) r va p ⊎ ((vb : ℕ) × Hits h sp (Unmaps h sp) cs vb × SamePrefix (p .levels) va vb)
+      go : (y : Place) → p .place ≡ y → IsHalf y → WasOn (walkerOf (settingOf h sp)) r va p ⊎ ((vb : ℕ) × Hits h sp (Unmaps h sp) cs vb × SamePrefix (p .levels) va vb)
       go (Ended x) i j = absurd j
       go (Going t g) i j = elim way [
         | inl b ↦ inl (among-map (r .since) (r .began) _ _
-            (λ x c. subst (λ (y : At). On (walkerOf (settingOf h sp)) x va y (walkerOf (settingOf h sp) .start va)) (sym is) (comes-on (c .0 .1) (c .1)))
+            (λ x c. subst (λ (y : Position). On (walkerOf (settingOf h sp)) x va y (walkerOf (settingOf h sp) .start va)) (sym is) (comes-on (c .0 .1) (c .1)))
             (among-with (r .since) (r .began) (IsBuilt h sp) _ built' b))
         | inr b ↦ inr (some-beneath h sp cs (p .levels) va b)
       ]
@@ -85,7 +85,7 @@ module _ (h : ℕ → Bool) (sp : Space) where
           at-table = ap (λ y. record { levels = p .levels; place = y }) i
 
           on : Among (q .began) (q .since) (λ x. On (walkerOf (settingOf h sp)) x va (record { levels = p .levels; place = Going t g }) (walkerOf (settingOf h sp) .start va))
-          on = subst (λ (y : At). Among (q .began) (q .since) (λ x. On (walkerOf (settingOf h sp)) x va y (walkerOf (settingOf h sp) .start va))) at-table a
+          on = subst (λ (y : Position). Among (q .began) (q .since) (λ x. On (walkerOf (settingOf h sp)) x va y (walkerOf (settingOf h sp) .start va))) at-table a
 
           all-rights : g ≡ everything
           all-rights = let t′ = among-all (q .since) (q .began) (IsBuilt h sp) _ built on in on-everything (t′ .1 .1) va (p .levels) t g (t′ .2)
@@ -104,12 +104,12 @@ module _ (h : ℕ → Bool) (sp : Space) where
     told-of H told va k = told va (subst (λ l. Hits h sp H (front l) va) (sym e) k)
 
     -- a half-done walk that it leaves was on its way since it began
-    pub half-told : ((va : ℕ) → Hits h sp (Unmaps h sp) (front (due N)) va → T va) → (va : ℕ) (p : At) → IsHalf (p .place) → Untold (walkerOf (settingOf h sp)) T va p
-        → OnWay (walkerOf (settingOf h sp)) (last (history N)) va p → OnWay (walkerOf (settingOf h sp)) (next (history N)) va p
+    pub half-told : ((va : ℕ) → Hits h sp (Unmaps h sp) (front (due N)) va → T va) → (va : ℕ) (p : Position) → IsHalf (p .place) → Untold (walkerOf (settingOf h sp)) T va p
+        → WasOn (walkerOf (settingOf h sp)) (last (history N)) va p → WasOn (walkerOf (settingOf h sp)) (next (history N)) va p
     unfolding history last
     half-told told va p half untold a = elim later [ inl b ↦ b | inr c ↦ absurd (untold (c .0) (told-of (Unmaps h sp) told (c .0) (c .1)) (refl, c .2)) ]
       where
-        later : OnWay (walkerOf (settingOf h sp)) (next (history N)) va p ⊎ ((vb : ℕ) × Hits h sp (Unmaps h sp) D vb × SamePrefix (p .levels) va vb)
+        later : WasOn (walkerOf (settingOf h sp)) (next (history N)) va p ⊎ ((vb : ℕ) × Hits h sp (Unmaps h sp) D vb × SamePrefix (p .levels) va vb)
         later = half-later (last (history N)) (next (history N)) D (joined Ds ++ lately N) (coming h sp N D Ds e f .later) (f .role) (f .whole) (split-calls h sp N T D Ds e f .0)
             (last-built N f) (last-built (done N T) (facts-done h sp N T D Ds e f)) va p half a
 

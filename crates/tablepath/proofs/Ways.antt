@@ -151,8 +151,8 @@ module _ (h : ℕ → Bool) (sp : Space) where
     unmap-ways va (removing.Go r) e =
         let d = unmapped w va r e in
         let g = unmap-goes h m sp va r e in
-        let hit : Unmaps h sp (calls.unmap va) m va = (g .0, g .1, omega arith, omega (arith, g .2, d .size-is, size-pos (r .spot .way .level))) in
-        changed-ways (calls.unmap va) va (r .spot .way .level) (d .role') (unmap.writesOf sp va r) (d .changed) (λ p live. go d hit p (elim (d .fate p) [ inl f ↦ inl f | inr f ↦ inr (ap left (f .is)) ]) (d .on-way p))
+        let hit : Unmaps h sp (calls.unmap va) m va = (g .0, g .1, omega arith, omega (arith, g .2, d .size-is, size-pos (r .page .way .level))) in
+        changed-ways (calls.unmap va) va (r .page .way .level) (d .role') (unmap.writesOf sp va r) (d .changed) (λ p live. go d hit p (elim (d .fate p) [ inl f ↦ inl f | inr f ↦ inr (ap left (f .is)) ]) (d .on-way p))
       where
         go : (d : UnmapDone h sp m role va r) → Unmaps h sp (calls.unmap va) m va → (p : ℕ) → (d .role' p ≡ role p) ⊎ (left (d .role' p) ≡ 0)
             → (d .role' p ≡ role p) ⊎ Comes (settingOf h sp) m va (left (role p)) p

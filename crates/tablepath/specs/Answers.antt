@@ -32,7 +32,7 @@ use Rattle.tablepath.specs.declared.Mapped.the-variants as mapped
 use Rattle.tablepath.specs.declared.Gone.{Gone}
 use Rattle.tablepath.specs.declared.Unmapped.{Unmapped}
 use Rattle.tablepath.specs.declared.Unmapped.the-variants as unmapped
-use Rattle.tablepath.specs.declared.Same.{Same}
+use Rattle.tablepath.specs.declared.Altered.{Altered}
 use Rattle.tablepath.specs.declared.Protected.{Protected}
 use Rattle.tablepath.specs.declared.Protected.the-variants as protected
 use Rattle.tablepath.specs.declared.Report.{Report}
@@ -63,8 +63,8 @@ mapWrites h m sp q = map.didOf sp (map.decideOf h m sp q)
 -- the page that is gone, and the ticket after it, where b is the book before: so many pages more are set aside
 unfoldable pub goneOf : Book → Removal → Gone
 goneOf b r = record {
-  frame = r .spot .frame;
-  size = r .spot .size;
+  frame = r .page .frame;
+  size = r .page .size;
   aside = r .empties;
   ticket = ticketAfter b (r .empties);
 }
@@ -82,11 +82,11 @@ unmapWrites h m sp va = unmap.didOf sp va (unmap.decideOf h m sp va)
 -- Protect ----------------------------------------------------------------------------------------------------------------------
 
 -- the page that stays, and the ticket of the book, which is as it was
-unfoldable pub sameOf : Change → Same
-sameOf c = record { frame = c .frame; size = c .size; ticket = c .ticket }
+unfoldable pub alteredOf : Change → Altered
+alteredOf c = record { frame = c .frame; size = c .size; ticket = c .ticket }
 
 unfoldable pub protectSaid : Changing → Protected
-protectSaid (changing.Go c) = protected.Done (sameOf c)
+protectSaid (changing.Go c) = protected.Done (alteredOf c)
 protectSaid (changing.Refused y) = protected.Refused y
 
 unfoldable pub protectAnswer : (ℕ → Bool) → (ℕ → ℕ) → Space → ℕ → Rights → Protected

@@ -51,9 +51,9 @@ module _ (h : ℕ → Bool) (sp : Space) (f s : ℕ) where
     pub ends-behind : f < asked .frame + asked .size
 
   -- THE PAGES THAT MEET IT, by their bases: those of before (U), and those that the calls mapped, but for those that were unmapped since
-  unfoldable pub Mapped : (ℕ → Type 0) → List Act → ℕ → Type 0
-  Mapped U [] b = U b
-  Mapped U (a ∷ cs) b = Mapped (λ c. (U c ⊎ Maps c a) × ¬ (a .call ≡ unmap c)) cs b
+  unfoldable pub StillMapped : (ℕ → Type 0) → List Act → ℕ → Type 0
+  StillMapped U [] b = U b
+  StillMapped U (a ∷ cs) b = StillMapped (λ c. (U c ⊎ Maps c a) × ¬ (a .call ≡ unmap c)) cs b
 
 -- An address ----------------------------------------------------------------------------------------------------------------------------------
 
@@ -81,8 +81,8 @@ pub record MappedSince (h : ℕ → Bool) (sp : Space) (N : Night) (q : Asked) (
 -- A table: page t of the pool ------------------------------------------------------------------------------------------------------------
 
 -- the book lists it, as free or as set aside
-abbrev pub Listed : Space → (ℕ → ℕ) → ℕ → Type 0
-Listed sp m t = (j : ℕ) × (j < bookOf m sp .free + bookOf m sp .aside) × (pageAt m sp j ≡ t)
+abbrev pub InBook : Space → (ℕ → ℕ) → ℕ → Type 0
+InBook sp m t = (j : ℕ) × (j < bookOf m sp .free + bookOf m sp .aside) × (pageAt m sp j ≡ t)
 
 -- the call links it: it maps a page, and t is one of the free pages that it makes tables of
 pub record Links (h : ℕ → Bool) (sp : Space) (t : ℕ) (a : Act) : Type 0 where

@@ -4,8 +4,8 @@ use mathlib.Core.Bool.{Bool}
 use mathlib.Core.List.{List, []}
 use mathlib.Core.Logic.{_⊎_, _≢_}
 use mathlib.Core.Path.{_≡_}
-use Rattle.pool.specs.Layout.{markAt, pagesAt, rootAt}
-use Rattle.pool.specs.Book.{wordOf, mark, namesOf}
+use Rattle.pool.specs.Layout.{signatureAt, pagesAt, rootAt}
+use Rattle.pool.specs.Book.{wordOf, signature, namesOf}
 use Rattle.pool.specs.declared.Space.{Space}
 use Rattle.pool.specs.declared.Fit.the-variants as fit
 use Rattle.pool.specs.declared.Reason.{Reason as PoolReason}
@@ -36,11 +36,11 @@ pub record Rejected (h : ℕ → Bool) (m : ℕ → ℕ) (sp : Space) (c : Call)
   pub refused : Refuses h m sp c
   pub nothing : callWrites h m sp c ≡ []
 
--- WHY a space is not named, where its pool lies in the window: no mark; a mark, but other pages; these, but another root
+-- WHY a space is not named, where its pool lies in the window: no signature; a signature, but other pages; these, but another root
 pub record NamedNot (h : ℕ → Bool) (m : ℕ → ℕ) (sp : Space) : Type 0 where
-  pub no-book : m (wordOf sp markAt) ≢ mark → namesOf h m sp ≡ fit.Refused NoBook
-  pub other-book : m (wordOf sp markAt) ≡ mark → m (wordOf sp pagesAt) ≢ sp .pages → namesOf h m sp ≡ fit.Refused OtherBook
-  pub bad-root : m (wordOf sp markAt) ≡ mark → m (wordOf sp pagesAt) ≡ sp .pages → m (wordOf sp rootAt) ≢ sp .root → namesOf h m sp ≡ fit.Refused BadRoot
+  pub no-book : m (wordOf sp signatureAt) ≢ signature → namesOf h m sp ≡ fit.Refused NoBook
+  pub other-book : m (wordOf sp signatureAt) ≡ signature → m (wordOf sp pagesAt) ≢ sp .pages → namesOf h m sp ≡ fit.Refused OtherBook
+  pub bad-root : m (wordOf sp signatureAt) ≡ signature → m (wordOf sp pagesAt) ≡ sp .pages → m (wordOf sp rootAt) ≢ sp .root → namesOf h m sp ≡ fit.Refused BadRoot
 
 -- and that is the reason that every operation answers; of map, where size, alignment and range fit
 pub record RefusedFor (y : PoolReason) (h : ℕ → Bool) (m : ℕ → ℕ) (sp : Space) : Type 0 where
@@ -51,7 +51,7 @@ pub record RefusedFor (y : PoolReason) (h : ℕ → Bool) (m : ℕ → ℕ) (sp 
 
 -- there is a book with exactly these numbers
 pub record BookAt (m : ℕ → ℕ) (sp : Space) : Type 0 where
-  pub marked : m (wordOf sp markAt) ≡ mark
+  pub marked : m (wordOf sp signatureAt) ≡ signature
   pub sized : m (wordOf sp pagesAt) ≡ sp .pages
   pub rooted : m (wordOf sp rootAt) ≡ sp .root
 

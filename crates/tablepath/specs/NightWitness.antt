@@ -10,7 +10,7 @@ use Rattle.pool.specs.Book.{bookOf, ticketOf}
 use Rattle.pool.specs.declared.Space.{Space}
 use Rattle.tablepath.specs.Calls.{Call, callWrites, Act}
 use Rattle.tablepath.specs.Calls as calls
-use Rattle.tablepath.specs.Nights.{Night, lastBegan, seen}
+use Rattle.tablepath.specs.Nights.{Night, lastBegan, codeSees}
 use Rattle.tablepath.specs.Nights as night
 use Rattle.tablepath.specs.Witness.{five, page, bytes}
 
@@ -23,10 +23,10 @@ arrive N (w ∷ ws) = arrive (night.happens N (write (at (w .page) (w .index)) (
 
 module _ (h : ℕ → Bool) (sp : Space) where
   unfoldable pub act : Night → Call → Act
-  act N c = record { call = c; saw = seen h sp N }
+  act N c = record { call = c; saw = codeSees h sp N }
 
   unfoldable pub calm : Night → Call → Night
-  calm N c = arrive (night.calls N (act N c)) (callWrites h (seen h sp N) sp c)
+  calm N c = arrive (night.calls N (act N c)) (callWrites h (codeSees h sp N) sp c)
 
 -- Five pages -----------------------------------------------------------------------------------------------------------------------------------
 

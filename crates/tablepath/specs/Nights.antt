@@ -13,7 +13,7 @@ use Rattle.walk.specs.declared.Place.{Place}
 use Rattle.walk.specs.declared.Place.the-variants.{Going, Ended}
 use Rattle.world.specs.Events.{Event, write, mark, store, after}
 use Rattle.world.specs.Walker.{Walker, Gives, Reads}
-use Rattle.tables.specs.Walks.{At}
+use Rattle.tables.specs.Walks.{Position}
 use Rattle.world.specs.Reports.{History, now, last, Caches, Held}
 use Rattle.world.specs.Reports as world
 use Rattle.tables.specs.Roles.{Role}
@@ -26,7 +26,7 @@ use Rattle.tablepath.specs.Answers.{unmapAnswer, protectAnswer}
 use Rattle.tablepath.specs.declared.Unmapped.the-variants as unmapped
 use Rattle.tablepath.specs.declared.Gone.{Gone}
 use Rattle.tablepath.specs.declared.Protected.the-variants as protected
-use Rattle.tablepath.specs.declared.Same.{Same}
+use Rattle.tablepath.specs.declared.Altered.{Altered}
 use Rattle.tablepath.specs.Calls.{Call, map, unmap, protect, told, Within, PoolWord, Remarked, Saw, Act, actWrites}
 
 -- WHAT HAPPENS. dusk: the first memory. calls: an operation is called; its writes wait in the store buffer. happens: a write reaches memory, the
@@ -130,16 +130,16 @@ butRights Outside = Outside
 butRights NoAddress = NoAddress
 
 -- A SHOOTDOWN DROPS what serves a told address: its translation, and the upper entries that lead to it (AMD's INVLPG where EFER.TCE is set).
-abbrev pub untoldKept : Caches At Found
+abbrev pub untoldKept : Caches Position Found
 untoldKept = record { half = λ p. IsHalf (p .place); finished = λ p. IsFinished (p .place); page = IsPage }
 
 -- OR, beside the translations of the told addresses, it drops all upper entries (Intel's INVLPG).
-abbrev pub upperDropped : Caches At Found
+abbrev pub upperDropped : Caches Position Found
 upperDropped = record { half = λ p. ⊥; finished = λ p. IsFinished (p .place); page = IsPage }
 
 module _ (h : ℕ → Bool) (sp : Space) where
   -- the walks of this space
-  abbrev pub walks : Walker ℕ (ℕ → Entry) ℕ At Found
+  abbrev pub walks : Walker ℕ (ℕ → Entry) ℕ Position Found
   walks = walkerOf (settingOf h sp)
 
   -- what waits in the store buffer, the oldest first
@@ -153,8 +153,8 @@ module _ (h : ℕ → Bool) (sp : Space) where
   waiting (done N T) = waiting N
 
   -- what the code sees: memory, and over it what waits
-  abbrev pub seen : Night → ℕ → ℕ
-  seen N = after (present N) (waiting N)
+  abbrev pub codeSees : Night → ℕ → ℕ
+  codeSees N = after (present N) (waiting N)
 
   -- va lies in a page that the call unmapped, by its own answer
   unfoldable pub Unmaps : Call → (ℕ → ℕ) → ℕ → Type 0
@@ -167,7 +167,7 @@ module _ (h : ℕ → Bool) (sp : Space) where
   unfoldable pub Protects : Call → (ℕ → ℕ) → ℕ → Type 0
   Protects (map q) s va = ⊥
   Protects (unmap b) s va = ⊥
-  Protects (protect b r) s va = (g : Same) × (protectAnswer h s sp b r ≡ protected.Done g) × (b ≤ va) × (va < b + g .size)
+  Protects (protect b r) s va = (g : Altered) × (protectAnswer h s sp b r ≡ protected.Done g) × (b ≤ va) × (va < b + g .size)
   Protects (told t) s va = ⊥
 
   abbrev pub Hit : Call → (ℕ → ℕ) → ℕ → Type 0
@@ -178,19 +178,19 @@ module _ (h : ℕ → Bool) (sp : Space) where
   Hits H cs va = Some (λ a. H (a .call) (a .saw) va) cs
 
   -- some walk or cache gives o for va now
-  pub record Gets (C : Caches At Found) (N : Night) (va : ℕ) (o : Found) : Type 0 where
-    pub place : At
+  pub record Gets (C : Caches Position Found) (N : Night) (va : ℕ) (o : Found) : Type 0 where
+    pub place : Position
     pub held : Held walks C (history N) va place
     pub gives : Gives walks va place o
 
   -- some walk of va has the word x still to read, perhaps from a cache on
-  pub record MayRead (C : Caches At Found) (N : Night) (va x : ℕ) : Type 0 where
-    pub place : At
+  pub record MayRead (C : Caches Position Found) (N : Night) (va x : ℕ) : Type 0 where
+    pub place : Position
     pub held : Held walks C (history N) va place
     pub reads : Reads walks (present N) va place x
 
   -- a word of a page that some walk or cache gives now, for some address
-  pub record Given (C : Caches At Found) (N : Night) (a : ℕ) : Type 0 where
+  pub record Given (C : Caches Position Found) (N : Night) (a : ℕ) : Type 0 where
     pub address : ℕ
     pub base : ℕ
     pub size : ℕ
@@ -201,16 +201,16 @@ module _ (h : ℕ → Bool) (sp : Space) where
     pub upto : 8 * a + 8 ≤ frame + size
 
   -- Writes reach memory in their order; marks are marks; another program stores outside the pool, or through a translation that it is given.
-  unfoldable pub Allowed : Caches At Found → Night → Event ℕ → Type 0
+  unfoldable pub Allowed : Caches Position Found → Night → Event ℕ → Type 0
   Allowed C N (write a v) = (rest : List (Event ℕ)) × (waiting N ≡ write a v ∷ rest)
   Allowed C N (mark a v) = Remarked sp a (present N a) v
   Allowed C N (store a v) = (¬ PoolWord sp a) ⊎ Given C N a
 
   -- AN HONEST NIGHT: what the machine and the caller promise. At first all is whole, and nothing is held. A call sees memory but for marks, and reports
   -- at most the ticket of the moment at which the shootdown began that was done last. No write waits when a shootdown begins.
-  unfoldable pub Honest : Caches At Found → Night → Type 0
+  unfoldable pub Honest : Caches Position Found → Night → Type 0
   Honest C (dusk m) = (role : ℕ → Role) × Whole h sp m role
-  Honest C (calls N a) = Honest C N × Saw sp (seen N) (a .saw) × Within (ticketOf (bookOf (lastBegan N) sp)) (a .call)
+  Honest C (calls N a) = Honest C N × Saw sp (codeSees N) (a .saw) × Within (ticketOf (bookOf (lastBegan N) sp)) (a .call)
   Honest C (happens N e) = Honest C N × Allowed C N e
   Honest C (begins N) = Honest C N × (waiting N ≡ [])
   Honest C (done N T) = Honest C N × (cs : List Act) × (rest : List (List Act)) × (due N ≡ cs ∷ rest)

@@ -7,7 +7,7 @@ use mathlib.Core.Path.{_≡_}
 use lib.ListN.{length}
 use Rattle.word.specs.Memory.{holds}
 use Rattle.word.specs.Writes.{carried}
-use Rattle.entry.specs.Kept.{Kept}
+use Rattle.entry.specs.Kept.{SameButRights}
 use Rattle.entry.specs.declared.Rights.{Rights}
 use Rattle.walk.specs.Walk.{canonical}
 use Rattle.walk.specs.declared.Found.{Found}
@@ -37,7 +37,7 @@ use Rattle.tablepath.specs.declared.Mapped.the-variants as mapped
 use Rattle.tablepath.specs.declared.Gone.{Gone}
 use Rattle.tablepath.specs.declared.Unmapped.{Unmapped}
 use Rattle.tablepath.specs.declared.Unmapped.the-variants as unmapped
-use Rattle.tablepath.specs.declared.Same.{Same}
+use Rattle.tablepath.specs.declared.Altered.{Altered}
 use Rattle.tablepath.specs.declared.Protected.{Protected}
 use Rattle.tablepath.specs.declared.Protected.the-variants as protected
 use Rattle.tablepath.specs.declared.Report.{Report}
@@ -120,7 +120,7 @@ module _ (h h' : ℕ → Bool) (sp : Space) (m m' : ℕ → ℕ) (role : ℕ →
   -- Protect --------------------------------------------------------------------------------------------------------------------
 
   -- PROTECT ANSWERED g
-  pub record ProtectSame (va : ℕ) (rights : Rights) (g : Same) : Type 0 where
+  pub record ProtectSame (va : ℕ) (rights : Rights) (g : Altered) : Type 0 where
     -- the page that was there, with some rights, had this frame and this size
     pub had : Rights
     pub before : means h sp m va ≡ found.Page va (g .size) (g .frame) had
@@ -129,7 +129,7 @@ module _ (h h' : ℕ → Bool) (sp : Space) (m m' : ℕ → ℕ) (role : ℕ →
     -- the space is whole, each page with its role
     pub whole : Whole h' sp m' role
     -- of every word but for the rights all is as it was, the machine's marks too
-    pub kept : (x : ℕ) → Kept (m' x) (m x)
+    pub kept : (x : ℕ) → SameButRights (m' x) (m x)
     -- the ticket is that of the moment after it, which is that of the moment before
     pub ticket : (g .ticket ≡ ticketOf (bookOf m' sp)) × (g .ticket ≡ ticketOf (bookOf m sp))
 
@@ -137,9 +137,9 @@ module _ (h h' : ℕ → Bool) (sp : Space) (m m' : ℕ → ℕ) (role : ℕ →
     -- as unmap: it refuses exactly where no page is found
     pub refused : (y : Reason) → (r ≡ protected.Refused y) ↔ NotThere (settingOf h sp) m va y
     -- it is done exactly where one starts
-    pub done : ((g : Same) × (r ≡ protected.Done g)) ↔ StartsAt (settingOf h sp) m va
+    pub done : ((g : Altered) × (r ≡ protected.Done g)) ↔ StartsAt (settingOf h sp) m va
     -- and what it answers then is so
-    pub same : (g : Same) → r ≡ protected.Done g → ProtectSame va rights g
+    pub same : (g : Altered) → r ≡ protected.Done g → ProtectSame va rights g
 
   -- Told -----------------------------------------------------------------------------------------------------------------------
 
@@ -195,8 +195,8 @@ pub record ToldOpened (h : ℕ → Bool) (m : ℕ → ℕ) (sp : Space) (t : ℕ
   pub released : (k : ℕ) → (toldAnswer h m sp t ≡ told.Released k) ↔ ((b : Book) × (openedOf h m sp ≡ opened.Book b) × (dueOf b t ≡ due.Pages k))
 
 -- the window begins and ends at page boundaries
-abbrev pub Aligned : List ℕ → ℕ → Type 0
-Aligned s origin = (origin % 4096 ≡ 0) × (length s % 4096 ≡ 0)
+abbrev pub AlignedWindow : List ℕ → ℕ → Type 0
+AlignedWindow s origin = (origin % 4096 ≡ 0) × (length s % 4096 ≡ 0)
 
 -- CREATE: why it refuses: one cause for each reason, in the order of the tests
 pub data CreateCause (s : List ℕ) (origin first pages : ℕ) : PoolReason → Type 0 where
@@ -205,11 +205,11 @@ pub data CreateCause (s : List ℕ) (origin first pages : ℕ) : PoolReason → 
   -- it does not end at one
   length-unaligned : origin % 4096 ≡ 0 → length s % 4096 ≢ 0 → CreateCause s origin first pages LengthUnaligned
   -- the pool has too many pages to be counted
-  large : Aligned s origin → 2 ^ 32 < pages → CreateCause s origin first pages PoolLarge
+  large : AlignedWindow s origin → 2 ^ 32 < pages → CreateCause s origin first pages PoolLarge
   -- it has no room for the book, a root and a page more
-  small : Aligned s origin → pages ≤ 2 ^ 32 → pages < bookPages pages + 2 → CreateCause s origin first pages PoolSmall
+  small : AlignedWindow s origin → pages ≤ 2 ^ 32 → pages < bookPages pages + 2 → CreateCause s origin first pages PoolSmall
   -- some page of it is not in the window
-  outside : Aligned s origin → pages ≤ 2 ^ 32 → bookPages pages + 2 ≤ pages → (p : ℕ) → first ≤ p → p < first + pages → holds s origin p ≡ false
+  outside : AlignedWindow s origin → pages ≤ 2 ^ 32 → bookPages pages + 2 ≤ pages → (p : ℕ) → first ≤ p → p < first + pages → holds s origin p ≡ false
       → CreateCause s origin first pages PoolOutside
 
 -- CREATE, of the bytes s at entry and s' at exit

@@ -9,7 +9,7 @@ use Rattle.walk.specs.declared.Found.{Found}
 use Rattle.walk.specs.declared.Found.the-variants.{Nothing}
 use Rattle.world.specs.Events.{Event, after, Among, All}
 use Rattle.world.specs.Walker.{Gives, On}
-use Rattle.tables.specs.Walks.{At}
+use Rattle.tables.specs.Walks.{Position}
 use Rattle.world.specs.Held.{Can, None}
 use Rattle.world.specs.Frozen.{SomeReads}
 use Rattle.world.specs.Reports.{next, Caches, Held, Since, Fresh}
@@ -22,8 +22,8 @@ use Rattle.plan.specs.declared.maps.Asked.{Asked}
 use Rattle.effect.specs.Whole.{Whole}
 use Rattle.tablepath.specs.Calls.{means, PoolWord, Remarked, Act, UpTo}
 use Rattle.tablepath.specs.Tickets.{Handed}
-use Rattle.tablepath.specs.Nights.{Night, done, history, present, lastBegan, lastSince, covered, uncovered, Some, IsPage, IsHalf, butRights, untoldKept, upperDropped, walks, waiting, seen, Unmaps, Hit, Hits, Gets, MayRead, Given, Onward}
-use Rattle.tablepath.specs.Gone.{dawn, Avoids, MappedAt, Maps, Mapped, pageOf, MappedSince, Listed, Links}
+use Rattle.tablepath.specs.Nights.{Night, done, history, present, lastBegan, lastSince, covered, uncovered, Some, IsPage, IsHalf, butRights, untoldKept, upperDropped, walks, waiting, codeSees, Unmaps, Hit, Hits, Gets, MayRead, Given, Onward}
+use Rattle.tablepath.specs.Gone.{dawn, Avoids, MappedAt, Maps, StillMapped, pageOf, MappedSince, InBook, Links}
 
 module _ (h : ℕ → Bool) (sp : Space) where
   -- Answers ---------------------------------------------------------------------------------------------------------------------------
@@ -42,11 +42,11 @@ module _ (h : ℕ → Bool) (sp : Space) where
 
   -- A FULL FLUSH: when it is done, nothing is held but what began since it began.
   abbrev pub NightFlushed : Night → Type 1
-  NightFlushed N = (T : ℕ → Type 0) → ((va : ℕ) → T va) → (C : Caches At Found) (va : ℕ) (p : At) → Held (walks h sp) C (history (done N T)) va p
+  NightFlushed N = (T : ℕ → Type 0) → ((va : ℕ) → T va) → (C : Caches Position Found) (va : ℕ) (p : Position) → Held (walks h sp) C (history (done N T)) va p
       → Since (walks h sp) (next (history N)) va p
 
   -- STORES: whatever page is given, however stale, no word of it is the pool's. So no program's store hits a table or the book.
-  abbrev pub StaysOut : Caches At Found → Night → Type 0
+  abbrev pub StaysOut : Caches Position Found → Night → Type 0
   StaysOut C N = (a : ℕ) → Given h sp C N a → ¬ PoolWord sp a
 
   -- Reuse --------------------------------------------------------------------------------------------------------------------------------
@@ -54,17 +54,17 @@ module _ (h : ℕ → Bool) (sp : Space) where
   -- A FRAME IS GONE, COMPLETE: by the calls that a shootdown covers, every page that met it was unmapped; and none was mapped since. Then no walk and no
   -- cache gives, for any address, a page that meets it.
   abbrev pub FrameGone : Night → Type 0
-  FrameGone N = (f s : ℕ) → ((b : ℕ) → ¬ Mapped h sp f s (MappedAt h sp f s (dawn N)) (covered N) b) → ((b : ℕ) → ¬ Some (Maps h sp f s b) (uncovered N))
+  FrameGone N = (f s : ℕ) → ((b : ℕ) → ¬ StillMapped h sp f s (MappedAt h sp f s (dawn N)) (covered N) b) → ((b : ℕ) → ¬ Some (Maps h sp f s b) (uncovered N))
       → (va : ℕ) (o : Found) → Gets h sp untoldKept N va o → Avoids f s o
 
   -- A TABLE IS GONE, COMPLETE: when the last period began the book listed the page as free or set aside, and no call has linked it since. Then no walk,
   -- from whatever cache it goes on, reads a word of it.
   abbrev pub TableGone : Night → Type 0
-  TableGone N = (t : ℕ) → Listed sp (lastBegan N) t → ¬ Some (Links h sp t) (uncovered N) → (va i : ℕ) → i < 512 → ¬ MayRead h sp untoldKept N va (at t i)
+  TableGone N = (t : ℕ) → InBook sp (lastBegan N) t → ¬ Some (Links h sp t) (uncovered N) → (va i : ℕ) → i < 512 → ¬ MayRead h sp untoldKept N va (at t i)
 
   -- WHAT A REPORT RELEASES, COMPLETE: a page that an honest report would release now is read by no walk, from whatever cache it goes on.
   abbrev pub ReleasedUnread : Night → Type 0
-  ReleasedUnread N = (p k : ℕ) → Numbered (seen h sp N) sp p k → k < ticketOf (bookOf (lastBegan N) sp) → (va i : ℕ) → i < 512 → ¬ MayRead h sp untoldKept N va (at p i)
+  ReleasedUnread N = (p k : ℕ) → Numbered (codeSees h sp N) sp p k → k < ticketOf (bookOf (lastBegan N) sp) → (va i : ℕ) → i < 512 → ¬ MayRead h sp untoldKept N va (at p i)
 
   -- A TICKET THAT A COVERED CALL HANDED OUT may be reported: it is at most that of the moment at which the shootdown began that was done last.
   abbrev pub CoveredTicket : Night → Type 0
@@ -106,13 +106,13 @@ module _ (h : ℕ → Bool) (sp : Space) where
   -- beyond the ticket of that moment.)
   abbrev pub FoundAtOnce : Night → Night → Type 1
   FoundAtOnce N M = (cs : List Act) (gs : List (Event ℕ)) → Onward N M cs gs → waiting h sp N ≡ [] → UpTo (ticketOf (bookOf (present N) sp)) cs → (va : ℕ) (o : Found) → means h sp (present N) va ≡ o
-      → IsPage o → ¬ Hits h sp (Hit h sp) cs va → (p : At) (o' : Found) → Can (walks h sp) (present N) gs (None (walks h sp)) va p
+      → IsPage o → ¬ Hits h sp (Hit h sp) cs va → (p : Position) (o' : Found) → Can (walks h sp) (present N) gs (None (walks h sp)) va p
       → Gives (walks h sp) va p o' → o' ≡ o
 
   -- AN UPPER ENTRY THAT IS HELD, under which no page was unmapped since the last period began, is on the way of a walk that begins now: who goes on from
   -- it finds what that walk finds. COMPLETE.
   abbrev pub UpperHolds : Night → Type 0
-  UpperHolds N = waiting h sp N ≡ [] → (va : ℕ) (p : At) → Held (walks h sp) untoldKept (history N) va p → IsHalf (p .place)
+  UpperHolds N = waiting h sp N ≡ [] → (va : ℕ) (p : Position) → Held (walks h sp) untoldKept (history N) va p → IsHalf (p .place)
       → ((vb : ℕ) → Near (p .levels) va vb → ¬ Hits h sp (Unmaps h sp) (uncovered N) vb) → On (walks h sp) (present N) va p (walks h sp .start va)
 
   -- ELSE a cache may lead to nothing still, and to nothing else. EXACT.

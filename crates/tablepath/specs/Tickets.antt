@@ -17,7 +17,7 @@ use Rattle.pool.specs.declared.moment.Stated.{Stated}
 use Rattle.pool.specs.declared.moment.Stated.the-variants as stated
 use Rattle.tablepath.specs.declared.Gone.{Gone}
 use Rattle.tablepath.specs.declared.Unmapped.the-variants as unmapped
-use Rattle.tablepath.specs.declared.Same.{Same}
+use Rattle.tablepath.specs.declared.Altered.{Altered}
 use Rattle.tablepath.specs.declared.Protected.the-variants as protected
 use Rattle.tablepath.specs.Answers.{unmapAnswer, protectAnswer, toldAnswer}
 use Rattle.tablepath.specs.Calls.{Call, map, unmap, protect, told}
@@ -51,7 +51,7 @@ pub record StateOpened (h : ℕ → Bool) (m : ℕ → ℕ) (sp : Space) : Type 
 unfoldable pub Handed : (ℕ → Bool) → (ℕ → ℕ) → Space → Call → ℕ → Type 0
 Handed h m sp (map q) t = ⊥
 Handed h m sp (unmap va) t = (g : Gone) × (unmapAnswer h m sp va ≡ unmapped.Done g) × (g .ticket ≡ t)
-Handed h m sp (protect va r) t = (g : Same) × (protectAnswer h m sp va r ≡ protected.Done g) × (g .ticket ≡ t)
+Handed h m sp (protect va r) t = (g : Altered) × (protectAnswer h m sp va r ≡ protected.Done g) × (g .ticket ≡ t)
 Handed h m sp (told n) t = ⊥
 
 -- the report of the ticket t is done, and releases n pages or more

@@ -44,14 +44,14 @@ pub enum Unmapped {
 }
 
 // The page whose rights changed, and the ticket, as of unmap.
-pub struct Same {
+pub struct Altered {
     pub frame: u64,
     pub size: u64,
     pub ticket: u64,
 }
 
 pub enum Protected {
-    Done(Same),
+    Done(Altered),
     Refused(Reason),
 }
 
@@ -114,7 +114,7 @@ pub fn unmap_up_to(mem: &mut [u8], left: &mut u64, space: Space, base: u64) -> U
     match d {
         Unmapping::Refused(r) => Unmapped::Refused(r),
         Unmapping::Done(p, ticket) => {
-            let s = p.spot;
+            let s = p.page;
             Unmapped::Done(Gone {
                 frame: s.frame,
                 size: s.size,
@@ -149,7 +149,7 @@ pub fn protect_up_to(
     let d = plan::protect(mem, left, space, base, rights);
     match d {
         Changing::Refused(r) => Protected::Refused(r),
-        Changing::Go(c) => Protected::Done(Same {
+        Changing::Go(c) => Protected::Done(Altered {
             frame: c.frame,
             size: c.size,
             ticket: c.ticket,

@@ -14,7 +14,7 @@ use Rattle.world.proofs.Rules.{obeys-nil, obeys-append}
 use Rattle.world.specs.OneChange.{Quiet, SameMeaning}
 use Rattle.world.proofs.OneChange.{quiet-nil, quiet-more}
 use Rattle.tables.proofs.Walks.{one-space-meaning, laws-of}
-use Rattle.tables.specs.Roles.{Setting, Role, free, aside, book, left, Live, Built, Holds, Zero}
+use Rattle.tables.specs.Roles.{Setting, Role, free, aside, book, left, Live, Built, Occupied, Zero}
 use Rattle.tables.specs.Way.{Comes}
 use Rattle.tables.specs.Meaning.{meaning}
 use Rattle.tables.proofs.Unseen.{unseen-word, unseen-alike, alike-comes}
@@ -52,7 +52,7 @@ pub book-spare : (role : ℕ → Role) (p : ℕ) → role p ≡ book → Spare r
 book-spare role p h = (ap left h, λ e. let z : _≡_ {A = ℕ} 0 1 = cc in omega arith)
 
 -- What a list of writes leaves: all that is said of tables, and every word of a table.
-pub record Untouched (σ : Setting) (m : ℕ → ℕ) (role : ℕ → Role) (xs : List Write) : Type 0 where
+pub record LeavesTables (σ : Setting) (m : ℕ → ℕ) (role : ℕ → Role) (xs : List Write) : Type 0 where
   pub built : Built σ (after m xs) role
   pub same : (va : ℕ) → meaning σ (after m xs) va ≡ meaning σ m va
   pub quiet : Quiet (walkerOf σ) m (eventsOf xs)
@@ -63,7 +63,7 @@ pub record Untouched (σ : Setting) (m : ℕ → ℕ) (role : ℕ → Role) (xs 
 
 -- one write more, in front
 untouched-more : {σ : Setting} {m : ℕ → ℕ} {role : ℕ → Role} (p i v : ℕ) (xs : List Write) → Built σ m role → i < 512 → Spare role p
-    → Untouched σ (set m (at p i) v) role xs → Untouched σ m role (write p i v ∷ xs)
+    → LeavesTables σ (set m (at p i) v) role xs → LeavesTables σ m role (write p i v ∷ xs)
 unfolding eventsOf after world.after world.happen world.All
 untouched-more {σ} {m} {role} p i v xs b u h rest = record {
   built = rest .built;
@@ -83,7 +83,7 @@ untouched-more {σ} {m} {role} p i v xs b u h rest = record {
     idle = ap (λ x. left (role x)) page ∙ h .0
 
 -- A LIST OF WRITES INTO SPARE PAGES leaves them.
-pub spare-untouched : {σ : Setting} {role : ℕ → Role} (xs : List Write) {m : ℕ → ℕ} → Built σ m role → Every (Spare role) xs → Untouched σ m role xs
+pub spare-untouched : {σ : Setting} {role : ℕ → Role} (xs : List Write) {m : ℕ → ℕ} → Built σ m role → Every (Spare role) xs → LeavesTables σ m role xs
 unfolding eventsOf after world.All
 spare-untouched {σ} {role} [] {m} b none = record {
   built = b;
@@ -99,7 +99,7 @@ spare-untouched {σ} {role} (x ∷ xs) {m} b (more o h) =
     (spare-untouched xs (unseen b (at (x .page) (x .index)) (x .word) (ap (λ p. left (role p)) (page-of (x .page) (x .index) (o .in-index)) ∙ o .in-page .0) .built) h)
 
 -- a table that is not empty is not empty then
-pub untouched-holds : {σ : Setting} {m : ℕ → ℕ} {role : ℕ → Role} {xs : List Write} → Untouched σ m role xs → (p l : ℕ) → Live role p l → Holds m l p → Holds (after m xs) l p
+pub untouched-holds : {σ : Setting} {m : ℕ → ℕ} {role : ℕ → Role} {xs : List Write} → LeavesTables σ m role xs → (p l : ℕ) → Live role p l → Occupied m l p → Occupied (after m xs) l p
 untouched-holds k p l n o = (o .0, o .1, λ e. o .2 (ap (says l) (sym (k .words p l (o .0) n (o .1))) ∙ e))
 
 -- Clearing a page ------------------------------------------------------------------------------------------------------------------

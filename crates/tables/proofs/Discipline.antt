@@ -18,12 +18,12 @@ use Rattle.walk.proofs.Digits.{index-lt}
 use Rattle.world.specs.Events.{write}
 use Rattle.world.specs.Walker.{cell, Reads, On}
 use Rattle.world.proofs.Rules.{obeys-nil, obeys-weaken, obeys-cuts, obeys-ends, obeys-unseen}
-use Rattle.tables.specs.Walks.{At}
+use Rattle.tables.specs.Walks.{Position}
 use Rattle.tables.proofs.Ties.{reads-walk, on-way, Through, through}
 use Rattle.tables.specs.Roles.{Setting, Role, free, aside, table, unlinked, left, entryAt, Built, Bare, Plain}
 use Rattle.tables.specs.Way.{Comes}
 use Rattle.tables.proofs.Way.{comes-left}
-use Rattle.tables.specs.OneWrite.{Spot}
+use Rattle.tables.specs.OneWrite.{LiveEntry}
 use Rattle.tables.proofs.OneWrite.{at-page, nothing-plain}
 use Rattle.tables.proofs.Reach.{walk-reads-tables, reads-bare, way-comes}
 use Rattle.tables.specs.Discipline.{Aside, walkerOf, ObeysOf}
@@ -42,7 +42,7 @@ module _ {σ : Setting} {m : ℕ → ℕ} {role : ℕ → Role} (b : Built σ m 
     rights : Rights
     reads-on : Reads (walkerOf σ) m va (record { levels = l; place = Going child rights }) x
 
-  goes-on : {q l i : ℕ} → Spot role q l i → (va : ℕ) (p : At) → On (walkerOf σ) m va p (record { levels = 4; place = start (σ .cr3) va })
+  goes-on : {q l i : ℕ} → LiveEntry role q l i → (va : ℕ) (p : Position) → On (walkerOf σ) m va p (record { levels = 4; place = start (σ .cr3) va })
       → walkerOf σ .reads va p ≡ cell (at q i) → (x : ℕ) → Reads (walkerOf σ) m va (walkerOf σ .step m va p) x → Goes q l i va x
   goes-on {q} {l} {i} s va p o e x r = record {
     child = t .child;
@@ -68,24 +68,24 @@ module _ {σ : Setting} {m : ℕ → ℕ} {role : ℕ → Role} (b : Built σ m 
           omega (arith, comes-left b comes, s .live, ap (λ y. left (role y)) same)
 
   -- an entry of a table is not aside
-  live-thawed : {q l i : ℕ} → Spot role q l i → ¬ Aside role (at q i)
+  live-thawed : {q l i : ℕ} → LiveEntry role q l i → ¬ Aside role (at q i)
   live-thawed {q} {l} {i} s e = omega (arith, s .live, ap left (ap role (sym (page-of q i (s .fits))) ∙ e))
 
   -- A WRITE OVER NOTHING OR A PAGE cuts nothing: the edits 2, 3 and 4, and the link of 1.
-  pub plain-obeys : {q l i : ℕ} → Spot role q l i → (v : ℕ) → Plain (entryAt m l q i) → ObeysOf σ role m (write (at q i) v ∷ []) role
+  pub plain-obeys : {q l i : ℕ} → LiveEntry role q l i → (v : ℕ) → Plain (entryAt m l q i) → ObeysOf σ role m (write (at q i) v ∷ []) role
   plain-obeys {q} {l} {i} s v was =
       obeys-ends (walkerOf σ) (laws-of σ) (Aside role) (Aside role) m (at q i) v []
       (λ va p o e x r. let g = goes-on s va p o e x r in was (g .child) (g .grants) (g .names)) (live-thawed s) (obeys-nil (walkerOf σ) (laws-of σ) (Aside role) (set m (at q i) v))
 
   -- 1. a free page becomes a table: no page is set aside by it, and none that was is touched
-  pub link-obeys : {q l i : ℕ} → Spot role q l i → (v p : ℕ) → entryAt m l q i ≡ Nothing → role p ≡ free
+  pub link-obeys : {q l i : ℕ} → LiveEntry role q l i → (v p : ℕ) → entryAt m l q i ≡ Nothing → role p ≡ free
       → ObeysOf σ role m (write (at q i) v ∷ []) (set role p (table l q i))
   link-obeys {q} {l} {i} s v p was new =
       obeys-weaken (walkerOf σ) (laws-of σ) (write (at q i) v ∷ []) (Aside role) (Aside role) (Aside (set role p (table l q i))) (Aside role) m (λ x h. h)
       (λ x h. set-other role p (table l q i) (x / 512) (λ e. let z : _≡_ {A = ℕ} 0 1 = cc in omega arith) ∙ h) (plain-obeys s v (nothing-plain was))
 
   -- 5. A TABLE THAT IS UNLINKED is set aside, and so what is cut off is frozen.
-  pub unlink-obeys : {q l i : ℕ} → Spot role q l i → (v p : ℕ) → entryAt m l q i ≡ Table p everything → Bare m l p
+  pub unlink-obeys : {q l i : ℕ} → LiveEntry role q l i → (v p : ℕ) → entryAt m l q i ≡ Table p everything → Bare m l p
       → ObeysOf σ role m (write (at q i) v ∷ []) (set role p unlinked)
   unlink-obeys {q} {l} {i} s v p was bare =
       obeys-cuts (walkerOf σ) (laws-of σ) (Aside role) (Aside (set role p unlinked)) (Aside (set role p unlinked)) m (at q i) v [] more cut out
@@ -97,7 +97,7 @@ module _ {σ : Setting} {m : ℕ → ℕ} {role : ℕ → Role} (b : Built σ m 
       more : (x : ℕ) → Aside role x → Aside (set role p unlinked) x
       more x h = elim (ℕ-discrete p (x / 512)) [ yes d ↦ set-at role p unlinked (x / 512) d | no d ↦ set-other role p unlinked (x / 512) d ∙ h ]
 
-      cut : (va : ℕ) (y : At) → On (walkerOf σ) m va y (record { levels = 4; place = start (σ .cr3) va }) → walkerOf σ .reads va y ≡ cell (at q i)
+      cut : (va : ℕ) (y : Position) → On (walkerOf σ) m va y (record { levels = 4; place = start (σ .cr3) va }) → walkerOf σ .reads va y ≡ cell (at q i)
           → (x : ℕ) → Reads (walkerOf σ) m va (walkerOf σ .step m va y) x → Aside (set role p unlinked) x
       cut va y o e x r =
           let g = goes-on s va y o e x r in

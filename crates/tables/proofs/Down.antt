@@ -18,12 +18,12 @@ use Rattle.walk.specs.declared.Found.the-variants as found
 use Rattle.walk.proofs.Digits.{index-lt}
 use Rattle.world.proofs.Rules.{obeys-nil}
 use Rattle.world.proofs.OneChange.{quiet-nil}
-use Rattle.tables.specs.Roles.{Setting, Role, free, table, left, entryAt, Apart, Holds, Sound, Zero}
+use Rattle.tables.specs.Roles.{Setting, Role, free, table, left, entryAt, Apart, Occupied, Sound, Zero}
 use Rattle.tables.specs.Way.{Comes, onto}
 use Rattle.tables.proofs.Way.{comes-left}
-use Rattle.tables.specs.OneWrite.{Spot}
+use Rattle.tables.specs.OneWrite.{LiveEntry}
 use Rattle.tables.proofs.OneWrite.{at-page, comes-spot, table-something, nothing-plain, page-plain, comes-kept}
-use Rattle.tables.specs.Edits.{Keeps}
+use Rattle.tables.specs.Edits.{KeepsMeaning}
 use Rattle.tables.proofs.Edits.{link, link-filled, write-page, page-filled, change-rights}
 use Rattle.tables.specs.Discipline.{Aside, walkerOf}
 use Rattle.tables.proofs.Discipline.{plain-obeys, link-obeys}
@@ -65,10 +65,10 @@ module _ {σ : Setting} {m₀ : ℕ → ℕ} {role₀ : ℕ → Role} {va : ℕ}
     unused = d .unused;
   }
     where
-      go : (p l q i : ℕ) → role p ≡ table (suc l) q i → Dec (p ≡ t) → Holds m l p
+      go : (p l q i : ℕ) → role p ≡ table (suc l) q i → Dec (p ≡ t) → Occupied m l p
       go p l q i h (yes x) =
           let level : l ≡ n = omega (arith, ap left h, ap (λ y. left (role y)) x, comes-left (d .built) (d .comes)) in
-          subst₂ (λ y z. Holds m y z) (sym level) (sym x) (indexOf n va, index-lt n va, table-something s g e)
+          subst₂ (λ y z. Occupied m y z) (sym level) (sym x) (indexOf n va, index-lt n va, table-something s g e)
       go p l q i h (no x) = d .filled p l q i h x
 
   -- writes into spare pages
@@ -109,10 +109,10 @@ module _ {σ : Setting} {m₀ : ℕ → ℕ} {role₀ : ℕ → Role} {va : ℕ}
       role' : ℕ → Role
       role' = set role p (table n t i)
 
-      s : Spot role t n i
+      s : LiveEntry role t n i
       s = comes-spot (d .built) (d .comes)
 
-      k : Keeps σ m (set m (at t i) v) role'
+      k : KeepsMeaning σ m (set m (at t i) v) role'
       k = link (d .built) s v p was is new empty
 
       once : (x : ℕ) → Dec (p ≡ x) → (role' x ≡ role x) ⊎ (role x ≡ role₀ x)

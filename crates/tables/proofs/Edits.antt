@@ -18,17 +18,17 @@ use Rattle.walk.specs.Walk.{indexOf, baseOf}
 use Rattle.walk.specs.declared.Found.{Found}
 use Rattle.walk.specs.declared.Found.the-variants as found
 use Rattle.walk.proofs.Digits.{index-lt, same-base}
-use Rattle.tables.specs.Roles.{Setting, Role, foreign, free, table, unlinked, left, entryAt, Apart, Built, Holds, Filled, FilledBut, Zero, Bare, Plain}
+use Rattle.tables.specs.Roles.{Setting, Role, foreign, free, table, unlinked, left, entryAt, Apart, Built, Occupied, Filled, FilledBut, Zero, Bare, Plain}
 use Rattle.tables.proofs.Near.{near-range}
 use Rattle.tables.specs.Way.{Comes}
 use Rattle.tables.proofs.Way.{comes-left}
 use Rattle.tables.specs.Meaning.{meaning}
 use Rattle.tables.proofs.Meaning.{onward-nothing, onward-table, onward-bare, mean-nothing, mean-page, live-home}
-use Rattle.tables.specs.OneWrite.{Spot}
+use Rattle.tables.specs.OneWrite.{LiveEntry}
 use Rattle.tables.proofs.OneWrite.{comes-spot, nothing-plain, page-plain, page-something, other-page, holds-kept, fill, out-of-range, in-the-range, quiet-write}
 use Rattle.tables.proofs.Kept.{Decent, plain-built, link-built, unlink-built, zero-bare}
 use Rattle.tables.proofs.Unseen.{unseen-alike, alike-built, alike-means}
-use Rattle.tables.specs.Edits.{Keeps, Turns}
+use Rattle.tables.specs.Edits.{KeepsMeaning, Turns}
 
 -- The same in numbers.
 pub turns-inside : {σ : Setting} {m m' : ℕ → ℕ} {role' : ℕ → Role} {l va : ℕ} {o : Found} → Turns σ m m' role' l va o
@@ -62,8 +62,8 @@ table-decent σ l v p is = record {
 
 module _ {σ : Setting} {m : ℕ → ℕ} {role : ℕ → Role} (b : Built σ m role) where
   -- 1. LINK: a free page whose words are all 0 becomes a table, over nothing.
-  pub link : {q l i : ℕ} → Spot role q l i → (v p : ℕ) → entryAt m l q i ≡ Nothing → says l v ≡ Table p everything → role p ≡ free → Zero m p
-      → Keeps σ m (set m (at q i) v) (set role p (table l q i))
+  pub link : {q l i : ℕ} → LiveEntry role q l i → (v p : ℕ) → entryAt m l q i ≡ Nothing → says l v ≡ Table p everything → role p ≡ free → Zero m p
+      → KeepsMeaning σ m (set m (at q i) v) (set role p (table l q i))
   link {q} {l} {i} s v p was is new empty = record {
     built = link-built b s v (table-decent σ l v p is) p was is new empty;
     same = quiet-write b s v
@@ -75,7 +75,7 @@ module _ {σ : Setting} {m : ℕ → ℕ} {role : ℕ → Role} (b : Built σ m 
       still : Zero (set m (at q i) v) p
       still j u = other-page b s v p j (λ e. omega (arith, s .live, ap (λ x. left (role x)) e, ap left new)) u ∙ empty j u
 
-  pub link-filled : {q l i : ℕ} → Spot role q l i → (v p : ℕ) → says l v ≡ Table p everything → FilledBut m role q
+  pub link-filled : {q l i : ℕ} → LiveEntry role q l i → (v p : ℕ) → says l v ≡ Table p everything → FilledBut m role q
       → FilledBut (set m (at q i) v) (set role p (table l q i)) p
   link-filled {q} {l} {i} s v p is f x k r j h d =
       fill b s v (λ e. let z : _≡_ {A = ℕ} 0 1 = cc in omega arith) f x k r j (sym (set-other role p (table l q i) x (λ e. d (sym e))) ∙ h)
@@ -91,7 +91,7 @@ module _ {σ : Setting} {m : ℕ → ℕ} {role : ℕ → Role} (b : Built σ m 
     elsewhere = λ vb far. out-of-range b s v vb c refl far;
   }
     where
-      s : Spot role q l (indexOf l va)
+      s : LiveEntry role q l (indexOf l va)
       s = comes-spot b c
 
       now : Built σ (set m (at q (indexOf l va)) v) role
@@ -103,7 +103,7 @@ module _ {σ : Setting} {m : ℕ → ℕ} {role : ℕ → Role} (b : Built σ m 
   write-page c v f g was is a k = page-turns c v f g (nothing-plain was) is a k
 
   -- the table is not empty then
-  pub page-filled : {q l i : ℕ} → Spot role q l i → (v f : ℕ) (g : Rights) → says l v ≡ Page f g → FilledBut m role q → Filled (set m (at q i) v) role
+  pub page-filled : {q l i : ℕ} → LiveEntry role q l i → (v f : ℕ) (g : Rights) → says l v ≡ Page f g → FilledBut m role q → Filled (set m (at q i) v) role
   page-filled s v f g is k = fill b s v (page-something f g is) k
 
   -- 3. CLEAR A PAGE. Its table may be empty then.
@@ -115,13 +115,13 @@ module _ {σ : Setting} {m : ℕ → ℕ} {role : ℕ → Role} (b : Built σ m 
     elsewhere = λ vb far. out-of-range b s 0 vb c refl far;
   }
     where
-      s : Spot role q l (indexOf l va)
+      s : LiveEntry role q l (indexOf l va)
       s = comes-spot b c
 
       now : Built σ (set m (at q (indexOf l va)) 0) role
       now = plain-built b s 0 (zero-decent σ l) (page-plain f g was) (nothing-plain (zero-says l))
 
-  pub clear-filled : {q l i : ℕ} → Spot role q l i → Filled m role → FilledBut (set m (at q i) 0) role q
+  pub clear-filled : {q l i : ℕ} → LiveEntry role q l i → Filled m role → FilledBut (set m (at q i) 0) role q
   clear-filled s f p k r j h d = holds-kept b s 0 k p (λ e. d (sym e)) (f p k r j h)
 
   -- 4. CHANGE A PAGE'S RIGHTS: the same page, in the same entry. (Its table stays as full as it was: page-filled.)
@@ -131,7 +131,7 @@ module _ {σ : Setting} {m : ℕ → ℕ} {role : ℕ → Role} (b : Built σ m 
       page-turns c v f g' (page-plain f g was) is (b .apart q l (indexOf l va) f g (comes-left b c) (index-lt l va) was) k
 
   -- 5. UNLINK a table that is empty: it is set aside. The table above may be empty then.
-  pub unlink : {q l i : ℕ} → Spot role q l i → (p : ℕ) → entryAt m l q i ≡ Table p everything → Bare m l p → Keeps σ m (set m (at q i) 0) (set role p unlinked)
+  pub unlink : {q l i : ℕ} → LiveEntry role q l i → (p : ℕ) → entryAt m l q i ≡ Table p everything → Bare m l p → KeepsMeaning σ m (set m (at q i) 0) (set role p unlinked)
   unlink {q} {l} {i} s p was bare = record {
     built = unlink-built b s 0 (zero-decent σ l) p was (zero-says l) bare;
     same = quiet-write b s 0
@@ -145,13 +145,13 @@ module _ {σ : Setting} {m : ℕ → ℕ} {role : ℕ → Role} (b : Built σ m 
       below : role p ≢ foreign
       below e = let z : _≡_ {A = ℕ} 0 1 = cc (b .down q l i p everything (s .live) (s .fits) was .0) in omega arith
 
-  pub unlink-filled : {q l i : ℕ} → Spot role q l i → (p : ℕ) → FilledBut m role p → FilledBut (set m (at q i) 0) (set role p unlinked) q
+  pub unlink-filled : {q l i : ℕ} → LiveEntry role q l i → (p : ℕ) → FilledBut m role p → FilledBut (set m (at q i) 0) (set role p unlinked) q
   unlink-filled {q} {l} {i} s p f x k r j h d = go (ℕ-discrete p x)
     where
-      go : Dec (p ≡ x) → Holds (set m (at q i) 0) k x
+      go : Dec (p ≡ x) → Occupied (set m (at q i) 0) k x
       go (yes y) = let e : unlinked ≡ table (suc k) r j = sym (set-at role p unlinked x y) ∙ h in let z : _≡_ {A = ℕ} 0 1 = cc in absurd (omega arith)
       go (no y) = holds-kept b s 0 k x (λ e. d (sym e)) (f x k r j (sym (set-other role p unlinked x y) ∙ h) (λ e. y (sym e)))
 
   -- 6. WRITE WHERE NO WALK COMES.
-  pub unseen : (a v : ℕ) → left (role (a / 512)) ≡ 0 → Keeps σ m (set m a v) role
+  pub unseen : (a v : ℕ) → left (role (a / 512)) ≡ 0 → KeepsMeaning σ m (set m a v) role
   unseen a v n = record { built = alike-built b (set m a v) (unseen-alike m role a v n); same = alike-means b (set m a v) (unseen-alike m role a v n) }

@@ -13,7 +13,7 @@ use Rattle.entry.specs.declared.Entry.the-variants.{Nothing, Page, Table}
 use Rattle.entry.proofs.Fields.{says-absent}
 use Rattle.tables.specs.Roles.{Setting, Role, foreign, free, aside, book, root, table, unlinked, left, Live, entryAt, Home, Apart, Built, Zero, Bare, Plain}
 use Rattle.entry.proofs.Clean.{zero-clean}
-use Rattle.tables.specs.OneWrite.{Spot}
+use Rattle.tables.specs.OneWrite.{LiveEntry}
 use Rattle.tables.proofs.OneWrite.{Seen, this, other, seen, other-page, zeros-kept, apart-kept, clean-kept, nothing-plain}
 
 -- a page of zeros says nothing, at any level
@@ -65,7 +65,7 @@ pub record Decent (σ : Setting) (l v : ℕ) : Type 0 where
   pub apart : (f : ℕ) (g : Rights) → says l v ≡ Page f g → Apart σ f (sizeOf l)
   pub clean : Clean l v
 
-module _ {σ : Setting} {m : ℕ → ℕ} {role : ℕ → Role} (b : Built σ m role) {q l i : ℕ} (s : Spot role q l i) (v : ℕ) (ok : Decent σ l v) where
+module _ {σ : Setting} {m : ℕ → ℕ} {role : ℕ → Role} (b : Built σ m role) {q l i : ℕ} (s : LiveEntry role q l i) (v : ℕ) (ok : Decent σ l v) where
   -- A PAGE OR NOTHING, over either.
   pub plain-built : Plain (entryAt m l q i) → Plain (says l v) → Built σ (set m (at q i) v) role
   plain-built was is = record {

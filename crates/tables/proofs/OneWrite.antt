@@ -16,16 +16,16 @@ use Rattle.entry.specs.declared.Entry.the-variants.{Nothing, Page, Table}
 use Rattle.walk.specs.Walk.{canonical, indexOf, run}
 use Rattle.walk.specs.declared.Found.the-variants as found
 use Rattle.walk.proofs.Digits.{index-lt, same-index}
-use Rattle.tables.specs.Roles.{Setting, Role, left, Live, entryAt, Apart, Built, Holds, Filled, FilledBut, Plain}
+use Rattle.tables.specs.Roles.{Setting, Role, left, Live, entryAt, Apart, Built, Occupied, Filled, FilledBut, Plain}
 use Rattle.tables.specs.Near.{Near}
 use Rattle.tables.specs.Way.{Comes, begin, onto}
 use Rattle.tables.proofs.Way.{comes-entry, comes-left, one-entry}
 use Rattle.tables.specs.Meaning.{meaning, onward}
 use Rattle.tables.proofs.Meaning.{onward-nothing, onward-page, onward-table, no-address, address-onward, comes-root, live-home}
-use Rattle.tables.specs.OneWrite.{Spot}
+use Rattle.tables.specs.OneWrite.{LiveEntry}
 
 -- the entry that a walk comes to
-pub comes-spot : {σ : Setting} {m : ℕ → ℕ} {role : ℕ → Role} {va l q : ℕ} → Built σ m role → Comes σ m va (suc l) q → Spot role q l (indexOf l va)
+pub comes-spot : {σ : Setting} {m : ℕ → ℕ} {role : ℕ → Role} {va l q : ℕ} → Built σ m role → Comes σ m va (suc l) q → LiveEntry role q l (indexOf l va)
 comes-spot {va = va} {l} b c = record { live = comes-left b c; fits = index-lt l va }
 
 -- Numbers of entries -----------------------------------------------------------------------------------------------------------
@@ -56,7 +56,7 @@ pub data Seen (m : ℕ → ℕ) (q l i v r k j : ℕ) : Type 0 where
       → entryAt (set m (at q i) v) k r j ≡ says l v → Seen m q l i v r k j
   other : at q i ≢ at r j → set m (at q i) v (at r j) ≡ m (at r j) → Seen m q l i v r k j
 
-module _ {σ : Setting} {m : ℕ → ℕ} {role : ℕ → Role} (b : Built σ m role) {q l i : ℕ} (s : Spot role q l i) (v : ℕ) where
+module _ {σ : Setting} {m : ℕ → ℕ} {role : ℕ → Role} (b : Built σ m role) {q l i : ℕ} (s : LiveEntry role q l i) (v : ℕ) where
   pub seen : (r k j : ℕ) → Live role r k → j < 512 → Seen m q l i v r k j
   seen r k j h u = go (ℕ-discrete (at q i) (at r j))
     where
@@ -73,20 +73,20 @@ module _ {σ : Setting} {m : ℕ → ℕ} {role : ℕ → Role} (b : Built σ m 
   other-page p j d u = set-other m (at q i) v (at p j) (λ e. d (at-page q i p j (s .fits) u e))
 
   -- a table that had an entry has one, unless it is the written one, which has one if what is written says something
-  pub holds-kept : (k p : ℕ) → q ≢ p → Holds m k p → Holds (set m (at q i) v) k p
+  pub holds-kept : (k p : ℕ) → q ≢ p → Occupied m k p → Occupied (set m (at q i) v) k p
   holds-kept k p d h = (h .0, h .1, λ e. h .2 (ap (says k) (sym (other-page p (h .0) d (h .1))) ∙ e))
 
-  pub holds-here : says l v ≢ Nothing → Holds (set m (at q i) v) l q
+  pub holds-here : says l v ≢ Nothing → Occupied (set m (at q i) v) l q
   holds-here n = (i, s .fits, λ e. n (ap (says l) (sym (set-same m (at q i) v)) ∙ e))
 
   -- something is written into the one table that may have been empty
   pub fill : says l v ≢ Nothing → FilledBut m role q → Filled (set m (at q i) v) role
   fill is f p k r j h = go (ℕ-discrete q p)
     where
-      go : Dec (q ≡ p) → Holds (set m (at q i) v) k p
+      go : Dec (q ≡ p) → Occupied (set m (at q i) v) k p
       go (yes d) =
           let level : l ≡ k = omega (arith, s .live, ap left h, ap (λ x. left (role x)) d) in
-          subst₂ (λ x y. Holds (set m (at q i) v) x y) level d (holds-here is)
+          subst₂ (λ x y. Occupied (set m (at q i) v) x y) level d (holds-here is)
       go (no d) = holds-kept k p d (f p k r j h (λ e. d (sym e)))
 
   -- a word that says nothing is 0, and frames lie apart, of all entries, if it is so of the written one

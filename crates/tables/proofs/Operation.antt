@@ -18,7 +18,7 @@ use Rattle.tables.specs.Meaning.{meaning}
 use Rattle.tables.specs.Discipline.{Aside, walkerOf, ObeysOf}
 use Rattle.tables.proofs.Discipline.{Unread, unread}
 use Rattle.tables.specs.Clearing.{eventsOf}
-use Rattle.tables.proofs.Clearing.{events-append, events-after, same-meaning, Spare, Untouched, spare-untouched, untouched-holds}
+use Rattle.tables.proofs.Clearing.{events-append, events-after, same-meaning, Spare, LeavesTables, spare-untouched, untouched-holds}
 use Rattle.tables.specs.Operation.{Moment, Changed}
 use Rattle.tables.proofs.Walks.{laws-of}
 
@@ -50,7 +50,7 @@ moments-one {role = role} {role'} p i v b b' = (
   record { roles = role'; built = b'; between = λ p. inr refl },
 )
 
-pub moments-spare : {σ : Setting} {m : ℕ → ℕ} {role : ℕ → Role} {xs : List Write} → Untouched σ m role xs → world.All m (eventsOf xs) (Moment σ role role)
+pub moments-spare : {σ : Setting} {m : ℕ → ℕ} {role : ℕ → Role} {xs : List Write} → LeavesTables σ m role xs → world.All m (eventsOf xs) (Moment σ role role)
 moments-spare {σ} {m} {role} {xs} k =
     world-laws.all-map (eventsOf xs) m (λ n. Built σ n role) (Moment σ role role) (λ n b. record { roles = role; built = b; between = λ p. inl refl }) (k .moments)
 

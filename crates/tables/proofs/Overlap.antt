@@ -17,14 +17,14 @@ use Rattle.walk.specs.declared.Found.{Found}
 use Rattle.walk.specs.declared.Found.the-variants as found
 use Rattle.walk.proofs.Digits.{agree-up, same-index, size-pos}
 use Rattle.walk.proofs.Ranges.{page-covers}
-use Rattle.tables.specs.Roles.{Setting, Role, table, entryAt, Built, Holds, Filled, Sound}
+use Rattle.tables.specs.Roles.{Setting, Role, table, entryAt, Built, Occupied, Filled, Sound}
 use Rattle.tables.specs.Near.{Near}
 use Rattle.tables.proofs.Near.{near-range, pick, pick-near, pick-index}
 use Rattle.tables.specs.Way.{Comes, onto}
 use Rattle.tables.proofs.Way.{comes-entry, comes-near, comes-left, onto-role}
 use Rattle.tables.specs.Meaning.{meaning}
 use Rattle.tables.proofs.Meaning.{comes-root, mean-nothing, mean-page, Ends, no-walk, at-nothing, at-page, ends}
-use Rattle.tables.specs.Overlap.{MappedIn, Overlaps, Stop, Taken, at-nothing-above, at-page-above, at-table-there}
+use Rattle.tables.specs.Overlap.{MappedIn, Overlaps, Stop, AtSomething, at-nothing-above, at-page-above, at-table-there}
 
 -- the walk of every address finds one of these
 stop-from : {σ : Setting} {m : ℕ → ℕ} {va l : ℕ} (n p : ℕ) → l < n → Comes σ m va n p → Stop σ m va l
@@ -76,7 +76,7 @@ module _ {σ : Setting} {m : ℕ → ℕ} {role : ℕ → Role} (b : Built σ m 
   table-near f zero va p r j c h = absurd (last-no-table _ p everything (b .up p 0 r j h .2))
   table-near f (suc n) va p r j c h = go (entryAt m n p (o .0)) refl (λ s d k. table-near f n vb s p (o .0) d k)
     where
-      o : Holds m n p
+      o : Occupied m n p
       o = f p n r j h
 
       vb : ℕ
@@ -126,7 +126,7 @@ aligned-base l va e = omega (arith, div-add-mod' va (sizeOf l))
 -- OVERLAP, DECIDED EXACTLY: at level l, for an aligned address, the walk stops at a page or a table if and only if some address of
 -- [va, va + size) is mapped.
 pub overlap : {σ : Setting} {m : ℕ → ℕ} {role : ℕ → Role} {va l : ℕ} → Sound σ m role → va % sizeOf l ≡ 0 → (s : Stop σ m va l)
-    → Taken s ↔ Overlaps σ m va l
+    → AtSomething s ↔ Overlaps σ m va l
 overlap {σ} {m} {role} {va} {l} k a (at-nothing-above j q u c e) = (λ t. absurd t, none)
   where
     none : Overlaps σ m va l → ⊥

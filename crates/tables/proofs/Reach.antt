@@ -10,7 +10,7 @@ use Rattle.entry.specs.declared.Rights.{Rights}
 use Rattle.entry.specs.declared.Entry.{Entry}
 use Rattle.entry.specs.declared.Entry.the-variants.{Nothing, Page, Table}
 use Rattle.walk.specs.Walk.{canonical, indexOf, entered, stepOf, start}
-use Rattle.walk.specs.Reads.{Reads, Way, begins, goes}
+use Rattle.walk.specs.Reads.{Reads, ComesBy, by-start, by-step}
 use Rattle.walk.specs.declared.Found.{Found}
 use Rattle.walk.specs.declared.Found.the-variants as found
 use Rattle.walk.specs.declared.Place.{Place}
@@ -68,14 +68,14 @@ reads-bare h m va (suc n) p r e = (
 )
 
 -- A PLACE OF A WALK is a table that it comes to.
-pub way-comes : {σ : Setting} {m : ℕ → ℕ} {va n : ℕ} {p : Place} (P : ℕ → Type 0) (t : ℕ) (r : Rights) → Way P (σ .window) m (σ .cr3) va n p → p ≡ Going t r → Comes σ m va n t
+pub way-comes : {σ : Setting} {m : ℕ → ℕ} {va n : ℕ} {p : Place} (P : ℕ → Type 0) (t : ℕ) (r : Rights) → ComesBy P (σ .window) m (σ .cr3) va n p → p ≡ Going t r → Comes σ m va n t
 unfolding start stepOf entered
-way-comes {σ} {m} {va} P t r begins e = go (canonical va) refl e
+way-comes {σ} {m} {va} P t r by-start e = go (canonical va) refl e
   where
     go : (b : Bool) → canonical va ≡ b → cond b (Going (tableOf (σ .cr3)) everything) (Ended found.NoAddress) ≡ Going t r → Comes σ m va 4 t
     go true u f = begin {p = t} refl (cc) u
     go false u f = let z : _≡_ {A = ℕ} 0 1 = cc in absurd (omega arith)
-way-comes {σ} {m} {va} P t r (goes {n = n} {p = q} w k) e = by q e (λ s g f. way-comes P s g w f)
+way-comes {σ} {m} {va} P t r (by-step {n = n} {p = q} w k) e = by q e (λ s g f. way-comes P s g w f)
   where
     through : (s : ℕ) (g : Rights) → Comes σ m va (suc n) s → (b : Bool) (x : Entry) → entryAt m n s (indexOf n va) ≡ x
         → cond b (entered n va g x) (Ended found.Outside) ≡ Going t r → Comes σ m va n t

@@ -11,7 +11,7 @@ use Rattle.entry.specs.declared.Entry.the-variants.{Nothing, Table}
 use Rattle.walk.specs.Walk.{indexOf}
 use Rattle.walk.proofs.Addresses.{in-lower}
 use Rattle.walk.proofs.Digits.{index-lt}
-use Rattle.tables.specs.Roles.{Setting, Role, foreign, free, aside, book, root, table, left, Live, entryAt, Built, Holds, Filled}
+use Rattle.tables.specs.Roles.{Setting, Role, foreign, free, aside, book, root, table, left, Live, entryAt, Built, Occupied, Filled}
 use Rattle.tables.proofs.Near.{pick, pick-near, pick-index, rootPick, root-pick}
 use Rattle.tables.specs.Way.{Comes, begin, onto}
 use Rattle.tables.proofs.Way.{comes-near, comes-left, one-way, comes-top}
@@ -38,7 +38,7 @@ module _ {σ : Setting} {m : ℕ → ℕ} {role : ℕ → Role} (b : Built σ m 
   root-unnamed q l i t g h u e f = let z : _≡_ {A = ℕ} 0 1 = cc (b .down q l i t g h u e .0, b .starts) in omega arith
 
   -- NO TABLE BUT THE ROOT IS EMPTY.
-  pub reached-filled : Filled m role → {va l q : ℕ} → Comes σ m va (suc l) q → q ≢ tableOf (σ .cr3) → Holds m l q
+  pub reached-filled : Filled m role → {va l q : ℕ} → Comes σ m va (suc l) q → q ≢ tableOf (σ .cr3) → Occupied m l q
   reached-filled f (begin e d u) n = absurd (n d)
   reached-filled f {va} {l} {q} (onto t g c e) n =
       f q l t (indexOf (suc l) va) (b .down t (suc l) (indexOf (suc l) va) q g (comes-left b c) (index-lt (suc l) va) e .0)

@@ -8,9 +8,9 @@ use Rattle.entry.specs.declared.Entry.the-variants.{Nothing}
 use Rattle.entry.proofs.Clean.{nothing-clean}
 use Rattle.tables.specs.Roles.{Setting, Role, foreign, free, aside, book, root, table, left, Live, entryAt, Sound, Zero}
 use Rattle.tables.proofs.Kept.{zero-bare}
-use Rattle.tables.specs.Start.{Fresh}
+use Rattle.tables.specs.Start.{NewRoles}
 
-pub fresh-sound : {σ : Setting} {role : ℕ → Role} (m : ℕ → ℕ) → Fresh σ role → Zero m (tableOf (σ .cr3)) → Sound σ m role
+pub fresh-sound : {σ : Setting} {role : ℕ → Role} (m : ℕ → ℕ) → NewRoles σ role → Zero m (tableOf (σ .cr3)) → Sound σ m role
 fresh-sound {σ} {role} m f z = record {
   built = record {
     home = f .home;

@@ -8,7 +8,7 @@ use Rattle.entry.specs.declared.Rights.{Rights}
 use Rattle.entry.specs.declared.Entry.{Entry}
 use Rattle.entry.specs.declared.Entry.the-variants as entry
 use Rattle.walk.specs.Walk.{entryOf, entered, stepOf, start}
-use Rattle.walk.specs.Reads.{ReadsNow, Way, begins, goes}
+use Rattle.walk.specs.Reads.{ReadsNow, ComesBy, by-start, by-step}
 use Rattle.walk.specs.Reads as its
 use Rattle.walk.specs.declared.Found.{Found}
 use Rattle.walk.specs.declared.Found.the-variants.{Outside}
@@ -16,7 +16,7 @@ use Rattle.walk.specs.declared.Place.{Place}
 use Rattle.walk.specs.declared.Place.the-variants.{Going, Ended}
 use Rattle.world.specs.Walker.{nowhere, cell, Reads, ReadsIn, On, here, down}
 use Rattle.world.proofs.Ways.{nowhere-cell}
-use Rattle.tables.specs.Walks.{At, stepAt, readsAt, walker}
+use Rattle.tables.specs.Walks.{Position, stepAt, readsAt, walker}
 
 reads-now : (P : ℕ → Type 0) (h : ℕ → Bool) (va n : ℕ) (p : Place) (x : ℕ) → ReadsNow P h n va p → readsAt h va (suc n) p ≡ cell x → P x
 unfolding readsAt
@@ -37,13 +37,13 @@ module _ (h : ℕ → Bool) {Address : Type 0} (rootOf vaOf : Address → ℕ) w
   reads-walk P m a (suc n) p x k (inr r) = reads-walk P m a n (stepOf h m n (vaOf a) p) x (k .1) r
 
   -- A place on the way of the walker is one that `walk` comes to.
-  pub on-way : (m : ℕ → ℕ) (a : Address) (p : At) → On (walker h rootOf vaOf) m a p (record { levels = 4; place = start (rootOf a) (vaOf a) })
-      → Way (λ x. Unit {0}) h m (rootOf a) (vaOf a) (p .levels) (p .place)
+  pub on-way : (m : ℕ → ℕ) (a : Address) (p : Position) → On (walker h rootOf vaOf) m a p (record { levels = 4; place = start (rootOf a) (vaOf a) })
+      → ComesBy (λ x. Unit {0}) h m (rootOf a) (vaOf a) (p .levels) (p .place)
   unfolding stepAt
-  on-way m a p o = go _ o begins
+  on-way m a p o = go _ o by-start
     where
-      Come : At → Type 0
-      Come q = Way (λ x. Unit {0}) h m (rootOf a) (vaOf a) (q .levels) (q .place)
+      Come : Position → Type 0
+      Come q = ComesBy (λ x. Unit {0}) h m (rootOf a) (vaOf a) (q .levels) (q .place)
 
       all : (n : ℕ) (q : Place) → ReadsNow (λ x. Unit {0}) h n (vaOf a) q
       all n (Going t r) = λ e. tt
@@ -51,9 +51,9 @@ module _ (h : ℕ → Bool) {Address : Type 0} (rootOf vaOf : Address → ℕ) w
 
       next : (n : ℕ) (q : Place) → Come (record { levels = n; place = q }) → Come (stepAt h m (vaOf a) n q)
       next zero q w = w
-      next (suc n) q w = goes w (all n q)
+      next (suc n) q w = by-step w (all n q)
 
-      go : (q : At) → On (walker h rootOf vaOf) m a p q → Come q → Come p
+      go : (q : Position) → On (walker h rootOf vaOf) m a p q → Come q → Come p
       go q here w = w
       go q (down {q = r} i) w = go _ i (next (r .levels) (r .place) w)
 
@@ -66,7 +66,7 @@ module _ (h : ℕ → Bool) {Address : Type 0} (rootOf vaOf : Address → ℕ) w
 
   -- What a write of entry c may cut off, as the rules of Rules.antt ask for it: a walk that stands where it reads c, and reads x after it, is at
   -- a table of some level; c is its entry there, and says "table".
-  pub record Through (m : ℕ → ℕ) (a : Address) (p : At) (c x : ℕ) : Type 0 where
+  pub record Through (m : ℕ → ℕ) (a : Address) (p : Position) (c x : ℕ) : Type 0 where
     pub level : ℕ
     pub table : ℕ
     pub rights : Rights
@@ -78,7 +78,7 @@ module _ (h : ℕ → Bool) {Address : Type 0} (rootOf vaOf : Address → ℕ) w
     pub says-table : says level (m c) ≡ entry.Table child grants
     pub reads-on : Reads (walker h rootOf vaOf) m a (record { levels = level; place = Going child (both rights grants) }) x
 
-  pub through : (m : ℕ → ℕ) (a : Address) (p : At) (c x : ℕ) → readsAt h (vaOf a) (p .levels) (p .place) ≡ cell c
+  pub through : (m : ℕ → ℕ) (a : Address) (p : Position) (c x : ℕ) → readsAt h (vaOf a) (p .levels) (p .place) ≡ cell c
       → Reads (walker h rootOf vaOf) m a (stepAt h m (vaOf a) (p .levels) (p .place)) x → Through m a p c x
   unfolding readsAt stepAt stepOf entered
   through m a p c x = go (p .levels) (p .place) refl

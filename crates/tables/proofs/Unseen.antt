@@ -11,18 +11,18 @@ use Rattle.entry.specs.Entry.{says}
 use Rattle.entry.specs.Clean.{Clean}
 use Rattle.walk.specs.Walk.{indexOf, start, foundOf, walk}
 use Rattle.walk.proofs.Digits.{index-lt}
-use Rattle.walk.proofs.Frame.{Same, run-agrees}
-use Rattle.tables.specs.Roles.{Setting, Role, foreign, free, aside, book, root, table, left, Idle, Live, Built, Holds, Filled, Sound}
+use Rattle.walk.proofs.Frame.{SaysAlike, run-agrees}
+use Rattle.tables.specs.Roles.{Setting, Role, foreign, free, aside, book, root, table, left, Unwalked, Live, Built, Occupied, Filled, Sound}
 use Rattle.tables.specs.Way.{Comes, begin, onto}
 use Rattle.tables.proofs.Way.{comes-left}
 use Rattle.tables.specs.Meaning.{meaning}
 use Rattle.tables.proofs.Reach.{walk-reads-tables}
 
 -- what the words of all tables say is the same, at every level; a 0 stays 0, and what is as we write it stays so
-abbrev pub Alike : (ℕ → Role) → (m m' : ℕ → ℕ) → Type 0
-Alike role m m' = (q l i : ℕ) → Live role q l → i < 512 → Same m m' (at q i) × (m (at q i) ≡ 0 → m' (at q i) ≡ 0) × ((k : ℕ) → Clean k (m (at q i)) → Clean k (m' (at q i)))
+abbrev pub TablesAlike : (ℕ → Role) → (m m' : ℕ → ℕ) → Type 0
+TablesAlike role m m' = (q l i : ℕ) → Live role q l → i < 512 → SaysAlike m m' (at q i) × (m (at q i) ≡ 0 → m' (at q i) ≡ 0) × ((k : ℕ) → Clean k (m (at q i)) → Clean k (m' (at q i)))
 
-module _ {σ : Setting} {m : ℕ → ℕ} {role : ℕ → Role} (b : Built σ m role) (m' : ℕ → ℕ) (h : Alike role m m') where
+module _ {σ : Setting} {m : ℕ → ℕ} {role : ℕ → Role} (b : Built σ m role) (m' : ℕ → ℕ) (h : TablesAlike role m m') where
   pub alike-built : Built σ m' role
   alike-built = record {
     home = b .home;
@@ -40,10 +40,10 @@ module _ {σ : Setting} {m : ℕ → ℕ} {role : ℕ → Role} (b : Built σ m 
   pub alike-means : (va : ℕ) → meaning σ m' va ≡ meaning σ m va
   unfolding walk
   alike-means va =
-      ap foundOf (run-agrees (σ .window) m m' va 4 (start (σ .cr3) va) (walk-reads-tables b (Same m m') (λ q l i n u. h q l i n u .0) va))
+      ap foundOf (run-agrees (σ .window) m m' va 4 (start (σ .cr3) va) (walk-reads-tables b (SaysAlike m m') (λ q l i n u. h q l i n u .0) va))
 
   -- a table that is not empty is not empty
-  pub alike-holds : (p l : ℕ) → Live role p l → Holds m l p → Holds m' l p
+  pub alike-holds : (p l : ℕ) → Live role p l → Occupied m l p → Occupied m' l p
   alike-holds p l n o = (o .0, o .1, λ k. o .2 (sym (h p l (o .0) n (o .1) .0 l) ∙ k))
 
   pub alike-comes : {va n t : ℕ} → Comes σ m va n t → Comes σ m' va n t
@@ -58,7 +58,7 @@ module _ (m : ℕ → ℕ) (role : ℕ → Role) (a v : ℕ) where
   pub unseen-word : left (role (a / 512)) ≡ 0 → (q l i : ℕ) → Live role q l → i < 512 → set m a v (at q i) ≡ m (at q i)
   unseen-word n q l i h u = set-other m a v (at q i) (λ e. omega (arith, n, h, ap (λ x. left (role x)) (ap (λ x. x / 512) e ∙ page-of q i u)))
 
-  pub unseen-alike : left (role (a / 512)) ≡ 0 → Alike role m (set m a v)
+  pub unseen-alike : left (role (a / 512)) ≡ 0 → TablesAlike role m (set m a v)
   unseen-alike n q l i h u = let w = unseen-word n q l i h u in (λ k. ap (says k) w, λ z. w ∙ z, λ k c. subst (Clean k) (sym w) c)
 
 -- Other roles ------------------------------------------------------------------------------------------------------------------
@@ -66,12 +66,12 @@ module _ (m : ℕ → ℕ) (role : ℕ → Role) (a v : ℕ) where
 -- every page has its role, but for pages of the pool that no walk comes to, which may have another of that sort: aside becomes free
 -- after a report, free becomes book
 abbrev pub Shifted : (role role' : ℕ → Role) → Type 0
-Shifted role role' = (p : ℕ) → (role' p ≡ role p) ⊎ (Idle (role p) × Idle (role' p))
+Shifted role role' = (p : ℕ) → (role' p ≡ role p) ⊎ (Unwalked (role p) × Unwalked (role' p))
 
-idle-not : {r : Role} (x : Role) → ¬ Idle x → Idle r → r ≢ x
-idle-not x n h e = n (subst Idle e h)
+idle-not : {r : Role} (x : Role) → ¬ Unwalked x → Unwalked r → r ≢ x
+idle-not x n h e = n (subst Unwalked e h)
 
-idle-left : (r : Role) → Idle r → left r ≡ 0
+idle-left : (r : Role) → Unwalked r → left r ≡ 0
 idle-left foreign h = absurd h
 idle-left free h = refl
 idle-left aside h = refl
@@ -83,22 +83,22 @@ module _ (role role' : ℕ → Role) (h : Shifted role role') where
   shift-left : (p : ℕ) → left (role' p) ≡ left (role p)
   shift-left p = go (h p)
     where
-      go : (role' p ≡ role p) ⊎ (Idle (role p) × Idle (role' p)) → left (role' p) ≡ left (role p)
+      go : (role' p ≡ role p) ⊎ (Unwalked (role p) × Unwalked (role' p)) → left (role' p) ≡ left (role p)
       go (inl e) = ap left e
       go (inr k) = idle-left (role' p) (k .1) ∙ sym (idle-left (role p) (k .0))
 
   -- a role that is not idle is the same
-  shift-to : (p : ℕ) (x : Role) → ¬ Idle x → role p ≡ x → role' p ≡ x
+  shift-to : (p : ℕ) (x : Role) → ¬ Unwalked x → role p ≡ x → role' p ≡ x
   shift-to p x n e = go (h p)
     where
-      go : (role' p ≡ role p) ⊎ (Idle (role p) × Idle (role' p)) → role' p ≡ x
+      go : (role' p ≡ role p) ⊎ (Unwalked (role p) × Unwalked (role' p)) → role' p ≡ x
       go (inl f) = f ∙ e
       go (inr k) = absurd (idle-not x n (k .0) e)
 
-  shift-from : (p : ℕ) (x : Role) → ¬ Idle x → role' p ≡ x → role p ≡ x
+  shift-from : (p : ℕ) (x : Role) → ¬ Unwalked x → role' p ≡ x → role p ≡ x
   shift-from p x n e = go (h p)
     where
-      go : (role' p ≡ role p) ⊎ (Idle (role p) × Idle (role' p)) → role p ≡ x
+      go : (role' p ≡ role p) ⊎ (Unwalked (role p) × Unwalked (role' p)) → role p ≡ x
       go (inl f) = sym f ∙ e
       go (inr k) = absurd (idle-not x n (k .1) e)
 

@@ -18,17 +18,17 @@ use Rattle.walk.specs.declared.Found.the-variants as found
 use Rattle.walk.proofs.Digits.{index-lt}
 use Rattle.world.specs.Events.{All}
 use Rattle.world.specs.OneChange.{OneChange}
-use Rattle.tables.specs.Roles.{Setting, Role, table, unlinked, left, entryAt, Built, Holds, FilledBut, Sound, Bare}
+use Rattle.tables.specs.Roles.{Setting, Role, table, unlinked, left, entryAt, Built, Occupied, FilledBut, Sound, Bare}
 use Rattle.tables.specs.Way.{Comes}
 use Rattle.tables.proofs.Way.{comes-left, comes-parent, onto-role}
-use Rattle.tables.specs.OneWrite.{Spot}
+use Rattle.tables.specs.OneWrite.{LiveEntry}
 use Rattle.tables.proofs.OneWrite.{comes-spot, page-plain, other-page, comes-kept}
-use Rattle.tables.specs.Edits.{Keeps, Turns}
+use Rattle.tables.specs.Edits.{KeepsMeaning, Turns}
 use Rattle.tables.proofs.Edits.{clear-page, clear-filled, unlink, unlink-filled}
 use Rattle.tables.specs.Discipline.{walkerOf, ObeysOf}
 use Rattle.tables.proofs.Discipline.{plain-obeys, unlink-obeys}
 use Rattle.tables.specs.Clearing.{eventsOf}
-use Rattle.tables.proofs.Clearing.{Spare, Untouched, spare-untouched, untouched-holds}
+use Rattle.tables.proofs.Clearing.{Spare, LeavesTables, spare-untouched, untouched-holds}
 use Rattle.tables.specs.Operation.{Moment, Changed}
 use Rattle.tables.proofs.Operation.{moments-one, moments-spare, moments-then, after-then, after-write, change-then, obeys-then, quiet-one, obeys-one, change-write}
 
@@ -50,7 +50,7 @@ pub record Up (σ : Setting) (m₀ : ℕ → ℕ) (role₀ : ℕ → Role) (va l
 
 -- a table that stays: one that is not empty, or the root
 abbrev pub Stays : (ℕ → ℕ) → ℕ → ℕ → Type 0
-Stays m k t = Holds m k t ⊎ (k ≡ 3)
+Stays m k t = Occupied m k t ⊎ (k ≡ 3)
 
 -- the page's entry is cleared
 pub up-start : {σ : Setting} {m : ℕ → ℕ} {role : ℕ → Role} {va l q : ℕ} (f : ℕ) (g : Rights) → Sound σ m role → Comes σ m va (suc l) q
@@ -120,7 +120,7 @@ module _ {σ : Setting} {m₀ : ℕ → ℕ} {role₀ : ℕ → Role} {va l : �
       named : role t ≡ table (suc k) r i
       named = d .roles t (omega (arith, ap left was)) ∙ was
 
-      s : Spot role r (suc k) i
+      s : LiveEntry role r (suc k) i
       s = let o = b .up t (suc k) r i named in record { live = o .0; fits = o .1 }
 
       names : entryAt m (suc k) r i ≡ Table t everything
@@ -130,7 +130,7 @@ module _ {σ : Setting} {m₀ : ℕ → ℕ} {role₀ : ℕ → Role} {va l : �
       once p (yes x) = inr (ap role (sym x) ∙ named ∙ sym was ∙ ap role₀ x)
       once p (no x) = inl (set-other role t unlinked p x)
 
-      edit : Keeps σ m (set m (at r i) 0) (set role t unlinked)
+      edit : KeepsMeaning σ m (set m (at r i) 0) (set role t unlinked)
       edit = unlink b s t names bare
 
   -- Writes into spare pages, such as the book's.
@@ -156,7 +156,7 @@ module _ {σ : Setting} {m₀ : ℕ → ℕ} {role₀ : ℕ → Role} {va l : �
     gone = o .words t k (indexOf k va) (comes-left (d .turns .built) (d .comes)) (index-lt k va) ∙ d .gone;
   }
     where
-      o : Untouched σ m role ys
+      o : LeavesTables σ m role ys
       o = spare-untouched ys (d .turns .built) u
 
   -- WHETHER t IS EMPTY NOW is told by its other words at first: it is if none is present,
@@ -168,7 +168,7 @@ module _ {σ : Setting} {m₀ : ℕ → ℕ} {role₀ : ℕ → Role} {va l : �
       go (no x) = ap (λ w. w % 2) (d .here j u x) ∙ z j u x
 
   -- and is not if one is not 0.
-  pub up-holds : {k t : ℕ} → Up σ m₀ role₀ va l xs m role k t → (j : ℕ) → j < 512 → indexOf k va ≢ j → m₀ (at t j) ≢ 0 → Holds m k t
+  pub up-holds : {k t : ℕ} → Up σ m₀ role₀ va l xs m role k t → (j : ℕ) → j < 512 → indexOf k va ≢ j → m₀ (at t j) ≢ 0 → Occupied m k t
   up-holds {k} {t} d j u e n =
       (j, u, λ h. n (sym (d .here j u e) ∙ d .turns .built .zeros t k j (comes-left (d .turns .built) (d .comes)) u h))
 
@@ -179,7 +179,7 @@ module _ {σ : Setting} {m₀ : ℕ → ℕ} {role₀ : ℕ → Role} {va l : �
       level : (p j q i : ℕ) → role p ≡ table (suc j) q i → p ≡ t → k ≡ j
       level p j q i h x = omega (arith, comes-left (d .turns .built) (d .comes), ap (λ y. left (role y)) x, ap left h)
 
-      go : (p j q i : ℕ) → role p ≡ table (suc j) q i → Dec (p ≡ t) → Stays m k t → Holds m j p
+      go : (p j q i : ℕ) → role p ≡ table (suc j) q i → Dec (p ≡ t) → Stays m k t → Occupied m j p
       go p j q i h (no x) e = d .filled p j q i h x
-      go p j q i h (yes x) (inl f) = subst (λ y. Holds m j y) (sym x) (subst (λ y. Holds m y t) (level p j q i h x) f)
+      go p j q i h (yes x) (inl f) = subst (λ y. Occupied m j y) (sym x) (subst (λ y. Occupied m y t) (level p j q i h x) f)
       go p j q i h (yes x) (inr f) = absurd (omega (arith, level p j q i h x, d .turns .built .low p (suc j) q i h))

@@ -16,7 +16,7 @@ use Rattle.entry.specs.declared.Rights.{Rights}
 use Rattle.entry.specs.declared.Entry.the-variants.{Nothing, Page, Table}
 use Rattle.entry.proofs.Fields.{says-absent}
 use Rattle.entry.proofs.Clean.{page-clean}
-use Rattle.entry.proofs.Written.{Fits, table-word-says, page-word-says}
+use Rattle.entry.proofs.Written.{FrameFits, table-word-says, page-word-says}
 use Rattle.walk.specs.Walk.{canonical, indexOf, baseOf, entered, stepOf, run, start, foundOf, walk}
 use Rattle.walk.proofs.Addresses.{in-upper}
 use Rattle.walk.specs.declared.Found.the-variants as found
@@ -36,16 +36,16 @@ abbrev pub setting : Setting
 setting = record { window = λ p. leb 16 p && ltb p 24; lo = 16; hi = 24; cr3 = 4096 * 17 }
 
 -- the frames of the four pages that are mapped fit
-small-fits : Fits 0 409600
+small-fits : FrameFits 0 409600
 small-fits = record { level = omega arith; aligned = unfold sizeOf in refl; below = omega arith }
 
-gone-fits : Fits 0 413696
+gone-fits : FrameFits 0 413696
 gone-fits = record { level = omega arith; aligned = unfold sizeOf in refl; below = omega arith }
 
-middle-fits : Fits 1 2097152
+middle-fits : FrameFits 1 2097152
 middle-fits = record { level = omega arith; aligned = unfold sizeOf in refl; below = omega arith }
 
-large-fits : Fits 2 1073741824
+large-fits : FrameFits 2 1073741824
 large-fits = record { level = omega arith; aligned = unfold sizeOf in refl; below = omega arith }
 
 -- At first --------------------------------------------------------------------------------------------------------------------

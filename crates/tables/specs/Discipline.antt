@@ -7,7 +7,7 @@ use Rattle.walk.specs.declared.Found.{Found}
 use Rattle.world.specs.Events.{Event}
 use Rattle.world.specs.Walker.{Walker}
 use Rattle.world.specs.Rules.{Obeys}
-use Rattle.tables.specs.Walks.{At, oneSpace}
+use Rattle.tables.specs.Walks.{Position, oneSpace}
 use Rattle.tables.specs.Roles.{Setting, Role, aside}
 
 -- THE FROZEN WORDS: those of pages that are set aside.
@@ -15,7 +15,7 @@ abbrev pub Aside : (ℕ → Role) → ℕ → Type 0
 Aside role x = role (x / 512) ≡ aside
 
 -- the walker of these tables
-abbrev pub walkerOf : Setting → Walker ℕ (ℕ → Entry) ℕ At Found
+abbrev pub walkerOf : Setting → Walker ℕ (ℕ → Entry) ℕ Position Found
 walkerOf σ = oneSpace (σ .window) (σ .cr3)
 
 -- what an operation shows of its writes: from these roles to those

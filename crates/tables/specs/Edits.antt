@@ -7,7 +7,7 @@ use Rattle.tables.specs.Near.{Near}
 use Rattle.tables.specs.Meaning.{meaning}
 
 -- An edit that changes no address's meaning.
-pub record Keeps (σ : Setting) (m m' : ℕ → ℕ) (role' : ℕ → Role) : Type 0 where
+pub record KeepsMeaning (σ : Setting) (m m' : ℕ → ℕ) (role' : ℕ → Role) : Type 0 where
   pub built : Built σ m' role'
   pub same : (va : ℕ) → meaning σ m' va ≡ meaning σ m va
 

@@ -32,7 +32,7 @@ pub data Stop (σ : Setting) (m : ℕ → ℕ) (va l : ℕ) : Type 0 where
   at-table-there : (q s : ℕ) (g : Rights) → Comes σ m va (suc l) q → entryAt m l q (indexOf l va) ≡ Table s g → Stop σ m va l
 
 -- a page or a table
-abbrev pub Taken : {σ : Setting} {m : ℕ → ℕ} {va l : ℕ} → Stop σ m va l → Type 0
-Taken (at-nothing-above k q u c e) = ⊥
-Taken (at-page-above k q f g u c e) = Unit {0}
-Taken (at-table-there q s g c e) = Unit {0}
+abbrev pub AtSomething : {σ : Setting} {m : ℕ → ℕ} {va l : ℕ} → Stop σ m va l → Type 0
+AtSomething (at-nothing-above k q u c e) = ⊥
+AtSomething (at-page-above k q f g u c e) = Unit {0}
+AtSomething (at-table-there q s g c e) = Unit {0}

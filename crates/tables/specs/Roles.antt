@@ -42,13 +42,13 @@ abbrev pub unlinked : Role
 unlinked = aside
 
 -- a page of the pool that no walk comes to
-abbrev pub Idle : Role → Type 0
-Idle foreign = ⊥
-Idle free = Unit {0}
-Idle aside = Unit {0}
-Idle book = Unit {0}
-Idle root = ⊥
-Idle (table n q i) = ⊥
+abbrev pub Unwalked : Role → Type 0
+Unwalked foreign = ⊥
+Unwalked free = Unit {0}
+Unwalked aside = Unit {0}
+Unwalked book = Unit {0}
+Unwalked root = ⊥
+Unwalked (table n q i) = ⊥
 
 -- page q is a table, and its entries are read at level l
 abbrev pub Live : (ℕ → Role) → ℕ → ℕ → Type 0
@@ -86,16 +86,16 @@ pub record Built (σ : Setting) (m : ℕ → ℕ) (role : ℕ → Role) : Type 0
   pub clean : (q l i : ℕ) → Live role q l → i < 512 → Clean l (m (at q i))
 
 -- some entry of page p says something, at level l
-abbrev pub Holds : (ℕ → ℕ) → ℕ → ℕ → Type 0
-Holds m l p = (j : ℕ) × (j < 512) × (entryAt m l p j ≢ Nothing)
+abbrev pub Occupied : (ℕ → ℕ) → ℕ → ℕ → Type 0
+Occupied m l p = (j : ℕ) × (j < 512) × (entryAt m l p j ≢ Nothing)
 
 -- no table but the root is empty
 abbrev pub Filled : (ℕ → ℕ) → (ℕ → Role) → Type 0
-Filled m role = (p l q i : ℕ) → role p ≡ table (suc l) q i → Holds m l p
+Filled m role = (p l q i : ℕ) → role p ≡ table (suc l) q i → Occupied m l p
 
 -- in the middle of an operation: none but the root, and perhaps page e
 abbrev pub FilledBut : (ℕ → ℕ) → (ℕ → Role) → ℕ → Type 0
-FilledBut m role e = (p l q i : ℕ) → role p ≡ table (suc l) q i → p ≢ e → Holds m l p
+FilledBut m role e = (p l q i : ℕ) → role p ≡ table (suc l) q i → p ≢ e → Occupied m l p
 
 -- The two together: what holds between operations.
 pub record Sound (σ : Setting) (m : ℕ → ℕ) (role : ℕ → Role) : Type 0 where

@@ -6,7 +6,7 @@ use Rattle.entry.specs.Entry.{tableOf}
 use Rattle.tables.specs.Roles.{Setting, Role, foreign, root, table, Home}
 
 -- the pool's pages, and no others, have a role; the root's page is the root, and no other is; and no page is a table
-pub record Fresh (σ : Setting) (role : ℕ → Role) : Type 0 where
+pub record NewRoles (σ : Setting) (role : ℕ → Role) : Type 0 where
   pub home : (p : ℕ) → role p ≢ foreign → Home σ p
   pub whole : (p : ℕ) → σ .lo ≤ p → p < σ .hi → role p ≢ foreign
   pub starts : role (tableOf (σ .cr3)) ≡ root

@@ -11,12 +11,12 @@ use Rattle.walk.specs.declared.Place.the-variants.{Going, Ended}
 use Rattle.world.specs.Walker.{Next, nowhere, cell, Walker}
 
 -- a walk with so many levels to go
-pub record At : Type 0 where
+pub record Position : Type 0 where
   pub levels : ℕ
   pub place : Place
 
 -- ONE STEP is `walk`'s, at the next level.
-unfoldable pub stepAt : (ℕ → Bool) → (ℕ → ℕ) → ℕ → ℕ → Place → At
+unfoldable pub stepAt : (ℕ → Bool) → (ℕ → ℕ) → ℕ → ℕ → Place → Position
 stepAt h m va zero p = record { levels = zero; place = p }
 stepAt h m va (suc n) p = record { levels = n; place = stepOf h m n va p }
 
@@ -37,7 +37,7 @@ pub record SamePrefix (n va vb : ℕ) : Type 0 where
 
 module _ (h : ℕ → Bool) {Address : Type 0} (rootOf vaOf : Address → ℕ) where
   -- THE WALKER. An address is of an address space, whose root it says (rootOf, as in CR3), and it says its number there (vaOf).
-  abbrev pub walker : Walker ℕ (ℕ → Entry) Address At Found
+  abbrev pub walker : Walker ℕ (ℕ → Entry) Address Position Found
   walker = record {
     see = sayings;
     start = λ a. record { levels = 4; place = start (rootOf a) (vaOf a) };
@@ -49,5 +49,5 @@ module _ (h : ℕ → Bool) {Address : Type 0} (rootOf vaOf : Address → ℕ) w
   }
 
 -- One address space: an address is its number.
-abbrev pub oneSpace : (ℕ → Bool) → ℕ → Walker ℕ (ℕ → Entry) ℕ At Found
+abbrev pub oneSpace : (ℕ → Bool) → ℕ → Walker ℕ (ℕ → Entry) ℕ Position Found
 oneSpace h root = walker h (λ va. root) (λ va. va)

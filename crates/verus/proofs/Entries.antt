@@ -7,7 +7,7 @@ use native.Mathlib.Omega.{arith}
 use borrow.Author.Tests.{le-leb, eq-eqb}
 use lib.Dec.{eqb, leb}
 use Rattle.entry.specs.Entry.{sizeOf, bit, rightsOf, frameOf, tableOf, padded, largeOf, presentOf, says, everything}
-use Rattle.entry.specs.Kept.{Kept, regranted}
+use Rattle.entry.specs.Kept.{SameButRights, regranted}
 use Rattle.entry.specs.Words.{flag, largeFlag, pageWord, tableWord, withRights}
 use Rattle.entry.specs.declared.Rights.{Rights}
 use Rattle.entry.specs.declared.Entry.{Entry}
@@ -15,14 +15,14 @@ use Rattle.entry.specs.declared.Entry.the-variants.{Nothing, Page, Table}
 use Rattle.entry.proofs.Fields.{says-absent, says-last, says-table, says-large, last-no-table}
 use Rattle.entry.proofs.Levels.{bit-on, bit-off}
 use Rattle.entry.proofs.OtherRights.{with-rights-says, with-rights-kept}
-use Rattle.entry.proofs.Written.{Fits, flag-lt, bit-flag, page-word-says, table-word-says}
+use Rattle.entry.proofs.Written.{FrameFits, flag-lt, bit-flag, page-word-says, table-word-says}
 use Rattle.verus.specs.Entries.{maskedAddress, MustBeZero, NewPageEntry, NewDirEntry, Permitted}
 use Rattle.entry.proofs.Parts.{bit-one, bit-zero, page-large, table-seven, page-parts, table-parts}
 
 -- New entries --------------------------------------------------------------------------------------------------------------------------
 
 -- the fields of a page's word: rights a, b, x and frame's number q
-record Fields (l q a b x w : ℕ) : Type 0 where
+record WordFields (l q a b x w : ℕ) : Type 0 where
   address : w / 4096 % 2 ^ 40 * 4096 ≡ sizeOf l * q
   present : w / 1 % 2 ≡ 1
   writable : w / 2 % 2 ≡ a
@@ -37,7 +37,7 @@ record Fields (l q a b x w : ℕ) : Type 0 where
   noexec : w / 2 ^ 63 % 2 ≡ x
   padding : l ≢ 0 → w / 8192 % (sizeOf l / 8192) ≡ 0
 
-fields : (l q a b x : ℕ) → l ≤ 2 → q < 2 ^ 52 / sizeOf l → a < 2 → b < 2 → x < 2 → Fields l q a b x (1 + 2 * a + 4 * b + largeFlag l + sizeOf l * q + 2 ^ 63 * x)
+fields : (l q a b x : ℕ) → l ≤ 2 → q < 2 ^ 52 / sizeOf l → a < 2 → b < 2 → x < 2 → WordFields l q a b x (1 + 2 * a + 4 * b + largeFlag l + sizeOf l * q + 2 ^ 63 * x)
 unfolding sizeOf largeFlag
 fields zero q a b x u k ua ub ux = record {
   address = omega arith;
@@ -87,22 +87,22 @@ fields (suc (suc zero)) q a b x u k ua ub ux = record {
 fields (suc (suc (suc l))) q a b x u k ua ub ux = absurd (omega arith)
 
 -- a frame by its number
-number : (l frame : ℕ) → Fits l frame → (frame / sizeOf l < 2 ^ 52 / sizeOf l) × (frame ≡ sizeOf l * (frame / sizeOf l))
+number : (l frame : ℕ) → FrameFits l frame → (frame / sizeOf l < 2 ^ 52 / sizeOf l) × (frame ≡ sizeOf l * (frame / sizeOf l))
 unfolding sizeOf
 number zero frame f = (omega (arith, f .below), omega (arith, f .aligned))
 number (suc zero) frame f = (omega (arith, f .below), omega (arith, f .aligned))
 number (suc (suc zero)) frame f = (omega (arith, f .below), omega (arith, f .aligned))
 number (suc (suc (suc l))) frame f = absurd (omega (arith, f .level))
 
-page-fields : (l frame : ℕ) (r : Rights) → Fits l frame → Fields l (frame / sizeOf l) (flag (r .writable)) (flag (r .user)) (flag (r .noexec)) (pageWord l frame r)
+page-fields : (l frame : ℕ) (r : Rights) → FrameFits l frame → WordFields l (frame / sizeOf l) (flag (r .writable)) (flag (r .user)) (flag (r .noexec)) (pageWord l frame r)
 unfolding pageWord
 page-fields l frame r f =
     let k = number l frame f in
-    subst (λ y. Fields l (frame / sizeOf l) (flag (r .writable)) (flag (r .user)) (flag (r .noexec)) (1 + 2 * flag (r .writable) + 4 * flag (r .user) + largeFlag l + y + 2 ^ 63 * flag (r .noexec)))
+    subst (λ y. WordFields l (frame / sizeOf l) (flag (r .writable)) (flag (r .user)) (flag (r .noexec)) (1 + 2 * flag (r .writable) + 4 * flag (r .user) + largeFlag l + y + 2 ^ 63 * flag (r .noexec)))
     (sym (k .1)) (fields l (frame / sizeOf l) _ _ _ (f .level) (k .0) (flag-lt (r .writable)) (flag-lt (r .user)) (flag-lt (r .noexec)))
 
 -- NEW_PAGE_ENTRY
-pub new-page-entry : (l frame : ℕ) (r : Rights) → Fits l frame → NewPageEntry l frame r (pageWord l frame r)
+pub new-page-entry : (l frame : ℕ) (r : Rights) → FrameFits l frame → NewPageEntry l frame r (pageWord l frame r)
 new-page-entry l frame r f = record {
   page = page-word-says l frame r f;
   address = k .address ∙ sym (number l frame f .1);
@@ -123,7 +123,7 @@ new-page-entry l frame r f = record {
     w : ℕ
     w = pageWord l frame r
 
-    k : Fields l (frame / sizeOf l) (flag (r .writable)) (flag (r .user)) (flag (r .noexec)) w
+    k : WordFields l (frame / sizeOf l) (flag (r .writable)) (flag (r .user)) (flag (r .noexec)) w
     k = page-fields l frame r f
 
 -- NEW_DIR_ENTRY

@@ -12,7 +12,7 @@ use Rattle.entry.specs.Words.{pageWord}
 use Rattle.entry.specs.declared.Rights.{Rights}
 use Rattle.entry.specs.declared.Entry.the-variants.{Page, Table}
 use Rattle.entry.proofs.Fields.{last-no-table}
-use Rattle.tables.specs.Roles.{Setting, Role, foreign, free, aside, book, root, table, left, Live, entryAt, Built, Holds, Sound}
+use Rattle.tables.specs.Roles.{Setting, Role, foreign, free, aside, book, root, table, left, Live, entryAt, Built, Occupied, Sound}
 use Rattle.tables.proofs.Meaning.{live-home}
 use Rattle.pool.specs.Booked.{settingOf}
 use Rattle.pool.specs.declared.Space.{Space}
@@ -21,10 +21,10 @@ use Rattle.verus.specs.Trees.{InvAt, Inv}
 use Rattle.verus.proofs.Entries.{new-page-entry}
 use Rattle.entry.proofs.Levels.{bit-off, frame-lt}
 use Rattle.entry.proofs.Parts.{bit-zero, page-large, table-seven, page-parts}
-use Rattle.entry.proofs.Written.{Fits}
+use Rattle.entry.proofs.Written.{FrameFits}
 
 -- the frame that a word says fits its level
-said-fits : (l w f : ℕ) (g : Rights) → l ≢ 0 → says l w ≡ Page f g → Fits l f
+said-fits : (l w f : ℕ) (g : Rights) → l ≢ 0 → says l w ≡ Page f g → FrameFits l f
 said-fits l w f g z e =
     let k = page-large l w f g z e in
     let is : f ≡ frameOf l w = page-parts l w f g e .0 in

@@ -28,7 +28,7 @@ use Rattle.plan.specs.declared.maps.Mapping.{Mapping}
 use Rattle.plan.specs.Map.{Placed}
 use Rattle.effect.specs.Whole.{Whole}
 use Rattle.effect.specs.MapDone.{MapDone, Fitted}
-use Rattle.effect.specs.MapRefused.{Cause, FrameApart, Mapped, no-size, base-unaligned, frame-unaligned, base-range, frame-high, frame-in-pool, mapped, no-room}
+use Rattle.effect.specs.MapRefused.{Cause, FrameApart, SomeMapped, no-size, base-unaligned, frame-unaligned, base-range, frame-high, frame-in-pool, mapped, no-room}
 use Rattle.effect.proofs.Wholes.{root-low}
 use Rattle.effect.proofs.MapDone.{decided-done, mapped-inside, mapped-outside}
 use Rattle.effect.proofs.MapRefused.{map-refused, map-succeeds}
@@ -43,8 +43,8 @@ use Rattle.verus.proofs.Mappings.{In, turned-inserts, overlaps-same}
 use Rattle.verus.proofs.Invariant.{inv-holds}
 
 -- what is asked, as theirs
-abbrev pub asked : Asked → PTE
-asked q = pteOf (q .size) (q .frame) (q .rights)
+abbrev pub askedEntry : Asked → PTE
+askedEntry q = pteOf (q .size) (q .frame) (q .rights)
 
 -- what the tables mean to them, by what an address means to us
 pub meant-found : {h : ℕ → Bool} {sp : Space} {m : ℕ → ℕ} {role : ℕ → Role} → Whole h sp m role → (va : ℕ) → meant sp m va ≡ atBase va (meaning (settingOf h sp) m va)
@@ -77,7 +77,7 @@ frame-ends (suc (suc zero)) f u k p = omega arith
 frame-ends (suc (suc (suc l))) f u k p = absurd (omega arith)
 
 -- what accepted_mapping accepts fits
-pub accepted-fits : (q : Asked) (a : AcceptedMapping (q .base) (asked q)) → Fitted (a .size .level) q
+pub accepted-fits : (q : Asked) (a : AcceptedMapping (q .base) (askedEntry q)) → Fitted (a .size .level) q
 unfolding pteOf
 accepted-fits q a = record {
   level = a .size .low;
@@ -91,7 +91,7 @@ accepted-fits q a = record {
 }
 
 module _ {h : ℕ → Bool} {sp : Space} {m : ℕ → ℕ} {role : ℕ → Role} (w : Whole h sp m role) (q : Asked) where
-  map-made : (p : Mapping) → map.decideOf h m sp q ≡ map.Go p → MapOk h sp m (map.writesOf sp p) (q .base) (asked q)
+  map-made : (p : Mapping) → map.decideOf h m sp q ≡ map.Go p → MapOk h sp m (map.writesOf sp p) (q .base) (askedEntry q)
   unfolding pteOf
   map-made p e = record {
     made = record {
@@ -99,7 +99,7 @@ module _ {h : ℕ → Bool} {sp : Space} {m : ℕ → ℕ} {role : ℕ → Role}
       one = d .changed .change;
       meaning = λ va. meant-found (d .whole) va ∙ inserts va ∙ again va;
     };
-    apart = λ c. not-mapped (meant-overlaps w (q .base) (asked q) wide .0 c);
+    apart = λ c. not-mapped (meant-overlaps w (q .base) (askedEntry q) wide .0 c);
   }
     where
       d : MapDone h sp m role q p
@@ -116,7 +116,7 @@ module _ {h : ℕ → Bool} {sp : Space} {m : ℕ → ℕ} {role : ℕ → Role}
           go (no u) (yes v) = inr v
           go (no u) (no v) = absurd (map-succeeds w q .0 (p, e, d) _ (frame-in-pool (p .target) (d .fitted) (omega arith, omega arith)))
 
-      not-mapped : Mapped h sp m q → ⊥
+      not-mapped : SomeMapped h sp m q → ⊥
       not-mapped k = map-succeeds w q .0 (p, e, d) _ (mapped (p .target) (d .fitted) apart k)
 
       inner : (va : ℕ) → In (q .base) (q .size) va → va ≢ q .base → atBase va (meaning (settingOf h sp) m va) ≡ none
@@ -124,26 +124,26 @@ module _ {h : ℕ → Bool} {sp : Space} {m : ℕ → ℕ} {role : ℕ → Role}
           (λ b s f r k. not-mapped (record { address = va; from = i .0; upto = i .1; start = b; long = s; frame = f; rights = r; means = k }))
 
       inserts : (va : ℕ) → atBase va (meaning (settingOf h sp) (after m (map.writesOf sp p)) va)
-          ≡ inserted (λ b. atBase b (meaning (settingOf h sp) m b)) (q .base) (asked q) va
+          ≡ inserted (λ b. atBase b (meaning (settingOf h sp) m b)) (q .base) (askedEntry q) va
       inserts = turned-inserts (meaning (settingOf h sp) m) (meaning (settingOf h sp) (after m (map.writesOf sp p))) (q .base) (q .size) _ wide
           (λ va i. mapped-inside w q p d va (i .0) (i .1)) (λ va n. mapped-outside w q p d va (λ x y. n (x, y))) inner (q .frame) (q .rights) refl
 
-      again : (va : ℕ) → inserted (λ b. atBase b (meaning (settingOf h sp) m b)) (q .base) (asked q) va ≡ inserted (meant sp m) (q .base) (asked q) va
+      again : (va : ℕ) → inserted (λ b. atBase b (meaning (settingOf h sp) m b)) (q .base) (askedEntry q) va ≡ inserted (meant sp m) (q .base) (askedEntry q) va
       again va = unfold inserted in rw (meant-found w va)
 
   -- MAP_FRAME, OK: the candidate overlapped nothing; the one changing write was made; the map has the page, and nothing else has changed.
-  pub map-ok : (k : ℕ) → mapAnswer h m sp q ≡ mapped′.Done k → MapOk h sp m (mapWrites h m sp q) (q .base) (asked q)
+  pub map-ok : (k : ℕ) → mapAnswer h m sp q ≡ mapped′.Done k → MapOk h sp m (mapWrites h m sp q) (q .base) (askedEntry q)
   unfolding mapAnswer mapWrites mapSaid map.didOf
   map-ok k done = go (map.decideOf h m sp q) refl done
     where
-      go : (x : Placed) → map.decideOf h m sp q ≡ x → mapSaid x ≡ mapped′.Done k → MapOk h sp m (map.didOf sp x) (q .base) (asked q)
+      go : (x : Placed) → map.decideOf h m sp q ≡ x → mapSaid x ≡ mapped′.Done k → MapOk h sp m (map.didOf sp x) (q .base) (askedEntry q)
       go (map.Refused r) e f = let z : _≡_ {A = ℕ} 0 1 = cc in absurd (omega arith)
       go (map.Go p) e f = map-made p e
 
   -- MAP_FRAME, ERR, where the source's demands hold (accepted_mapping; table memory and frames lie apart; there always is a page): nothing
   -- was written, and the candidate overlaps.
-  pub map-err : (y : Reason) → mapAnswer h m sp q ≡ mapped′.Refused y → AcceptedMapping (q .base) (asked q) → FrameApart h sp q → 3 ≤ bookOf m sp .free
-      → MapErr sp m (mapWrites h m sp q) (q .base) (asked q)
+  pub map-err : (y : Reason) → mapAnswer h m sp q ≡ mapped′.Refused y → AcceptedMapping (q .base) (askedEntry q) → FrameApart h sp q → 3 ≤ bookOf m sp .free
+      → MapErr sp m (mapWrites h m sp q) (q .base) (askedEntry q)
   unfolding mapAnswer mapWrites mapSaid map.didOf pteOf
   map-err y refused a apart enough = go (map.decideOf h m sp q) refl refused
     where
@@ -153,7 +153,7 @@ module _ {h : ℕ → Bool} {sp : Space} {m : ℕ → ℕ} {role : ℕ → Role}
       wide : 0 < q .size
       wide = omega (arith, f .size-is, size-pos (a .size .level))
 
-      because : (r : Reason) → Cause h sp m q r → CandidateOverlaps (meant sp m) (q .base) (asked q)
+      because : (r : Reason) → Cause h sp m q r → CandidateOverlaps (meant sp m) (q .base) (askedEntry q)
       because r (no-size n) = absurd (n (a .size .level) (a .size .low) (a .size .is))
       because r (base-unaligned l o n) = absurd (n (a .vaddr-aligned))
       because r (frame-unaligned l o b n) = absurd (n (a .frame-aligned))
@@ -164,10 +164,10 @@ module _ {h : ℕ → Bool} {sp : Space} {m : ℕ → ℕ} {role : ℕ → Role}
           meets : (sp .first * 4096 < q .frame + q .size) × (q .frame < (sp .first + sp .pages) * 4096) → FrameApart h sp q → ⊥
           meets k (inl u) = omega (arith, k .0)
           meets k (inr u) = omega (arith, k .1)
-      because r (mapped l g c k) = meant-overlaps w (q .base) (asked q) wide .1 k
+      because r (mapped l g c k) = meant-overlaps w (q .base) (askedEntry q) wide .1 k
       because r (no-room l n g c x k u) = absurd (omega (arith, comes-top (k .comes)))
 
-      go : (x : Placed) → map.decideOf h m sp q ≡ x → mapSaid x ≡ mapped′.Refused y → MapErr sp m (map.didOf sp x) (q .base) (asked q)
+      go : (x : Placed) → map.decideOf h m sp q ≡ x → mapSaid x ≡ mapped′.Refused y → MapErr sp m (map.didOf sp x) (q .base) (askedEntry q)
       go (map.Go p) e g = let z : _≡_ {A = ℕ} 0 1 = cc in absurd (omega arith)
       go (map.Refused r) e g =
           let same : r ≡ y = cc in

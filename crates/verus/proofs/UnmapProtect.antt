@@ -39,11 +39,11 @@ use Rattle.effect.proofs.Exactly.{unmap-exactly, protect-exactly}
 use Rattle.effect.proofs.UnmapDone.{unmapped}
 use Rattle.effect.proofs.ProtectDone.{protected}
 use Rattle.effect.proofs.Wholes.{root-low}
-use Rattle.tablepath.specs.Answers.{unmapAnswer, unmapWrites, unmapSaid, goneOf, protectAnswer, protectWrites, sameOf, protectSaid}
+use Rattle.tablepath.specs.Answers.{unmapAnswer, unmapWrites, unmapSaid, goneOf, protectAnswer, protectWrites, alteredOf, protectSaid}
 use Rattle.tablepath.specs.declared.Unmapped.the-variants as unmapped′
 use Rattle.tablepath.specs.declared.Gone.{Gone}
 use Rattle.tablepath.specs.declared.Protected.the-variants as protected′
-use Rattle.tablepath.specs.declared.Same.{Same}
+use Rattle.tablepath.specs.declared.Altered.{Altered}
 use Rattle.verus.specs.Regions.{pteOf}
 use Rattle.verus.specs.Mappings.{ContainsKey, inserted, removed}
 use Rattle.verus.specs.Walks.{interp}
@@ -117,9 +117,9 @@ module _ {h : ℕ → Bool} {sp : Space} {m : ℕ → ℕ} {role : ℕ → Role}
           let d : UnmapDone h sp m role base r = unmapped w base r e in
           let same : goneOf (bookOf m sp) r ≡ g = cc in
           subst (λ (y : Gone). UnmapOk h sp m (unmap.writesOf sp base r) base (y .frame) (y .size)) same (record {
-            made = removal-made (r .spot .size) (r .spot .frame) (d .had) (d .before) (r .spot .way .level) Nothing (unmap.writesOf sp base r) (d .role') (d .size-is) (d .aligned) (d .changed) (d .whole) refl;
+            made = removal-made (r .page .size) (r .page .frame) (d .had) (d .before) (r .page .way .level) Nothing (unmap.writesOf sp base r) (d .role') (d .size-is) (d .aligned) (d .changed) (d .whole) refl;
             rights = d .had;
-            had = had-page (r .spot .size) (r .spot .frame) (d .had) (d .before);
+            had = had-page (r .page .size) (r .page .frame) (d .had) (d .before);
           })
 
   -- UNMAP, ERR: nothing was written, and the base was not mapped.
@@ -133,16 +133,16 @@ module _ {h : ℕ → Bool} {sp : Space} {m : ℕ → ℕ} {role : ℕ → Role}
           record { unchanged = refl; missing = λ k. nowhere (settingOf h sp) m base z (unmap-exactly w base .refused z .0 e) (key-starts k) }
 
   -- PROTECT, OK: the base was mapped; the one changing write was made; it has the same frame with the new flags.
-  pub protect-ok : (r : Rights) (g : Same) → protectAnswer h m sp base r ≡ protected′.Done g → ProtectOk h sp m (protectWrites h m sp base r) base (g .frame) (g .size) r
-  unfolding protectAnswer protectWrites protectSaid sameOf protect.didOf
+  pub protect-ok : (r : Rights) (g : Altered) → protectAnswer h m sp base r ≡ protected′.Done g → ProtectOk h sp m (protectWrites h m sp base r) base (g .frame) (g .size) r
+  unfolding protectAnswer protectWrites protectSaid alteredOf protect.didOf
   protect-ok r g done = go (protect.decideOf h m sp base r) refl done
     where
       go : (x : Changing) → protect.decideOf h m sp base r ≡ x → protectSaid x ≡ protected′.Done g → ProtectOk h sp m (protect.didOf x) base (g .frame) (g .size) r
       go (changing.Refused y) e f = let z : _≡_ {A = ℕ} 0 1 = cc in absurd (omega arith)
       go (changing.Go c) e f =
           let d : ProtectDone h sp m role base r c = protected w base r c e in
-          let same : sameOf c ≡ g = cc in
-          subst (λ (y : Same). ProtectOk h sp m (protect.writesOf c) base (y .frame) (y .size) r) same (record {
+          let same : alteredOf c ≡ g = cc in
+          subst (λ (y : Altered). ProtectOk h sp m (protect.writesOf c) base (y .frame) (y .size) r) same (record {
             made = change-made (c .size) (c .frame) (d .had) (d .before) (d .level) (Page base (c .size) (c .frame) r) (protect.writesOf c) role (d .size-is) (d .aligned) (d .changed) (d .whole) r refl;
             before = d .had;
             had = had-page (c .size) (c .frame) (d .had) (d .before);

@@ -5,7 +5,7 @@ use mathlib.Core.Bool.{Bool, true, false}
 use mathlib.Core.Logic.{_≢_}
 use mathlib.Core.Path.{_≡_}
 use Rattle.entry.specs.Entry.{sizeOf, bit, says, everything}
-use Rattle.entry.specs.Kept.{Kept}
+use Rattle.entry.specs.Kept.{SameButRights}
 use Rattle.entry.specs.declared.Rights.{Rights}
 use Rattle.entry.specs.declared.Entry.the-variants.{Page, Table}
 
@@ -45,4 +45,4 @@ pub record NewDirEntry (l p w : ℕ) : Type 0 where
 -- change_page_permissions, of the word of a page
 pub record Permitted (l frame : ℕ) (r : Rights) (w v : ℕ) : Type 0 where
   pub page : says l v ≡ Page frame r
-  pub kept : Kept v w
+  pub kept : SameButRights v w

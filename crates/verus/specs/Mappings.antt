@@ -24,8 +24,8 @@ unfoldable pub removed : Mappings → ℕ → Mappings
 removed f k b = cond (eqb b k) none (f b)
 
 -- the same map
-abbrev pub Same : Mappings → Mappings → Type 0
-Same f g = (b : ℕ) → f b ≡ g b
+abbrev pub SameMap : Mappings → Mappings → Type 0
+SameMap f g = (b : ℕ) → f b ≡ g b
 
 -- candidate_mapping_overlaps_existing_vmem: the range of some base that is mapped overlaps the candidate's
 pub record CandidateOverlaps (f : Mappings) (base : ℕ) (p : PTE) : Type 0 where

@@ -15,7 +15,7 @@ use Rattle.pool.specs.Booked.{settingOf}
 use Rattle.pool.specs.declared.Space.{Space}
 use Rattle.effect.specs.Whole.{Whole}
 use Rattle.verus.specs.Regions.{PTE, pteOf}
-use Rattle.verus.specs.Mappings.{Mappings, ContainsKey, CandidateOverlaps, Same, inserted, removed}
+use Rattle.verus.specs.Mappings.{Mappings, ContainsKey, CandidateOverlaps, SameMap, inserted, removed}
 use Rattle.verus.specs.Walks.{interp}
 use Rattle.verus.specs.Trees.{Inv}
 
@@ -33,7 +33,7 @@ pub record InvAfter (h : ℕ → Bool) (sp : Space) (m' : ℕ → ℕ) : Type 0 
 pub record ChangeMade (h : ℕ → Bool) (sp : Space) (m : ℕ → ℕ) (xs : List Write) (now : Mappings) : Type 0 where
   pub inv : InvAfter h sp (after m xs)
   pub one : OneChange (walkerOf (settingOf h sp)) m (eventsOf xs)
-  pub meaning : Same (meant sp (after m xs)) now
+  pub meaning : SameMap (meant sp (after m xs)) now
 
 -- final(tok)@ == old(tok)@
 abbrev pub Unchanged : List Write → Type 0

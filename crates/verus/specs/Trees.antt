@@ -10,7 +10,7 @@ use Rattle.entry.specs.Marks.{Marked}
 use Rattle.entry.specs.Words.{pageWord}
 use Rattle.entry.specs.declared.Rights.{Rights}
 use Rattle.entry.specs.declared.Entry.the-variants.{Nothing, Page, Table}
-use Rattle.tables.specs.Roles.{Setting, Role, Live, entryAt, Home, Holds}
+use Rattle.tables.specs.Roles.{Setting, Role, Live, entryAt, Home, Occupied}
 use Rattle.verus.specs.Regions.{PTE, pteOf}
 
 -- the tree of the table t, whose entries are read at level l and which begins at `start`, maps the base b to p (interp_at, interp_aux)
@@ -41,7 +41,7 @@ pub record InvAt (σ : Setting) (m : ℕ → ℕ) (role : ℕ → Role) (l q : �
   pub hp-pat : (i f : ℕ) (g : Rights) → i < 512 → entryAt m l q i ≡ Page f g → l ≢ 0 → bit 12 (m (at q i)) ≡ false
   pub exact : (i f : ℕ) (g : Rights) → i < 512 → entryAt m l q i ≡ Page f g → Marked (m (at q i)) (pageWord l f g)
   pub directories : (i t : ℕ) (g : Rights) → i < 512 → entryAt m l q i ≡ Table t g → m (at q i) / 128 % 2 ≡ 0
-  pub nonempty : (i t : ℕ) (g : Rights) → i < 512 → entryAt m l q i ≡ Table t g → (k : ℕ) → l ≡ suc k → Holds m k t
+  pub nonempty : (i t : ℕ) (g : Rights) → i < 512 → entryAt m l q i ≡ Table t g → (k : ℕ) → l ≡ suc k → Occupied m k t
 
 -- inv_and_nonempty: of every table; the root is one
 pub record Inv (σ : Setting) (m : ℕ → ℕ) (role : ℕ → Role) : Type 0 where

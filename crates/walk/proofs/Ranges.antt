@@ -20,7 +20,7 @@ use Rattle.walk.proofs.Steps.{run-ended}
 
 module _ (h : ℕ → Bool) (m : ℕ → ℕ) (va : ℕ) where
   -- the walk ends in a page of level k, and so does the walk of every address that agrees with va there
-  record Ends (n : ℕ) (p : Place) (b s f : ℕ) (r : Rights) : Type 0 where
+  record EndsAlike (n : ℕ) (p : Place) (b s f : ℕ) (r : Rights) : Type 0 where
     level : ℕ
     low : level < n
     base : b ≡ baseOf level va
@@ -32,14 +32,14 @@ module _ (h : ℕ → Bool) (m : ℕ → ℕ) (va : ℕ) where
   unfolding foundOf
   other n g b s f r e = sym (ap foundOf (run-ended h m n va g)) ∙ e
 
-  ends : (n t : ℕ) (q : Rights) (b s f : ℕ) (r : Rights) → foundOf (run h m n va (Going t q)) ≡ Page b s f r → Ends n (Going t q) b s f r
+  ends : (n t : ℕ) (q : Rights) (b s f : ℕ) (r : Rights) → foundOf (run h m n va (Going t q)) ≡ Page b s f r → EndsAlike n (Going t q) b s f r
   unfolding run stepOf foundOf entered
   ends zero t q b s f r e = let z : _≡_ {A = ℕ} 0 1 = cc in absurd (omega arith)
   ends (suc n) t q b s f r e = go (h t) (says n (m (entryOf n va t))) refl refl (λ u g k. ends n u g b s f r k) e
     where
       go : (x : Bool) (w : Entry) → h t ≡ x → says n (m (entryOf n va t)) ≡ w
-          → ((u : ℕ) (g : Rights) → foundOf (run h m n va (Going u g)) ≡ Page b s f r → Ends n (Going u g) b s f r)
-          → foundOf (run h m n va (cond x (entered n va q w) (Ended Outside))) ≡ Page b s f r → Ends (suc n) (Going t q) b s f r
+          → ((u : ℕ) (g : Rights) → foundOf (run h m n va (Going u g)) ≡ Page b s f r → EndsAlike n (Going u g) b s f r)
+          → foundOf (run h m n va (cond x (entered n va q w) (Ended Outside))) ≡ Page b s f r → EndsAlike (suc n) (Going t q) b s f r
       go false w hx ew ih k = let z : _≡_ {A = ℕ} 0 1 = cc (other n Outside b s f r k) in absurd (omega arith)
       go true entry.Nothing hx ew ih k = let z : _≡_ {A = ℕ} 0 1 = cc (other n Nothing b s f r k) in absurd (omega arith)
       go true (entry.Page d g) hx ew ih k =

@@ -17,6 +17,6 @@ Reads P h m zero va p = Unit {0}
 Reads P h m (suc n) va p = ReadsNow P h n va p × Reads P h m n va (stepOf h m n va p)
 
 -- the walk of va comes to p, with n levels left, and P holds of every word that it has read
-pub data Way (P : ℕ → Type 0) (h : ℕ → Bool) (m : ℕ → ℕ) (root va : ℕ) : ℕ → Place → Type 0 where
-  begins : Way P h m root va 4 (start root va)
-  goes : {n : ℕ} {p : Place} → Way P h m root va (suc n) p → ReadsNow P h n va p → Way P h m root va n (stepOf h m n va p)
+pub data ComesBy (P : ℕ → Type 0) (h : ℕ → Bool) (m : ℕ → ℕ) (root va : ℕ) : ℕ → Place → Type 0 where
+  by-start : ComesBy P h m root va 4 (start root va)
+  by-step : {n : ℕ} {p : Place} → ComesBy P h m root va (suc n) p → ReadsNow P h n va p → ComesBy P h m root va n (stepOf h m n va p)

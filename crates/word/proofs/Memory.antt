@@ -17,28 +17,28 @@ use Rattle.word.proofs.Tests.{and-both}
 use Rattle.word.proofs.Set.{set-at, set-other}
 
 -- the word lies in the window
-pub record Lies (s : List ℕ) (origin x : ℕ) : Type 0 where
+pub record WordInWindow (s : List ℕ) (origin x : ℕ) : Type 0 where
   pub from : origin ≤ 8 * x
   pub upto : 8 * x + 8 ≤ origin + length s
 
-pub memory-in : (s : List ℕ) (origin x : ℕ) → Lies s origin x → memory s origin x ≡ wordAt s (8 * x - origin)
+pub memory-in : (s : List ℕ) (origin x : ℕ) → WordInWindow s origin x → memory s origin x ≡ wordAt s (8 * x - origin)
 unfolding memory
 memory-in s origin x l = simp (le-leb origin (8 * x) (l .from), le-leb (8 * x + 8) (origin + length s) (l .upto))
 
 -- a page that is held: its first word lies in the window, and so does its last
-pub record Held (s : List ℕ) (origin p : ℕ) : Type 0 where
+pub record InWindow (s : List ℕ) (origin p : ℕ) : Type 0 where
   pub small : p < 2 ^ 40
   pub from : origin ≤ 4096 * p
   pub upto : 4096 * p + 4096 ≤ origin + length s
 
-pub held : (s : List ℕ) (origin p : ℕ) → holds s origin p ≡ true → Held s origin p
+pub held : (s : List ℕ) (origin p : ℕ) → holds s origin p ≡ true → InWindow s origin p
 unfolding holds
 held s origin p h =
     let a = and-both _ _ h in
     let b = and-both _ _ (a .1) in
     record { small = ltb-true p (2 ^ 40) (a .0); from = leb-true origin (4096 * p) (b .0); upto = leb-true _ _ (b .1) }
 
-pub held-lies : (s : List ℕ) (origin p i : ℕ) → Held s origin p → i < 512 → Lies s origin (at p i)
+pub held-lies : (s : List ℕ) (origin p i : ℕ) → InWindow s origin p → i < 512 → WordInWindow s origin (at p i)
 held-lies s origin p i h u = record { from = omega (arith, h .from); upto = omega (arith, h .upto) }
 
 -- where the entry's bytes are, as the code computes it
@@ -59,7 +59,7 @@ offset s origin p i h u =
     }
 
 -- THE LAW, for any word of the window
-pub memory-put : (s : List ℕ) (origin x w : ℕ) → Lies s origin x → w < 2 ^ 64 → memory (putWord s (8 * x - origin) w) origin ≡ set (memory s origin) x w
+pub memory-put : (s : List ℕ) (origin x w : ℕ) → WordInWindow s origin x → w < 2 ^ 64 → memory (putWord s (8 * x - origin) w) origin ≡ set (memory s origin) x w
 unfolding memory
 memory-put s origin x w l f = fun-ext (λ y. go y (ℕ-discrete x y) (decLe origin (8 * y)))
   where

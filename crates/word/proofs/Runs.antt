@@ -66,17 +66,17 @@ module _ (s : List ℕ) (origin first pages : ℕ) where
       go false b f l = no-run (λ r. false≢true (sym f ∙ run-holds r first (omega arith) (omega arith)))
 
   module _ (kept p i : ℕ) where
-    pub record Among : Type 0 where
+    pub record InRun : Type 0 where
       pub run : Run
       pub small : i < 512
       pub behind : first + kept ≤ p
       pub before-end : p < first + pages
 
-    pub among-is : Among → isAmong s origin first kept pages p i ≡ true
+    pub among-is : InRun → isAmong s origin first kept pages p i ≡ true
     unfolding isAmong
     among-is a = simp (run-spans (a .run), lt-ltb i 512 (a .small), le-leb (first + kept) p (a .behind), lt-ltb p (first + pages) (a .before-end))
 
-    pub is-among : isAmong s origin first kept pages p i ≡ true → Among
+    pub is-among : isAmong s origin first kept pages p i ≡ true → InRun
     unfolding isAmong
     is-among e =
         let a = and-both _ _ e in
@@ -84,7 +84,7 @@ module _ (s : List ℕ) (origin first pages : ℕ) where
         let c = and-both _ _ (b .1) in
         record { run = spans-run (a .0); small = ltb-true _ _ (b .0); behind = leb-true _ _ (c .0); before-end = ltb-true _ _ (c .1) }
 
-    pub not-among : (Among → ⊥) → isAmong s origin first kept pages p i ≡ false
+    pub not-among : (InRun → ⊥) → isAmong s origin first kept pages p i ≡ false
     not-among n = go (isAmong s origin first kept pages p i) refl
       where
         go : (t : Bool) → isAmong s origin first kept pages p i ≡ t → t ≡ false
@@ -102,10 +102,10 @@ module _ (s : List ℕ) (origin first pages : ℕ) where
             lt-ltb d (pages - kept) (omega arith)
             ∙ sym (among-is (record { run = r; small = u; behind = omega (arith, r .end); before-end = omega (arith, r .end) }))
 
-    pub among-holds : Among → holds s origin p ≡ true
+    pub among-holds : InRun → holds s origin p ≡ true
     among-holds a = run-holds (a .run) p (omega (arith, a .behind)) (a .before-end)
 
-    pub among-word : Among → Word (memory s origin (at p i)) ≡ amongOf s origin first kept pages p i
+    pub among-word : InRun → Word (memory s origin (at p i)) ≡ amongOf s origin first kept pages p i
     unfolding amongOf
     among-word a = rw (among-is a)
 
@@ -129,13 +129,13 @@ module _ (s : List ℕ) (origin first pages : ℕ) where
     none-among w e = simp e
 
     -- what it answered
-    pub word-among : (w : ℕ) → amongOf s origin first kept pages p i ≡ Word w → Among × (memory s origin (at p i) ≡ w)
+    pub word-among : (w : ℕ) → amongOf s origin first kept pages p i ≡ Word w → InRun × (memory s origin (at p i) ≡ w)
     unfolding amongOf
     word-among w e = go (isAmong s origin first kept pages p i) refl e
       where
-        go : (t : Bool) → isAmong s origin first kept pages p i ≡ t → cond t (Word (memory s origin (at p i))) Outside ≡ Word w → Among × (memory s origin (at p i) ≡ w)
+        go : (t : Bool) → isAmong s origin first kept pages p i ≡ t → cond t (Word (memory s origin (at p i))) Outside ≡ Word w → InRun × (memory s origin (at p i) ≡ w)
         go true h x = (is-among h, cc)
         go false h x = let z : _≡_ {A = ℕ} 0 1 = cc in absurd (omega arith)
 
-    pub outside-among : amongOf s origin first kept pages p i ≡ Outside → Among → ⊥
+    pub outside-among : amongOf s origin first kept pages p i ≡ Outside → InRun → ⊥
     outside-among e a = let x = among-word a ∙ e in let z : _≡_ {A = ℕ} 0 1 = cc x in absurd (omega arith)

@@ -73,7 +73,7 @@ fn store(mem: &mut [u8], at: usize, w: u64)
 
 // Does page p begin so far behind the origin, at most? One comparison finds that it begins in the window, too: where it begins before the
 // window the difference wraps, and is more than any length.
-fn near(origin: u64, room: u64, p: u64) -> bool
+fn holds_within(origin: u64, room: u64, p: u64) -> bool
     ensures { λ r. ⌜ ((s : List ℕ) → origin < 2 ^ 63 → room + 4096 ≡ length s → length s < 2 ^ 63 → r ≡ holds s origin p) ⌝ }
 {
     if PAGE_COUNT <= p {
@@ -83,7 +83,7 @@ fn near(origin: u64, room: u64, p: u64) -> bool
 }
 
 // Does page p lie wholly in the window?
-pub fn inside(mem: &[u8], origin: u64, p: u64) -> bool
+pub fn holds(mem: &[u8], origin: u64, p: u64) -> bool
     ensures { λ r. ⌜ r ≡ holds (now (mem .entry)) origin p ⌝ }
 {
     if 9223372036854775808 <= origin {
@@ -93,12 +93,12 @@ pub fn inside(mem: &[u8], origin: u64, p: u64) -> bool
     if len < 4096 {
         return false;
     }
-    near(origin, len - 4096, p)
+    holds_within(origin, len - 4096, p)
 }
 
 // The same for one who only reads: in a window shorter than a page the room wraps, so both tests are of a sign. A look-up is shorter by
 // it; a loop over a page that was tested so is longer.
-fn covers(mem: &[u8], origin: u64, p: u64) -> bool
+fn holds_to_read(mem: &[u8], origin: u64, p: u64) -> bool
     ensures { λ r. ⌜ r ≡ holds (now (mem .entry)) origin p ⌝ }
 {
     let room = std::num::wrapping_sub_u64(mem.len() as u64, 4096);
@@ -108,7 +108,7 @@ fn covers(mem: &[u8], origin: u64, p: u64) -> bool
     if 9223372036854775808 <= origin {
         return false;
     }
-    near(origin, room, p)
+    holds_within(origin, room, p)
 }
 
 // Entry i of page p, where that page lies in the window.
@@ -118,7 +118,7 @@ pub fn read(mem: &[u8], origin: u64, p: u64, i: u64) -> Cell
     if 512 <= i {
         return Cell::Outside;
     }
-    if covers(mem, origin, p) {
+    if holds_to_read(mem, origin, p) {
         return Cell::Word(load(mem, (p * 4096 - origin + i * 8) as usize));
     }
     Cell::Outside
@@ -131,7 +131,7 @@ fn put(mem: &mut [u8], origin: u64, p: u64, i: u64, w: u64)
     if 512 <= i {
         return;
     }
-    if inside(mem, origin, p) {
+    if holds(mem, origin, p) {
         store(mem, (p * 4096 - origin + i * 8) as usize, w);
     }
 }

@@ -4,7 +4,7 @@ ghost use mathlib.Core.Bool.{true};
 ghost use Prim.Native.Nat.{_+_, _-_, _*_, _<_, _≤_};
 ghost use Rattle.word.specs.Memory.{memory, holds};
 ghost use Rattle.word.specs.Scan as the;
-use crate::inside;
+use crate::holds;
 use crate::load;
 
 // Words that are 0 are told apart only so that the compiler reads whole words: it would read a byte of each, and be slower.
@@ -81,7 +81,7 @@ fn eights(mem: &[u8], origin: u64, p: u64, from: u64, to: u64) -> bool
 pub fn besides(mem: &[u8], origin: u64, p: u64, i: u64) -> bool
     ensures { λ r. ⌜ r ≡ the.besidesOf (holds (now (mem .entry)) origin) (memory (now (mem .entry)) origin) p i 512 ⌝ }
 {
-    if inside(mem, origin, p) {
+    if holds(mem, origin, p) {
         if 512 <= i {
             return eights(mem, origin, p, 0, 64);
         }

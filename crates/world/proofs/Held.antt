@@ -9,7 +9,7 @@ use Rattle.world.proofs.Events.{among-map, all-first, all-moments}
 use Rattle.world.specs.Walker.{Walker, WalkerLaws, meaning, Gives}
 use Rattle.world.specs.Ways.{Follows}
 use Rattle.world.proofs.Ways.{follows-refl, follows-trans, follows-step}
-use Rattle.world.specs.Held.{Holds, None, Can, Harmless, Lawful, still, starts, steps, shares}
+use Rattle.world.specs.Held.{MayHold, None, Can, Harmless, Lawful, still, starts, steps, shares}
 
 module _ {Word View Address Place Answer : Type 0} (W : Walker Word View Address Place Answer) where
   open Walker W using (start, left, Alike)
@@ -40,7 +40,7 @@ module _ {Word View Address Place Answer : Type 0} (W : Walker Word View Address
 
   -- What is so of every start and stays so by every step is so of all that may be held, if it was so of all that was held.
   pub always-held : (K : Address → Place → Type 0) (m : ℕ → Word) (H : Address → Place → Type 0)
-      → ((va : Address) → K va (start va)) → ((va : Address) (p : Place) → K va p → K va (step m va p)) → Always W K H → Always W K (Holds W m H)
+      → ((va : Address) → K va (start va)) → ((va : Address) (p : Place) → K va p → K va (step m va p)) → Always W K H → Always W K (MayHold W m H)
   always-held K m H s n h va p (still q) vb a = h va p q vb a
   always-held K m H s n h va p starts vb a = rw (alike-start va vb a) (s vb)
   always-held K m H s n h va p (steps {p = o} q) vb a =
@@ -54,7 +54,7 @@ module _ {Word View Address Place Answer : Type 0} (W : Walker Word View Address
   had-on : (P : (ℕ → Word) → Type 0) (m m' : ℕ → Word) (va : Address) (p q : Place) → Follows W va m' q m p → Had W P m va p → Had W P m' va q
   had-on P m m' va p q f h = record { moment = h .moment; good = h .good; follows = follows-trans W L f (h .follows) }
 
-  had-holds : (P : (ℕ → Word) → Type 0) (m : ℕ → Word) (H : Address → Place → Type 0) → P m → Always W (Had W P m) H → Always W (Had W P m) (Holds W m H)
+  had-holds : (P : (ℕ → Word) → Type 0) (m : ℕ → Word) (H : Address → Place → Type 0) → P m → Always W (Had W P m) H → Always W (Had W P m) (MayHold W m H)
   had-holds P m H g = always-held (Had W P m) m H (λ va. had-now P m g va (start va) (follows-refl W L va m (start va))) (λ va p. had-on P m m va p (step m va p) (follows-step W L va m p))
 
   had-change : (P : (ℕ → Word) → Type 0) (m m' : ℕ → Word) → P m' → (va : Address) (p : Place) → Harmless W m m' va p → Had W P m va p → Had W P m' va p
@@ -67,7 +67,7 @@ module _ {Word View Address Place Answer : Type 0} (W : Walker Word View Address
   unfolding All Lawful Can after
   always-had [] P m H g h l = had-holds P m H g h
   always-had (e ∷ es) P m H g h l =
-      always-had es P (happen m e) (Holds W m H) (g .1)
+      always-had es P (happen m e) (MayHold W m H) (g .1)
       (λ va p q vb a. had-change P m (happen m e) (all-first es (happen m e) P (g .1)) vb p (l .0 vb p (shares a q)) (had-holds P m H (g .0) h va p q vb a))
       (l .1)
 

@@ -9,7 +9,7 @@ use Rattle.world.specs.Events.{Event, write, mark, store, happen, after,
 use Rattle.world.proofs.Events.{among-map, all-first, all-moments, mark-same}
 use Rattle.world.specs.Walker.{Walker, WalkerLaws, cell, Reads, ReadsIn, Below, On, here, down}
 use Rattle.world.proofs.Ways.{follows-step, follows-agree, on-step, on-same, on-write, below-reads}
-use Rattle.world.specs.Held.{Holds, None, Can}
+use Rattle.world.specs.Held.{MayHold, None, Can}
 use Rattle.world.proofs.Held.{Always, always-held}
 use Rattle.world.specs.Discipline.{Grow, Safe}
 
@@ -52,7 +52,7 @@ module _ {Word View Address Place Answer : Type 0} (W : Walker Word View Address
         state = inr (record { within = λ x r. z .within x (follows-step W L va m p .within x r); shows = λ x r. z .shows x (follows-step W L va m p .within x r) });
       }
 
-  was-holds : (P : (ℕ → Word) → Type 0) (F : ℕ → Type 0) (m : ℕ → Word) (H : Address → Place → Type 0) → P m → Always W (Was P F m) H → Always W (Was P F m) (Holds W m H)
+  was-holds : (P : (ℕ → Word) → Type 0) (F : ℕ → Type 0) (m : ℕ → Word) (H : Address → Place → Type 0) → P m → Always W (Was P F m) H → Always W (Was P F m) (MayHold W m H)
   was-holds P F m H g = always-held W L (Was P F m) m H (λ va. was-now P F m va (start va) g here) (was-step P F m g)
 
   -- a change that leaves what it has to read, all of which is frozen now
@@ -100,14 +100,14 @@ module _ {Word View Address Place Answer : Type 0} (W : Walker Word View Address
   unfolding All Can Safe happen
   always-was [] P F m H g k s va p c = let w = was-holds P F m H g k va p c va (alike-refl (left p) va) in (w .moment, w .good, w .on)
   always-was (write a v ∷ es) P F m H g k s va p c =
-      always-was es P (Grow W F m a) (set m a v) (Holds W m H) (g .1)
+      always-was es P (Grow W F m a) (set m a v) (MayHold W m H) (g .1)
       (λ va p q vb d. was-set P F (Grow W F m a) m a v (g .0) (all-first es (set m a v) P (g .1)) (λ x f. inl f) (s .0) (λ vc x b. inr (vc, b)) vb p
       (was-holds P F m H (g .0) k va p q vb d)) (s .1) va p c
   always-was (mark a v ∷ es) P F m H g k s va p c =
-      always-was es P F (set m a v) (Holds W m H) (g .1)
+      always-was es P F (set m a v) (MayHold W m H) (g .1)
       (λ va p q vb d. was-mark P F m a v (all-first es (set m a v) P (g .1)) (s .0) vb p (was-holds P F m H (g .0) k va p q vb d)) (s .1) va p c
   always-was (store a v ∷ es) P F m H g k s va p c =
-      always-was es P F (set m a v) (Holds W m H) (g .1)
+      always-was es P F (set m a v) (MayHold W m H) (g .1)
       (λ va p q vb d. was-set P F F m a v (g .0) (all-first es (set m a v) P (g .1)) (λ x f. f) (s .0)
       (λ vc x b. absurd (s .1 vc (below-reads W L m vc (left (start vc)) (start vc) a x b))) vb p
       (was-holds P F m H (g .0) k va p q vb d)) (s .2) va p c

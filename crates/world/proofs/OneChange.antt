@@ -16,7 +16,7 @@ use Rattle.world.specs.Rules.{Obeys}
 use Rattle.world.proofs.Rules.{Shows}
 use Rattle.world.specs.Marks.{writes, Fair, Inside, Agree}
 use Rattle.world.proofs.Marks.{obeys-beside, agree-beside, all-beside}
-use Rattle.world.specs.Turns.{Turn, events, begun, places}
+use Rattle.world.specs.Turns.{Turn, events, atStart, places}
 use Rattle.world.proofs.Turns.{places-held}
 use Rattle.world.specs.OneChange.{SameMeaning, Quiet, OneChange}
 
@@ -83,10 +83,10 @@ module _ {Word View Address Place Answer : Type 0} (W : Walker Word View Address
 
   -- The same for any number of walks in turn.
   pub one-change-each-walk : (Ours : ℕ → Type 0) (who : ℕ → Address) (ts : List (Turn Word)) (F G : ℕ → Type 0) (m : ℕ → Word) → ((x : ℕ) → F x → Ours x)
-      → Fair W Ours m (events ts) → All m (writes (events ts)) (Inside W Ours) → Obeys W F m (writes (events ts)) G → OneChange W m (writes (events ts)) → (i : ℕ) (o : Answer) → Gives W (who i) (places W who m (begun W who) ts i) o
+      → Fair W Ours m (events ts) → All m (writes (events ts)) (Inside W Ours) → Obeys W F m (writes (events ts)) G → OneChange W m (writes (events ts)) → (i : ℕ) (o : Answer) → Gives W (who i) (places W who m (atStart W who) ts i) o
       → (o ≡ meaning W m (who i)) ⊎ (o ≡ meaning W (after m (events ts)) (who i))
   one-change-each-walk Ours who ts F G m u f j b c i o =
-      one-change Ours (events ts) F G m u f j b c (who i) (places W who m (begun W who) ts i) o (places-held W L who ts m (None W) (begun W who) i starts)
+      one-change Ours (events ts) F G m u f j b c (who i) (places W who m (atStart W who) ts i) o (places-held W L who ts m (None W) (atStart W who) i starts)
 
   -- RULES. Quiet lists: none, one event more, one list after the other.
   pub quiet-nil : (m : ℕ → Word) → Quiet W m []

@@ -7,11 +7,11 @@ use Rattle.world.specs.Events.{Event, happen, after, Among, All}
 use Rattle.world.proofs.Events.{after-more, among-map, among-append, among-split, among-last, among-all}
 use Rattle.world.specs.Walker.{Walker, WalkerLaws, finish, meaning, Gives, Reads, ReadsIn}
 use Rattle.world.proofs.Ways.{follows-step}
-use Rattle.world.specs.Held.{Holds, still, starts, steps, shares, None, Can}
+use Rattle.world.specs.Held.{MayHold, still, starts, steps, shares, None, Can}
 use Rattle.world.proofs.Held.{Always, always-held}
 use Rattle.world.specs.Discipline.{Safe}
 use Rattle.world.proofs.Discipline.{interleaving, interleaving-had}
-use Rattle.world.specs.Reports.{History, first, happens, begins, done, Period, fromNow, longer, eachLonger, oldest, younger, now, underway, next, last, Thawed, Caches, NoMore, Finishes, Since, Untold, Held, SafeIn, Keeps, OnWay, Tells, Meant, MeantLike, Fresh, Enough}
+use Rattle.world.specs.Reports.{History, first, happens, begins, done, Period, fromNow, longer, eachLonger, oldest, younger, now, underway, next, last, Thawed, Caches, NoMore, Finishes, Since, Untold, Held, SafeIn, Disciplined, WasOn, Tells, Meant, MeantLike, Fresh, Enough}
 use Rattle.world.proofs.Holding.{holds-more, can-holds, can-longer, can-on}
 use Rattle.world.proofs.OnWays.{was-on}
 
@@ -72,13 +72,13 @@ module _ {Word Address : Type 0} where
 -- What is held -------------------------------------------------------------------------------------------------------------------------
 
 module _ {Word View Address Place Answer : Type 0} (W : Walker Word View Address Place Answer) where
-  since-holds : (m : ℕ → Word) (q : Period Word) → EndsAt m q → (va : Address) (p : Place) → Holds W m (Since W q) va p → Since W q va p
-  since-holds m q e va p h = can-holds W (q .since) (q .began) (None W) va p (subst (λ x. Holds W x (Since W q) va p) (sym e) h)
+  since-holds : (m : ℕ → Word) (q : Period Word) → EndsAt m q → (va : Address) (p : Place) → MayHold W m (Since W q) va p → Since W q va p
+  since-holds m q e va p h = can-holds W (q .since) (q .began) (None W) va p (subst (λ x. MayHold W x (Since W q) va p) (sym e) h)
 
-  since-longer : (m : ℕ → Word) (e : Event Word) (q : Period Word) → EndsAt m q → (va : Address) (p : Place) → Holds W (happen m e) (Since W q) va p
+  since-longer : (m : ℕ → Word) (e : Event Word) (q : Period Word) → EndsAt m q → (va : Address) (p : Place) → MayHold W (happen m e) (Since W q) va p
       → Since W (longer e q) va p
   since-longer m e q k va p h =
-      can-longer W (q .since) e (q .began) (None W) va p (subst (λ x. Holds W (happen x e) (Since W q) va p) (sym k) h)
+      can-longer W (q .since) e (q .began) (None W) va p (subst (λ x. MayHold W (happen x e) (Since W q) va p) (sym k) h)
 
 module _ {Word View Address Place Answer : Type 0} (W : Walker Word View Address Place Answer) (L : WalkerLaws W) (C : Caches Place Answer) (laws : Finishes W C) where
   open Walker W using (start, left, step)
@@ -86,8 +86,8 @@ module _ {Word View Address Place Answer : Type 0} (W : Walker Word View Address
   open Caches C using (half, finished)
   open Finishes laws using (rests, stays, gives)
 
-  last-safe : (h : History Word Address) → Keeps W h → SafeIn W (last h)
-  unfolding Keeps last Safe
+  last-safe : (h : History Word Address) → Disciplined W h → SafeIn W (last h)
+  unfolding Disciplined last Safe
   last-safe (first m) k = tt
   last-safe (happens h e) k = k .1
   last-safe (begins h) k = last-safe h k
@@ -129,14 +129,14 @@ module _ {Word View Address Place Answer : Type 0} (W : Walker Word View Address
   abbrev Fine : History Word Address → Address → Place → Type 0
   Fine h va p = (finished p × ((o : Answer) → Gives W va p o → Fresh W C h va o)) ⊎ Since W (last h) va p
 
-  fine-holds : (h : History Word Address) (H : Address → Place → Type 0) → Always W (Fine h) H → Always W (Fine h) (Holds W (now h) H)
+  fine-holds : (h : History Word Address) (H : Address → Place → Type 0) → Always W (Fine h) H → Always W (Fine h) (MayHold W (now h) H)
   fine-holds h H = always-held W L (Fine h) (now h) H (λ va. inr (since-holds W (now h) (last h) (last-ends h) va (start va) starts)) next-step
     where
       next-step : (va : Address) (p : Place) → Fine h va p → Fine h va (step (now h) va p)
       next-step va p (inl (f, g)) = inl (stays p f (now h) va, λ o k. g o (gives-back va p f (now h) o k))
       next-step va p (inr c) = inr (since-holds W (now h) (last h) (last-ends h) va (step (now h) va p) (steps (still c)))
 
-  fine-done : (h : History Word Address) (T : Address → Type 0) → Keeps W h → Tells W C (done h T) → Always W (Fine h) (Held W C h)
+  fine-done : (h : History Word Address) (T : Address → Type 0) → Disciplined W h → Tells W C (done h T) → Always W (Fine h) (Held W C h)
       → Always W (Fine (done h T)) (λ va p. Since W (next h) va p ⊎ ((half p ⊎ finished p) × Untold W T va p × Held W C h va p))
   unfolding Tells Fresh last
   fine-done h T k tells ih va p (inl c) vb a = inr (since-holds W (now h) (next h) (next-ends h) vb p (shares a (still c)))
@@ -161,8 +161,8 @@ module _ {Word View Address Place Answer : Type 0} (W : Walker Word View Address
           inr (can-on W (next h .since) (next h .began) (None W) vb p
           (tells .1 vb p f serves (was-on W L (last h .since) Thawed (last h .began) (last-safe h k) vb p c)))
 
-  fine : (h : History Word Address) → Keeps W h → Tells W C h → Always W (Fine h) (Held W C h)
-  unfolding Held Keeps Tells Fresh last now Can
+  fine : (h : History Word Address) → Disciplined W h → Tells W C h → Always W (Fine h) (Held W C h)
+  unfolding Held Disciplined Tells Fresh last now Can
   fine (first m) k t = fine-holds (first m) (None W) (λ va p n. absurd n)
   fine (happens h e) k t = fine-holds (happens h e) (Held W C h) (λ va p c vb a. more vb p (fine h (k .0) t va p c vb a))
     where
@@ -172,7 +172,7 @@ module _ {Word View Address Place Answer : Type 0} (W : Walker Word View Address
   fine (begins h) k t = fine h k t
   fine (done h T) k t = fine-holds (done h T) _ (fine-done h T (k .0) t (fine h (k .0) (t .0)))
 
-  module _ (h : History Word Address) (keeps : Keeps W h) (tells : Tells W C h) where
+  module _ (h : History Word Address) (keeps : Disciplined W h) (tells : Tells W C h) where
     is-fine : (va : Address) (p : Place) → Held W C h va p → Fine h va p
     is-fine va p c = fine h keeps tells va p c va (alike-refl (left p) va)
 
@@ -184,7 +184,7 @@ module _ {Word View Address Place Answer : Type 0} (W : Walker Word View Address
     ]
 
     -- A half-done walk that is held was on its way at some moment of the last period.
-    pub half-on : (va : Address) (p : Place) → Held W C h va p → ¬ finished p → OnWay W (last h) va p
+    pub half-on : (va : Address) (p : Place) → Held W C h va p → ¬ finished p → WasOn W (last h) va p
     half-on va p c n = elim (is-fine va p c) [
       | inl f ↦ absurd (n (f .0))
       | inr d ↦ was-on W L (last h .since) Thawed (last h .began) (last-safe h keeps) va p d
@@ -210,7 +210,7 @@ module _ {Word View Address Place Answer : Type 0} (W : Walker Word View Address
     enough-last (done h T) va e o (inl f) = among-map (next h .since) (next h .began) _ _ (λ m. ap kind) f
     enough-last (done h T) va e o (inr (k, n, f)) = elim (e .1 o k (enough-last h va (e .0) o f)) [ inl a ↦ a | inr t ↦ absurd (n t) ]
 
-    module _ (h : History Word Address) (keeps : Keeps W h) (tells : Tells W C h) (va : Address) (enough : Enough W C kind h va) where
+    module _ (h : History Word Address) (keeps : Disciplined W h) (tells : Tells W C h) (va : Address) (enough : Enough W C kind h va) where
       pub as-if-all : (p : Place) (o : Answer) → Held W C h va p → Gives W va p o → MeantLike W kind (last h) va o
       as-if-all p o c g = enough-last h va enough o (fresh h keeps tells va p o c g)
 

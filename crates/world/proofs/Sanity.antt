@@ -12,7 +12,7 @@ use Rattle.world.proofs.Ways.{nowhere-cell, rested-gives}
 use Rattle.world.specs.Held.{Can, None, still, starts, steps, shares}
 use Rattle.world.specs.Discipline.{Safe, Cuts}
 use Rattle.world.proofs.Discipline.{interleaving}
-use Rattle.world.specs.Turns.{Turn, tick, event, events, Idle, begun, places}
+use Rattle.world.specs.Turns.{Turn, tick, event, events, Idle, atStart, places}
 use Rattle.world.proofs.Turns.{each-walk}
 use Rattle.world.specs.Reports.{Thawed}
 use Rattle.world.specs.OneChange.{OneChange}
@@ -35,11 +35,11 @@ opening = tick 0 ∷ (event (mark 1000 4001) ∷ (event (write 1000 0) ∷ []))
 abbrev good : List (Turn ℕ)
 good = opening ++ (tick 1 ∷ (tick 0 ∷ (tick 1 ∷ [])))
 
-good-ends-0 : places tiny who memory (begun tiny who) good 0 ≡ record { levels = 0; table = 5 }
+good-ends-0 : places tiny who memory (atStart tiny who) good 0 ≡ record { levels = 0; table = 5 }
 unfolding places set happen ℕ-discrete onward entry
 good-ends-0 = refl
 
-good-ends-1 : places tiny who memory (begun tiny who) good 1 ≡ record { levels = 0; table = 0 }
+good-ends-1 : places tiny who memory (atStart tiny who) good 1 ≡ record { levels = 0; table = 0 }
 unfolding places set happen ℕ-discrete onward entry
 good-ends-1 = refl
 
@@ -89,7 +89,7 @@ good-moment-1 =
 abbrev bad : List (Turn ℕ)
 bad = tick 0 ∷ (event (write 1000 0) ∷ (event (write 2000 18) ∷ (tick 0 ∷ [])))
 
-bad-ends : places tiny who memory (begun tiny who) bad 0 ≡ record { levels = 0; table = 9 }
+bad-ends : places tiny who memory (atStart tiny who) bad 0 ≡ record { levels = 0; table = 9 }
 unfolding places set happen ℕ-discrete onward entry
 bad-ends = refl
 
@@ -111,7 +111,7 @@ looped = set memory 1000 2000
 abbrev over : List (Turn ℕ)
 over = tick 0 ∷ (event (write 1000 4000) ∷ (tick 0 ∷ []))
 
-over-ends : places tiny who looped (begun tiny who) over 0 ≡ record { levels = 0; table = 2000 }
+over-ends : places tiny who looped (atStart tiny who) over 0 ≡ record { levels = 0; table = 2000 }
 unfolding places set happen ℕ-discrete onward entry
 over-ends = refl
 

@@ -11,7 +11,7 @@ use Rattle.world.specs.Walker.{meaning, run, Gives, Reads, ReadsIn, Belo
 use Rattle.world.proofs.Ways.{nowhere-cell, below-reads}
 use Rattle.world.specs.Held.{None, still, starts, steps, Can}
 use Rattle.world.specs.Discipline.{Cuts, Grow, Safe}
-use Rattle.world.specs.Reports.{History, first, happens, begins, done, oldest, younger, eachLonger, now, underway, last, Thawed, Caches, Finishes, Held, Keeps, Tells, Enough}
+use Rattle.world.specs.Reports.{History, first, happens, begins, done, oldest, younger, eachLonger, now, underway, last, Thawed, Caches, Finishes, Held, Disciplined, Tells, Enough}
 use Rattle.world.proofs.Tiny.{Spot, entry, onward, next, tiny, tiny-laws}
 use Rattle.world.proofs.Sanity.{memory, same-cell, last-reads, last-below, root-free, root-only}
 use Rattle.world.proofs.Reports.{answers-all, reaches-none}
@@ -63,8 +63,8 @@ unread (inl f) = f
 unread (inr c) =
     omega (arith, root-only (set memory 1000 0) refl (c .0) 2000 (below-reads tiny tiny-laws (set memory 1000 0) (c .0) 2 (record { levels = 2; table = 1000 }) 2000 2000 (c .1)))
 
-reused-keeps : (T : ℕ → Type 0) → Keeps tiny (reused T)
-unfolding Keeps Safe now last underway oldest eachLonger after happen set ℕ-discrete
+reused-keeps : (T : ℕ → Type 0) → Disciplined tiny (reused T)
+unfolding Disciplined Safe now last underway oldest eachLonger after happen set ℕ-discrete
 reused-keeps T = (((tt, (root-free memory refl, tt)), tt), (unread, tt))
 
 reused-tells : Tells tiny caches (reused (λ t. t ≡ 0))

@@ -6,7 +6,7 @@ use native.Mathlib.Omega.{arith}
 use native.Mathlib.Decide.{ℕ-discrete}
 use Rattle.word.specs.Memory.{set}
 use Rattle.word.proofs.Set.{set-other}
-use Rattle.world.specs.Walker.{Next, nowhere, cell, Walker, WalkerLaws, run, Gives, ReadsIn, Reads, BelowIn, Below, On, here, down, Same}
+use Rattle.world.specs.Walker.{Next, nowhere, cell, Walker, WalkerLaws, run, Gives, ReadsIn, Reads, BelowIn, Below, On, here, down, LooksAlike}
 use Rattle.world.specs.Ways.{Follows}
 
 pub nowhere-cell : (a : ℕ) → ¬ (nowhere ≡ cell a)
@@ -86,7 +86,7 @@ module _ {Word View Address Place Answer : Type 0} (W : Walker Word View Address
       inr (below-agree m m' va k (step m va p) (λ y q. h y (inr q)) a x (rw (steps-agree m m' va k p h) at b))
 
   -- What no walk can tell apart, no step can.
-  step-same : (m m' : ℕ → Word) (va : Address) (p : Place) → Same W m m' → step m' va p ≡ step m va p
+  step-same : (m m' : ℕ → Word) (va : Address) (p : Place) → LooksAlike W m m' → step m' va p ≡ step m va p
   step-same m m' va p h = local m' m va p (λ c e. h c)
 
   -- A place of the way: a step from it, what it comes to, and a change that no walk sees.
@@ -98,7 +98,7 @@ module _ {Word View Address Place Answer : Type 0} (W : Walker Word View Address
   on-follows m va p q here = follows-refl va m p
   on-follows m va p q (down o) = follows-trans (on-follows m va p _ o) (follows-step va m q)
 
-  pub on-same : (m m' : ℕ → Word) (va : Address) (p q : Place) → Same W m m' → On W m va p q → On W m' va p q
+  pub on-same : (m m' : ℕ → Word) (va : Address) (p q : Place) → LooksAlike W m m' → On W m va p q → On W m' va p q
   on-same m m' va p q h here = here
   on-same m m' va p q h (down {q = r} o) = down {q = r} (rw (step-same m m' va r h) (on-same m m' va p _ h o))
 

@@ -11,11 +11,11 @@ module _ {Word View Address Place Answer : Type 0} (W : Walker Word View Address
 
   -- WHAT MAY BE HELD in the memory m, by a walk on its way or in a cache, of what was held before (H): it is held on, or dropped; a walk
   -- starts; a step is taken; and what is held for one address serves every address with the prefix that the walk has used so far.
-  pub data Holds (m : ℕ → Word) (H : Address → Place → Type 0) : Address → Place → Type 0 where
-    still : {va : Address} {p : Place} → H va p → Holds m H va p
-    starts : {va : Address} → Holds m H va (start va)
-    steps : {va : Address} {p : Place} → Holds m H va p → Holds m H va (step m va p)
-    shares : {va vb : Address} {p : Place} → Alike (left p) va vb → Holds m H va p → Holds m H vb p
+  pub data MayHold (m : ℕ → Word) (H : Address → Place → Type 0) : Address → Place → Type 0 where
+    still : {va : Address} {p : Place} → H va p → MayHold m H va p
+    starts : {va : Address} → MayHold m H va (start va)
+    steps : {va : Address} {p : Place} → MayHold m H va p → MayHold m H va (step m va p)
+    shares : {va vb : Address} {p : Place} → Alike (left p) va vb → MayHold m H va p → MayHold m H vb p
 
   -- nothing is held
   abbrev pub None : Address → Place → Type 0
@@ -23,8 +23,8 @@ module _ {Word View Address Place Answer : Type 0} (W : Walker Word View Address
 
   -- what may be held after a list of events
   unfoldable pub Can : (ℕ → Word) → List (Event Word) → (Address → Place → Type 0) → Address → Place → Type 0
-  Can m [] H = Holds m H
-  Can m (e ∷ es) H = Can (happen m e) es (Holds m H)
+  Can m [] H = MayHold m H
+  Can m (e ∷ es) H = Can (happen m e) es (MayHold m H)
 
   -- A change is harmless to what is held: the outcome stays, or it is the new meaning.
   abbrev pub Harmless : (m m' : ℕ → Word) → Address → Place → Type 0
@@ -33,4 +33,4 @@ module _ {Word View Address Place Answer : Type 0} (W : Walker Word View Address
   -- every change is harmless to all that may be held then
   unfoldable pub Lawful : (ℕ → Word) → List (Event Word) → (Address → Place → Type 0) → Type 0
   Lawful m [] H = Unit {0}
-  Lawful m (e ∷ es) H = ((va : Address) (p : Place) → Holds m H va p → Harmless m (happen m e) va p) × Lawful (happen m e) es (Holds m H)
+  Lawful m (e ∷ es) H = ((va : Address) (p : Place) → MayHold m H va p → Harmless m (happen m e) va p) × Lawful (happen m e) es (MayHold m H)

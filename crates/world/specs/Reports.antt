@@ -6,7 +6,7 @@ use mathlib.Core.Logic.{_⊎_}
 use Prim.Native.Nat.{ℕ}
 use Rattle.world.specs.Events.{Event, happen, Among}
 use Rattle.world.specs.Walker.{Walker, meaning, Gives, Reads, On}
-use Rattle.world.specs.Held.{Holds, None, Can}
+use Rattle.world.specs.Held.{MayHold, None, Can}
 use Rattle.world.specs.Discipline.{Safe}
 
 -- WHAT HAPPENS, from the first memory on: memory changes; a shootdown begins; the oldest shootdown under way is done, of these addresses. (One
@@ -100,8 +100,8 @@ module _ {Word View Address Place Answer : Type 0} (W : Walker Word View Address
   Since q = Can W (q .began) (q .since) (None W)
 
   -- p was on the way of va at some moment of the period
-  abbrev pub OnWay : Period Word → Address → Place → Type 0
-  OnWay q va p = Among (q .began) (q .since) (λ m. On W m va p (start va))
+  abbrev pub WasOn : Period Word → Address → Place → Type 0
+  WasOn q va p = Among (q .began) (q .since) (λ m. On W m va p (start va))
 
   -- va meant o at some moment of the period
   abbrev pub Meant : Period Word → Address → Answer → Type 0
@@ -119,19 +119,19 @@ module _ {Word View Address Place Answer : Type 0} (W : Walker Word View Address
   abbrev pub SafeIn : Period Word → Type 0
   SafeIn q = Safe W Thawed (q .began) (q .since)
 
-  unfoldable pub Keeps : History Word Address → Type 0
-  Keeps (first m) = Unit {0}
-  Keeps (happens h e) = Keeps h × SafeIn (longer e (last h))
-  Keeps (begins h) = Keeps h
-  Keeps (done h T) = Keeps h × SafeIn (next h)
+  unfoldable pub Disciplined : History Word Address → Type 0
+  Disciplined (first m) = Unit {0}
+  Disciplined (happens h e) = Disciplined h × SafeIn (longer e (last h))
+  Disciplined (begins h) = Disciplined h
+  Disciplined (done h T) = Disciplined h × SafeIn (next h)
 
 module _ {Word View Address Place Answer : Type 0} (W : Walker Word View Address Place Answer) (C : Caches Place Answer) where
   -- WHAT MAY BE HELD NOW. When a shootdown is done, that is what began since it began; and of what was held, all that serves no told address.
   unfoldable pub Held : History Word Address → Address → Place → Type 0
-  Held (first m) = Holds W m (None W)
-  Held (happens h e) = Holds W (happen (now h) e) (Held h)
+  Held (first m) = MayHold W m (None W)
+  Held (happens h e) = MayHold W (happen (now h) e) (Held h)
   Held (begins h) = Held h
-  Held (done h T) = Holds W (now h) (λ va p. Since W (next h) va p ⊎ ((C .half p ⊎ C .finished p) × Untold W T va p × Held h va p))
+  Held (done h T) = MayHold W (now h) (λ va p. Since W (next h) va p ⊎ ((C .half p ⊎ C .finished p) × Untold W T va p × Held h va p))
 
   -- NO HALF-DONE WALK IS LEFT ON A WAY THAT WAS CUT: where one is kept over a shootdown, its way was there since that began. (Where none is kept
   -- at all, there is nothing to promise.)
@@ -139,7 +139,7 @@ module _ {Word View Address Place Answer : Type 0} (W : Walker Word View Address
   Tells (first m) = Unit {0}
   Tells (happens h e) = Tells h
   Tells (begins h) = Tells h
-  Tells (done h T) = Tells h × ((va : Address) (p : Place) → C .half p → Untold W T va p → OnWay W (last h) va p → OnWay W (next h) va p)
+  Tells (done h T) = Tells h × ((va : Address) (p : Place) → C .half p → Untold W T va p → WasOn W (last h) va p → WasOn W (next h) va p)
 
   -- FRESH: va meant o at some moment since the shootdown began that was the last to tell va. (One that told others leaves pages.)
   unfoldable pub Fresh : History Word Address → Address → Answer → Type 0

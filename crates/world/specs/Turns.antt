@@ -27,8 +27,8 @@ module _ {Word View Address Place Answer : Type 0} (W : Walker Word View Address
   open Walker W using (start, step)
 
   -- Walk i is the walk of the address `who i`, and it stands at its start until its first step.
-  abbrev pub begun : ℕ → Place
-  begun i = start (who i)
+  abbrev pub atStart : ℕ → Place
+  atStart i = start (who i)
 
   -- where the walks stand after these turns
   unfoldable pub places : (ℕ → Word) → (ℕ → Place) → List (Turn Word) → ℕ → Place

@@ -67,8 +67,8 @@ module _ {Word View Address Place Answer : Type 0} (W : Walker Word View Address
     down : {q : Place} → On m va p (step m va q) → On m va p q
 
   -- two memories that no walk can tell apart
-  abbrev pub Same : (ℕ → Word) → (ℕ → Word) → Type 0
-  Same m m' = (x : ℕ) → see (m' x) ≡ see (m x)
+  abbrev pub LooksAlike : (ℕ → Word) → (ℕ → Word) → Type 0
+  LooksAlike m m' = (x : ℕ) → see (m' x) ≡ see (m x)
 
   -- ITS LAWS. The theorems ask them of any walker; they are proved of the walker of page tables.
   pub record WalkerLaws : Type 0 where

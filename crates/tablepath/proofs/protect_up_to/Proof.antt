@@ -1,5 +1,5 @@
 use mathlib.Core.Path.{sym, _∙_}
-use Rattle.tablepath.specs.Answers.{protectAnswer, protectWrites, protectSaid, sameOf}
+use Rattle.tablepath.specs.Answers.{protectAnswer, protectWrites, protectSaid, alteredOf}
 use borrow.Author.Needs.{needs}
 use Rattle.tablepath.proofs.protect_up_to.Statement.{statement}
 use Rattle.tablepath.proofs.protect_up_to.Tie as tie
@@ -20,14 +20,14 @@ same-length : tie.Need-same-length
 same-length c = search needs
 
 returns : tie.Need-returns
-unfolding protectAnswer protectWrites protectSaid sameOf
+unfolding protectAnswer protectWrites protectSaid alteredOf
 returns c = (rw (sym (c .before .before .before .before .before .protect .ensures .0) ∙ c .before .d .given .1), c .before .before .before .before .before .protect .ensures .1)
 
 same-length-2 : tie.Need-same-length-2
 same-length-2 c = search needs
 
 returns-2 : tie.Need-returns-2
-unfolding protectAnswer protectWrites protectSaid sameOf
+unfolding protectAnswer protectWrites protectSaid alteredOf
 returns-2 c = (rw (sym (c .before .before .before .before .before .protect .ensures .0) ∙ c .before .d2 .given .1), c .before .before .before .before .before .protect .ensures .1)
 
 pub protect-up-to-spec : {M : Type 1} → statement M

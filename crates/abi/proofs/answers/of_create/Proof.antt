@@ -1,4 +1,4 @@
-use Rattle.abi.specs.Answers.{created}
+use Rattle.abi.specs.Answers.{createdToC}
 use native.Mathlib.Omega.{arith}
 use borrow.Author.Needs.{needs}
 use Rattle.abi.proofs.answers.of_create.Statement.{statement}
@@ -17,18 +17,18 @@ enum-known-c-2 : tie.Need-enum-known-c-2
 enum-known-c-2 c = search needs
 
 returns : tie.Need-returns
-unfolding created
+unfolding createdToC
 returns c = λ low. absurd (omega (arith, low _ (c .before .before .c2 .given .1), c .if1 .taken))
 
 mul-t7 : tie.Need-mul-t7
 mul-t7 c = search needs
 
 returns-2 : tie.Need-returns-2
-unfolding created
+unfolding createdToC
 returns-2 c = λ low. rw (c .before .before .c .given .1, c .pool-reason .ensures)
 
 returns-3 : tie.Need-returns-3
-unfolding created
+unfolding createdToC
 returns-3 c = λ low. rw (c .before .before .c2 .given .1)
 
 pub of-create-spec : {M : Type 1} → statement M

@@ -1,4 +1,4 @@
-use Rattle.abi.specs.Answers.{lookedUp}
+use Rattle.abi.specs.Answers.{lookedUpToC}
 use borrow.Author.Needs.{needs}
 use Rattle.abi.proofs.answers.of_look_up.Statement.{statement}
 use Rattle.abi.proofs.answers.of_look_up.Tie as tie
@@ -22,19 +22,19 @@ enum-told-3 : tie.Need-enum-told-3
 enum-told-3 c = search needs
 
 returns : tie.Need-returns
-unfolding lookedUp
+unfolding lookedUpToC
 returns c = rw (c .before .before .f .given .1, c .rights-word .ensures)
 
 returns-2 : tie.Need-returns-2
-unfolding lookedUp
+unfolding lookedUpToC
 returns-2 c = rw (c .enum-told .given .1)
 
 returns-3 : tie.Need-returns-3
-unfolding lookedUp
+unfolding lookedUpToC
 returns-3 c = rw (c .enum-told2 .given .1)
 
 returns-4 : tie.Need-returns-4
-unfolding lookedUp
+unfolding lookedUpToC
 returns-4 c = rw (c .enum-told3 .given .1)
 
 pub of-look-up-spec : {M : Type 1} → statement M

@@ -1,4 +1,4 @@
-use Rattle.abi.specs.Answers.{protected}
+use Rattle.abi.specs.Answers.{protectedToC}
 use borrow.Author.Needs.{needs}
 use Rattle.abi.proofs.answers.of_protect.Statement.{statement}
 use Rattle.abi.proofs.answers.of_protect.Tie as tie
@@ -16,11 +16,11 @@ enum-known-a-2 : tie.Need-enum-known-a-2
 enum-known-a-2 c = search needs
 
 returns : tie.Need-returns
-unfolding protected
+unfolding protectedToC
 returns c = rw (c .before .before .a .given .1, c .reason .ensures)
 
 returns-2 : tie.Need-returns-2
-unfolding protected
+unfolding protectedToC
 returns-2 c = rw (c .before .a2 .given .1)
 
 pub of-protect-spec : {M : Type 1} → statement M

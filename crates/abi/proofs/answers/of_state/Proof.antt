@@ -1,4 +1,4 @@
-use Rattle.abi.specs.Answers.{counted}
+use Rattle.abi.specs.Answers.{countedToC}
 use borrow.Author.Needs.{needs}
 use Rattle.abi.proofs.answers.of_state.Statement.{statement}
 use Rattle.abi.proofs.answers.of_state.Tie as tie
@@ -20,11 +20,11 @@ enum-known-a-2 : tie.Need-enum-known-a-2
 enum-known-a-2 c = search needs
 
 returns : tie.Need-returns
-unfolding counted
+unfolding countedToC
 returns c = rw (c .before .before .before .a .given .1, c .uncounted .ensures, c .before .pool-reason .ensures)
 
 returns-2 : tie.Need-returns-2
-unfolding counted
+unfolding countedToC
 returns-2 c = rw (c .before .a2 .given .1)
 
 pub of-state-spec : {M : Type 1} → statement M

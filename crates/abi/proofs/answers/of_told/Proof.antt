@@ -1,4 +1,4 @@
-use Rattle.abi.specs.Answers.{told}
+use Rattle.abi.specs.Answers.{toldToC}
 use borrow.Author.Needs.{needs}
 use Rattle.abi.proofs.answers.of_told.Statement.{statement}
 use Rattle.abi.proofs.answers.of_told.Tie as tie
@@ -22,19 +22,19 @@ enum-known-a-2 : tie.Need-enum-known-a-2
 enum-known-a-2 c = search needs
 
 returns : tie.Need-returns
-unfolding told
+unfolding toldToC
 returns c = rw (c .before .before .a .given .1, c .pool-reason .ensures)
 
 returns-2 : tie.Need-returns-2
-unfolding told
+unfolding toldToC
 returns-2 c = rw (c .enum-told .given .1)
 
 returns-3 : tie.Need-returns-3
-unfolding told
+unfolding toldToC
 returns-3 c = rw (c .enum-told2 .given .1)
 
 returns-4 : tie.Need-returns-4
-unfolding told
+unfolding toldToC
 returns-4 c = rw (c .before .a2 .given .1)
 
 pub of-told-spec : {M : Type 1} → statement M

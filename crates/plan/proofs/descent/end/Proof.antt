@@ -1,4 +1,4 @@
-use Rattle.plan.proofs.Ways.{track-at, track-stopped, end-kept}
+use Rattle.plan.proofs.Ways.{descending-going, descending-stopped, end-kept}
 use Rattle.plan.specs.Descend.{endOf, stopAt}
 use mathlib.Core.Path.{sym, _∙_}
 use borrow.Author.Needs.{needs}
@@ -27,10 +27,10 @@ enum-known-s-2 c = search needs
 
 returns : tie.Need-returns
 unfolding endOf stopAt
-returns c = λ o u e. let k = track-at _ o _ _ (sym (c .before .before .before .before .s .given .1) ∙ e) in rw (k, c .framed .ensures, c .before .decode .ensures, c .before .before .index .ensures .0 (rw k at u))
+returns c = λ o u e. let k = descending-going _ o _ _ (sym (c .before .before .before .before .s .given .1) ∙ e) in rw (k, c .framed .ensures, c .before .decode .ensures, c .before .before .index .ensures .0 (rw k at u))
 
 returns-2 : tie.Need-returns-2
-returns-2 c = λ o u e. let k = track-stopped _ o _ (sym (c .before .s2 .given .1) ∙ e) in end-kept _ o _ k
+returns-2 c = λ o u e. let k = descending-stopped _ o _ (sym (c .before .s2 .given .1) ∙ e) in end-kept _ o _ k
 
 pub end-spec : {M : Type 1} → statement M
 end-spec =

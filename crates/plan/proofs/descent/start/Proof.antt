@@ -1,4 +1,4 @@
-use Rattle.plan.specs.Descend.{trackOf}
+use Rattle.plan.specs.Descend.{descendingOf}
 use mathlib.Core.Path.{refl}
 use Rattle.plan.proofs.descent.start.Statement.{statement}
 use Rattle.plan.proofs.descent.start.Tie as tie
@@ -6,7 +6,7 @@ use Rattle.plan.proofs.descent.start.Reads as reads
 use Rattle.plan.proofs.descent.start.Lts as lts
 
 returns : tie.Need-returns
-unfolding trackOf
+unfolding descendingOf
 returns c = λ va. refl
 
 pub start-spec : {M : Type 1} → statement M

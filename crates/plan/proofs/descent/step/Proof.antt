@@ -1,5 +1,5 @@
-use Rattle.plan.proofs.Ways.{track-at, track-stopped, step-kept}
-use Rattle.plan.specs.Descend.{stepOf}
+use Rattle.plan.proofs.Ways.{descending-going, descending-stopped, step-kept}
+use Rattle.plan.specs.Descend.{stepDownOf}
 use mathlib.Core.Path.{sym, _∙_}
 use borrow.Author.Needs.{needs}
 use Rattle.plan.proofs.descent.step.Statement.{statement}
@@ -18,11 +18,11 @@ enum-known-s-2 : tie.Need-enum-known-s-2
 enum-known-s-2 c = search needs
 
 returns : tie.Need-returns
-unfolding stepOf
-returns c = λ o e. let k = track-at _ o _ _ (sym (c .before .before .s .given .1) ∙ e) in rw k (c .arrive .ensures)
+unfolding stepDownOf
+returns c = λ o e. let k = descending-going _ o _ _ (sym (c .before .before .s .given .1) ∙ e) in rw k (c .arrive .ensures)
 
 returns-2 : tie.Need-returns-2
-returns-2 c = λ o e. let k = track-stopped _ o _ (sym (c .before .s2 .given .1) ∙ e) in step-kept _ _ _ _ _ _ o _ k
+returns-2 c = λ o e. let k = descending-stopped _ o _ (sym (c .before .s2 .given .1) ∙ e) in step-kept _ _ _ _ _ _ o _ k
 
 pub step-spec : {M : Type 1} → statement M
 step-spec = tie.close (tie.spec enum-known-s arrive-requires enum-known-s-2 returns returns-2)

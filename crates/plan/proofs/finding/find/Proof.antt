@@ -1,6 +1,6 @@
 use Rattle.pool.proofs.Opening.{names-stands}
 use Rattle.plan.proofs.Ways.{way-paged}
-use Rattle.plan.specs.Find.{foundOf, soughtOf}
+use Rattle.plan.specs.Find.{findOf, soughtOf}
 use mathlib.Core.Path.{sym, _∙_}
 use borrow.Author.Needs.{needs}
 use Rattle.plan.proofs.finding.find.Statement.{statement}
@@ -31,15 +31,15 @@ stopped-requires : tie.Need-stopped-requires
 stopped-requires c κs = search needs
 
 returns : tie.Need-returns
-unfolding foundOf soughtOf
+unfolding findOf soughtOf
 returns c = simp (sym (c .before .before .before .before .before .before .names .ensures) ∙ c .before .before .before .before .enum-told .given .1, sym (c .before .before .before .canonical .ensures) ∙ c .before .before .if1 .taken, c .stopped .ensures _ (way-paged _ _ _ _ _) (c .before .descend .ensures))
 
 returns-2 : tie.Need-returns-2
-unfolding foundOf soughtOf
+unfolding findOf soughtOf
 returns-2 c = simp (sym (c .before .before .before .names .ensures) ∙ c .before .fit .given .1)
 
 returns-3 : tie.Need-returns-3
-unfolding foundOf soughtOf
+unfolding findOf soughtOf
 returns-3 c = simp (sym (c .before .before .before .before .names .ensures) ∙ c .before .before .enum-told .given .1, sym (c .before .canonical .ensures) ∙ c .if1 .left)
 
 pub find-spec : {M : Type 1} → statement M

@@ -1,5 +1,5 @@
 use Rattle.plan.proofs.Found.{found-at}
-use Rattle.plan.specs.Unmap.{decideOf, soughtOf}
+use Rattle.plan.specs.Unmap.{decideOf, removingOf}
 use mathlib.Core.Path.{_≡_, sym, _∙_}
 use borrow.Author.Needs.{needs}
 use Rattle.plan.proofs.unmaps.decide_unmap.Statement.{statement}
@@ -26,11 +26,11 @@ remove-requires : tie.Need-remove-requires
 remove-requires c κs = search needs
 
 returns : tie.Need-returns
-unfolding decideOf soughtOf
+unfolding decideOf removingOf
 returns c = rw (sym (c .before .before .before .find .ensures) ∙ c .before .s .given .1)
 
 returns-2 : tie.Need-returns-2
-unfolding decideOf soughtOf
+unfolding decideOf removingOf
 returns-2 c = let e = sym (c .before .before .before .before .before .before .find .ensures) ∙ c .before .before .before .before .s2 .given .1 in rw (e, c .remove .ensures, c .before .emptied .ensures (found-at _ _ _ _ _ e .index))
 
 pub decide-unmap-spec : {M : Type 1} → statement M

@@ -9,18 +9,18 @@ use Rattle.pool.proofs.changes.took.Tie as tie
 use Rattle.pool.proofs.changes.took.Reads as reads
 use Rattle.pool.proofs.changes.took.Lts as lts
 use Rattle.pool.proofs.changes.put.Reads as put-reads
-use Rattle.pool.proofs.sound.Reads as sound-reads
-use Rattle.pool.proofs.spot.Reads as spot-reads
+use Rattle.pool.proofs.adds_up.Reads as adds-up-reads
+use Rattle.pool.proofs.slot.Reads as slot-reads
 
 returns : tie.Need-returns
 unfolding tookWrites
 returns c = simp (lt-leb _ _ (c .if1 .taken)) (wrote-none _ _ _)
 
-sound-requires : tie.Need-sound-requires
-sound-requires c κs = search needs
+adds-up-requires : tie.Need-adds-up-requires
+adds-up-requires c κs = search needs
 
-spot-requires : tie.Need-spot-requires
-spot-requires c κs = search needs
+slot-requires : tie.Need-slot-requires
+slot-requires c κs = search needs
 
 put-requires : tie.Need-put-requires
 put-requires c κs = search needs
@@ -36,23 +36,23 @@ unfolding tookWrites headAt freeAt
 returns-2 c =
     simp (
       le-leb _ _ (c .before .before .before .before .before .before .before .before .before .before .before .before .before .before .if1 .left),
-      sym (c .before .before .before .before .before .before .before .before .before .before .before .before .before .sound .ensures)
+      sym (c .before .before .before .before .before .before .before .before .before .before .before .before .before .adds-up .ensures)
           ∙ c .before .before .before .before .before .before .before .before .before .before .before .before .if2 .taken,
     ) (rw
-    (← c .before .before .before .before .before .before .before .before .before .spot .ensures) (wrote-then _ _ _ _ _ _ _ _ _
+    (← c .before .before .before .before .before .before .before .before .before .slot .ensures) (wrote-then _ _ _ _ _ _ _ _ _
     (c .before .before .before .before .before .before .before .before .put .ensures) (c .before .before .put2 .ensures)))
 
 returns-3 : tie.Need-returns-3
 unfolding tookWrites
-returns-3 c = simp (le-leb _ _ (c .before .before .if1 .left), sym (c .before .sound .ensures) ∙ c .if2 .left) (wrote-none _ _ _)
+returns-3 c = simp (le-leb _ _ (c .before .before .if1 .left), sym (c .before .adds-up .ensures) ∙ c .if2 .left) (wrote-none _ _ _)
 
 pub took-spec : {M : Type 1} → statement M
 took-spec =
     tie.close
     (tie.spec
     returns
-    sound-requires
-    spot-requires
+    adds-up-requires
+    slot-requires
     put-requires
     put-requires-2
     same-length

@@ -1,5 +1,5 @@
 use Rattle.word.proofs.Budget.{wrote-then}
-use Rattle.pool.specs.Layout.{markAt}
+use Rattle.pool.specs.Layout.{signatureAt}
 use Rattle.pool.specs.Create.{bared}
 use borrow.Author.Needs.{needs}
 use Rattle.pool.proofs.making.bare.Statement.{statement}
@@ -22,7 +22,7 @@ same-length : tie.Need-same-length
 same-length c = search needs
 
 returns : tie.Need-returns
-unfolding bared markAt
+unfolding bared signatureAt
 returns c = wrote-then _ _ _ _ _ _ _ _ _ (c .before .before .before .before .before .before .before .before .put .ensures) (c .before .before .unmark .ensures)
 
 pub bare-spec : {M : Type 1} → statement M

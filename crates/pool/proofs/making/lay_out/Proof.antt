@@ -1,5 +1,5 @@
 use Rattle.word.proofs.Budget.{wrote-then}
-use Rattle.pool.specs.Layout.{markAt}
+use Rattle.pool.specs.Layout.{signatureAt}
 use Rattle.pool.specs.Create.{layOut}
 use borrow.Author.Needs.{needs}
 use Rattle.pool.proofs.making.lay_out.Statement.{statement}
@@ -41,7 +41,7 @@ same-length : tie.Need-same-length
 same-length c = search needs
 
 returns : tie.Need-returns
-unfolding layOut markAt
+unfolding layOut signatureAt
 returns c =
     rw
     (← c .before .before .before .before .before .before .before .before .before .before .before .before .before .before .before .before .before .before .before .before .before .before .before .before .before .before .book-pages .ensures)

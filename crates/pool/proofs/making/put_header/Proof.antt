@@ -1,6 +1,6 @@
 use Rattle.word.proofs.Budget.{wrote-then}
 use Rattle.pool.specs.Layout.{pagesAt, rootAt, ticketsAt, freeAt, asideAt, headerWords}
-use Rattle.pool.specs.Create.{header}
+use Rattle.pool.specs.Create.{headerWrites}
 use borrow.Author.Needs.{needs}
 use Rattle.pool.proofs.making.put_header.Statement.{statement}
 use Rattle.pool.proofs.making.put_header.Tie as tie
@@ -31,7 +31,7 @@ same-length : tie.Need-same-length
 same-length c = search needs
 
 returns : tie.Need-returns
-unfolding header pagesAt rootAt ticketsAt freeAt asideAt headerWords
+unfolding headerWrites pagesAt rootAt ticketsAt freeAt asideAt headerWords
 returns c =
     wrote-then _ _ _ _ _ _ _ _ _
     (c .before .before .before .before .before .before .before .before .before .before .before .before .before .before .before .before .before .before .before .before .before .before .put .ensures)

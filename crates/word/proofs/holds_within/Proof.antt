@@ -2,10 +2,10 @@ use mathlib.Core.Path.{sym}
 use native.Mathlib.Omega.{arith}
 use Rattle.word.proofs.Holding.{far, wraps}
 use borrow.Author.Needs.{needs}
-use Rattle.word.proofs.near.Statement.{statement}
-use Rattle.word.proofs.near.Tie as tie
-use Rattle.word.proofs.near.Reads as reads
-use Rattle.word.proofs.near.Lts as lts
+use Rattle.word.proofs.holds_within.Statement.{statement}
+use Rattle.word.proofs.holds_within.Tie as tie
+use Rattle.word.proofs.holds_within.Reads as reads
+use Rattle.word.proofs.holds_within.Lts as lts
 use Rattle.std.proofs.num.wrapping_sub_u64.Reads as wrapping-sub-u64-reads
 
 returns : tie.Need-returns
@@ -20,5 +20,5 @@ wrapping-sub-u64-requires c κs = search needs
 returns-2 : tie.Need-returns-2
 returns-2 c = λ s a b d. wraps s _ _ _ _ a (c .before .if1 .left) d (omega arith) (c .wrapping-sub-u64 .ensures) b
 
-pub near-spec : {M : Type 1} → statement M
-near-spec = tie.close (tie.spec returns mul-wrapping-sub-u64 wrapping-sub-u64-requires returns-2)
+pub holds-within-spec : {M : Type 1} → statement M
+holds-within-spec = tie.close (tie.spec returns mul-wrapping-sub-u64 wrapping-sub-u64-requires returns-2)

@@ -2,10 +2,10 @@ use mathlib.Core.Path.{sym}
 use native.Mathlib.Omega.{arith}
 use Rattle.pool.proofs.Counts.{unsound, sound-last}
 use borrow.Author.Needs.{needs}
-use Rattle.pool.proofs.sound.Statement.{statement}
-use Rattle.pool.proofs.sound.Tie as tie
-use Rattle.pool.proofs.sound.Reads as reads
-use Rattle.pool.proofs.sound.Lts as lts
+use Rattle.pool.proofs.adds_up.Statement.{statement}
+use Rattle.pool.proofs.adds_up.Tie as tie
+use Rattle.pool.proofs.adds_up.Reads as reads
+use Rattle.pool.proofs.adds_up.Lts as lts
 use Rattle.pool.proofs.book_pages.Reads as book-pages-reads
 
 returns : tie.Need-returns
@@ -43,8 +43,8 @@ returns-6 c =
       c .before .before .before .before .before .before .before .book-pages .ensures,
     ))
 
-pub sound-spec : {M : Type 1} → statement M
-sound-spec =
+pub adds-up-spec : {M : Type 1} → statement M
+adds-up-spec =
     tie.close
     (tie.spec
     returns

@@ -2,10 +2,10 @@ use mathlib.Core.Path.{sym}
 use native.Mathlib.Omega.{arith}
 use Rattle.pool.proofs.Counts.{in-pool, not-in-pool}
 use borrow.Author.Needs.{needs}
-use Rattle.pool.proofs.bounds.among.Statement.{statement}
-use Rattle.pool.proofs.bounds.among.Tie as tie
-use Rattle.pool.proofs.bounds.among.Reads as reads
-use Rattle.pool.proofs.bounds.among.Lts as lts
+use Rattle.pool.proofs.bounds.in_pool_by_three.Statement.{statement}
+use Rattle.pool.proofs.bounds.in_pool_by_three.Tie as tie
+use Rattle.pool.proofs.bounds.in_pool_by_three.Reads as reads
+use Rattle.pool.proofs.bounds.in_pool_by_three.Lts as lts
 use Rattle.pool.proofs.book_pages.Reads as book-pages-reads
 
 returns : tie.Need-returns
@@ -23,5 +23,5 @@ returns-3 c = sym (not-in-pool _ _ (λ s. omega (arith, s .before-end, c .if3 .t
 returns-4 : tie.Need-returns-4
 returns-4 c = sym (in-pool _ _ (record { behind = omega (arith, c .before .before .if2 .left, c .before .before .before .before .before .if1 .left, c .before .before .before .book-pages .ensures); before-end = omega (arith, c .if3 .left) }))
 
-pub among-spec : {M : Type 1} → statement M
-among-spec = tie.close (tie.spec returns book-pages-requires returns-2 returns-3 returns-4)
+pub in-pool-by-three-spec : {M : Type 1} → statement M
+in-pool-by-three-spec = tie.close (tie.spec returns book-pages-requires returns-2 returns-3 returns-4)

@@ -2,10 +2,10 @@ use mathlib.Core.Path.{sym, _∙_}
 use native.Mathlib.Omega.{arith}
 use Rattle.pool.proofs.Counts.{InPool, in-pool, not-in-pool}
 use borrow.Author.Needs.{needs}
-use Rattle.pool.proofs.bounds.lies.Statement.{statement}
-use Rattle.pool.proofs.bounds.lies.Tie as tie
-use Rattle.pool.proofs.bounds.lies.Reads as reads
-use Rattle.pool.proofs.bounds.lies.Lts as lts
+use Rattle.pool.proofs.bounds.in_pool_by_one.Statement.{statement}
+use Rattle.pool.proofs.bounds.in_pool_by_one.Tie as tie
+use Rattle.pool.proofs.bounds.in_pool_by_one.Reads as reads
+use Rattle.pool.proofs.bounds.in_pool_by_one.Lts as lts
 use Rattle.pool.proofs.bounds.book_of.Reads as book-of-reads
 use Rattle.std.proofs.num.wrapping_sub_u64.Reads as wrapping-sub-u64-reads
 
@@ -45,8 +45,8 @@ returns c =
 returns-2 : tie.Need-returns-2
 returns-2 c = sym (not-in-pool _ _ (λ k. omega (arith, c .before .before .wrapping-sub-u64 .ensures, c .before .before .before .before .book-of .ensures, c .before .before .before .before .before .pre .low, c .before .before .before .before .before .pre .small, c .before .before .before .before .before .pre .enough, k .behind, k .before-end)))
 
-pub lies-spec : {M : Type 1} → statement M
-lies-spec =
+pub in-pool-by-one-spec : {M : Type 1} → statement M
+in-pool-by-one-spec =
     tie.close
     (tie.spec
     book-of-requires
