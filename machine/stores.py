@@ -52,8 +52,8 @@ class Night:
         top = dice.choice((0, 0, 1, 255, 256, 511))
         va = (top << 39 | dice.choice((0, 1, 511)) << 30 | dice.choice((0, 7, 511)) << 21 | dice.choice((0, 3, 511)) << 12) & -size
         odd = dice.random()
-        high = 0xffff << 48 if top >= 256 and odd > 0.05 else 0
-        return (va | high) ^ (1 << dice.randrange(47, 64) if odd > 0.95 else 0)
+        high = 0xffff << 48 if top >= 256 and odd > 0.08 else 0
+        return (va | high) ^ (1 << dice.randrange(47, 64) if odd > 0.92 else 0)
 
     def choose(self):
         dice = self.dice
@@ -65,6 +65,8 @@ class Night:
         if kind == 'tp_raw_told':
             return kind, (dice.randrange(self.tickets + len(self.aside) + 2),)
         base = dice.choice(self.mapped) if self.mapped and dice.random() < 0.9 else self.base(4096)
+        if dice.random() < 0.05:
+            base ^= 1 << dice.randrange(47, 64)
         return (kind, (base,)) if kind == 'tp_raw_unmap' else (kind, (base, dice.randrange(9)))
 
     def mark(self):
@@ -208,7 +210,7 @@ def main():
         print(f'operation {done}: {wrong}')
         print(f'{done} passed, 1 failed')
         return 1
-    if refused < operations // 40:
+    if refused < operations // 50:
         print(f'only {refused} bases were no addresses')
         print(f'{done} passed, 1 failed')
         return 1
