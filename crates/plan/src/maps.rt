@@ -98,10 +98,10 @@ pub fn fits(n: u64, size: u64, base: u64, frame: u64) -> Shape
     ensures { λ r. ⌜ r ≡ the.fitsOf n size base frame ⌝ }
 {
     let on = std::num::wrapping_add_u64(base, walk::HALF);
-    if on % size == 0 {
-        if on < 2 * walk::HALF {
-            if frame % size == 0 {
-                if frame < entry::FRAME_END {
+    if frame % size == 0 {
+        if frame < entry::FRAME_END {
+            if on % size == 0 {
+                if on < 2 * walk::HALF {
                     return Shape::Level(n);
                 }
             }

@@ -16,15 +16,20 @@ wrapping-add-u64-requires c κs = search needs
 rem-if1 : tie.Need-rem-if1
 rem-if1 c = omega (arith, size-small _ _ (c .before .pre .0) (c .before .pre .1) .0)
 
-mul-if2 : tie.Need-mul-if2
-mul-if2 c = search needs
-
 rem-if3 : tie.Need-rem-if3
 rem-if3 c = omega (arith, size-small _ _ (c .before .before .before .pre .0) (c .before .before .before .pre .1) .0)
 
+mul-if4 : tie.Need-mul-if4
+mul-if4 c = search needs
+
 returns : tie.Need-returns
 unfolding fitsOf
-returns c = simp (eq-eqb _ _ (on-aligned _ _ _ _ (c .before .before .before .before .before .pre .0) (c .before .before .before .before .before .pre .1) (c .before .before .before .before .before .fits .base .fits) (c .before .before .before .before .wrapping-add-u64 .ensures) (c .before .before .before .if1 .taken)), eq-eqb _ _ (c .before .if3 .taken), on-address _ _ (c .before .before .before .before .before .fits .base .fits) (c .before .before .before .before .wrapping-add-u64 .ensures) (c .before .before .if2 .taken), le-leb _ _ (frame-ends _ _ _ (c .before .before .before .before .before .pre .0) (c .before .before .before .before .before .pre .1) (c .before .if3 .taken) (c .if4 .taken)))
+returns c =
+    let small = c .before .before .before .before .before .pre in
+    let on = c .before .before .before .before .wrapping-add-u64 .ensures in
+    let address = c .before .before .before .before .before .fits .base .fits in
+    let aligned = c .before .before .before .if1 .taken in
+    simp (eq-eqb _ _ (on-aligned _ _ _ _ (small .0) (small .1) address on (c .before .if3 .taken)), eq-eqb _ _ aligned, on-address _ _ address on (c .if4 .taken), le-leb _ _ (frame-ends _ _ _ (small .0) (small .1) aligned (c .before .before .if2 .taken)))
 
 tested-requires : tie.Need-tested-requires
 tested-requires c κs = size-small _ _ (c .before .before .pre .0) (c .before .before .pre .1)
@@ -35,4 +40,4 @@ returns-2 c = search needs
 pub fits-spec : {M : Type 1} → statement M
 fits-spec =
     tie.close
-    (tie.spec wrapping-add-u64-requires rem-if1 mul-if2 rem-if3 returns tested-requires returns-2)
+    (tie.spec wrapping-add-u64-requires rem-if1 rem-if3 mul-if4 returns tested-requires returns-2)
