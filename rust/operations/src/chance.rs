@@ -217,7 +217,12 @@ impl Scene {
             let size = self.random.pick(&SIZES);
             return self.base(hints, size);
         }
-        self.random.pick(&hints.pages).0
+        let base = self.random.pick(&hints.pages).0;
+        // Of the hole, and by its low bits a page's.
+        if self.random.chance(1, 32) {
+            return base ^ 1 << (47 + self.random.below(17));
+        }
+        base
     }
 
     fn ticket(&mut self, hints: &Hints) -> u64 {

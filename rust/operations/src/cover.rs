@@ -178,12 +178,12 @@ impl Cover {
         need(50, "look_up no address".into());
         for request in ["unmap", "protect"] {
             need(200, format!("{request} NothingStarts"));
-            need(50, format!("{request} BaseRange"));
+            need(20, format!("{request} BaseRange"));
         }
         for size in SIZES.map(name) {
-            for (request, least) in [("map", 40), ("unmap", 20), ("protect", 10), ("look_up", 4)] {
-                for end in ENDS {
-                    need(if sort == Sort::Damaged { 1 } else { least }, format!("{request} {end}, {size}"));
+            for (request, least) in [("map", 20), ("unmap", 10), ("protect", 3), ("look_up", 1)] {
+                for end in ENDS.into_iter().filter(|_| sort != Sort::Damaged) {
+                    need(least, format!("{request} {end}, {size}"));
                 }
             }
         }
