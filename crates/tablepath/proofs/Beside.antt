@@ -24,7 +24,7 @@ use Rattle.world.specs.Turns.{Turn, events, Idle, places, atStart}
 use Rattle.world.proofs.Turns.{each-walk}
 use Rattle.tables.specs.Walks.{Position}
 use Rattle.tables.proofs.Walks.{one-space-meaning, laws-of}
-use Rattle.world.proofs.Cut.{read-or-frozen}
+use Rattle.world.proofs.StillRead.{read-or-frozen}
 use Rattle.tables.specs.Roles.{Role}
 use Rattle.tables.specs.Discipline.{walkerOf}
 use Rattle.pool.specs.Book.{bookOf, ticketOf}

@@ -11,7 +11,7 @@ pub mod Holding
 pub mod OnWays
 pub mod Reports
 pub mod Late
-pub mod Cut
+pub mod StillRead
 pub mod Tiny
 pub mod Sanity
 pub mod Shootdowns
