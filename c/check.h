@@ -27,6 +27,16 @@ static void say_number(unsigned n) {
     say(at);
 }
 
+static inline void copy_bytes(uint8_t *to, const uint8_t *from, size_t size) {
+    for (size_t i = 0; i < size; i++) to[i] = from[i];
+}
+
+static inline int same_bytes(const uint8_t *a, const uint8_t *b, size_t size) {
+    for (size_t i = 0; i < size; i++)
+        if (a[i] != b[i]) return 0;
+    return 1;
+}
+
 static void check(const char *what, int holds) {
     if (holds) {
         passed++;

@@ -50,15 +50,9 @@ static void check_edges(uint64_t base, uint64_t size, uint64_t rights) {
     }
 }
 
-static void remember(void) {
-    for (size_t i = 0; i < sizeof mem; i++) before[i] = mem[i];
-}
+static void remember(void) { copy_bytes(before, mem, sizeof mem); }
 
-static int unchanged(void) {
-    for (size_t i = 0; i < sizeof mem; i++)
-        if (before[i] != mem[i]) return 0;
-    return 1;
-}
+static int unchanged(void) { return same_bytes(before, mem, sizeof mem); }
 
 /* no address: look-up says so, and no operation takes it as a base, of whatever size */
 static void check_none(uint64_t base) {

@@ -12,15 +12,9 @@ static uint8_t before[sizeof mem];
 
 static struct tp_space space = {mem, sizeof mem, ORIGIN, ORIGIN, PAGES, 0};
 
-static void remember(void) {
-    for (size_t i = 0; i < sizeof mem; i++) before[i] = mem[i];
-}
+static void remember(void) { copy_bytes(before, mem, sizeof mem); }
 
-static int unchanged(void) {
-    for (size_t i = 0; i < sizeof mem; i++)
-        if (before[i] != mem[i]) return 0;
-    return 1;
-}
+static int unchanged(void) { return same_bytes(before, mem, sizeof mem); }
 
 static void check_found(const char *what, struct tp_found f, uint64_t base, uint64_t size, uint64_t frame, uint64_t rights) {
     check(what, f.kind == TP_PAGE && f.base == base && f.size == size && f.frame == frame && f.rights == rights);
