@@ -10,7 +10,7 @@ use lib.Dec.{leb, ltb}
 use lib.ListN.{length}
 use Rattle.word.specs.Bytes.{putWord}
 use Rattle.word.specs.Writes.{write}
-use Rattle.word.specs.Memory.{at, memory, holds, written}
+use Rattle.word.specs.Memory.{at, memory, holds, readOf, written}
 use Rattle.word.specs.Runs.{spansOf, isAmong, amongOf, amongWrites}
 use Rattle.word.specs.declared.Cell.the-variants.{Word, Outside}
 use Rattle.word.proofs.Tests.{and-both}
@@ -128,6 +128,14 @@ module _ (s : List ℕ) (origin first pages : ℕ) where
     unfolding amongWrites
     none-among w e = simp e
 
+    -- another entry of that page, in a window of the same length
+    pub among-again : (t : List ℕ) (j : ℕ) → length t ≡ length s → j < 512 → isAmong s origin first kept pages p i ≡ true → isAmong t origin first kept pages p j ≡ true
+    unfolding isAmong spansOf
+    among-again t j l u e =
+        let a = is-among e in
+        let r = a .run in
+        rw l (simp (le-leb (first + pages) (2 ^ 40) (r .end), le-leb origin (4096 * first) (r .from), le-leb (4096 * (first + pages)) (origin + length s) (r .upto), lt-ltb j 512 u, le-leb (first + kept) p (a .behind), lt-ltb p (first + pages) (a .before-end)))
+
     -- what it answered
     pub word-among : (w : ℕ) → amongOf s origin first kept pages p i ≡ Word w → InRun × (memory s origin (at p i) ≡ w)
     unfolding amongOf
@@ -136,6 +144,11 @@ module _ (s : List ℕ) (origin first pages : ℕ) where
         go : (t : Bool) → isAmong s origin first kept pages p i ≡ t → cond t (Word (memory s origin (at p i))) Outside ≡ Word w → InRun × (memory s origin (at p i) ≡ w)
         go true h x = (is-among h, cc)
         go false h x = let z : _≡_ {A = ℕ} 0 1 = cc in absurd (omega arith)
+
+    -- what is read there is what is read by any way
+    pub among-read : (w : ℕ) → amongOf s origin first kept pages p i ≡ Word w → Word w ≡ readOf s origin p i
+    unfolding readOf
+    among-read w e = let k = word-among w e in simp (lt-ltb i 512 (k .0 .small), among-holds (k .0), k .1)
 
     pub outside-among : amongOf s origin first kept pages p i ≡ Outside → InRun → ⊥
     outside-among e a = let x = among-word a ∙ e in let z : _≡_ {A = ℕ} 0 1 = cc x in absurd (omega arith)

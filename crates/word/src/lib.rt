@@ -12,9 +12,12 @@ ghost use Rattle.word.specs.Writes.{Wrote, write, zeros, endless};
 mod run;
 mod scan;
 
+pub use run::clear_among;
 pub use run::read_among;
+pub use run::read_by_run;
 pub use run::spans;
 pub use run::write_among;
+pub use run::write_by_run;
 pub use scan::besides;
 
 // No budget: all writes are done.
