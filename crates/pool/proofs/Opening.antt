@@ -1,7 +1,7 @@
 -- Reading a book: by what was read, and what an opened book shows.
 use Prim.Native.Nat.{ℕ, _+_, _-_, _/_, _%_, _^_, _<_, _≤_}
 use mathlib.Core.Bool.{Bool, true, false, cond, _&&_}
-use mathlib.Core.List.{List}
+use mathlib.Core.List.{List, [], _∷_}
 use mathlib.Core.Path.{_≡_, refl, sym, ap, _∙_, subst}
 use native.Mathlib.Omega.{arith}
 use lib.Dec.{leb, eqb}
@@ -9,8 +9,9 @@ use Rattle.word.specs.Memory.{memory, holds, readOf}
 use Rattle.word.specs.declared.Cell.{Cell}
 use Rattle.word.specs.declared.Cell.the-variants as cell
 use Rattle.word.proofs.Memory.{read-word, read-outside, held}
-use Rattle.word.specs.Runs.{amongOf}
-use Rattle.word.proofs.Runs.{Run, InRun, spans-run, spans-ends, run-holds, word-among, outside-among}
+use Rattle.word.specs.Runs.{isAmong, amongOf}
+use Rattle.word.specs.Writes.{write}
+use Rattle.word.proofs.Runs.{Run, InRun, spans-run, spans-ends, run-holds, among-is, one-among, word-among, outside-among}
 use Rattle.word.proofs.Tests.{and-both}
 use Rattle.pool.specs.declared.Space.{Space}
 use Rattle.pool.specs.declared.Fit.{Fit}
@@ -20,7 +21,7 @@ use Rattle.pool.specs.declared.Listed.the-variants.{Bad}
 use Rattle.pool.specs.Layout.{signatureAt, pagesAt, rootAt, headAt, freeAt, asideAt, ticketsAt, bookPages}
 use Rattle.pool.specs.Book.{wordOf, signature, bookOf, roomOf, inPool, addsUpOf, AddsUp, headedOf, rootedIn, namesOf, namesIn, openedOf, openedIn, countsOf, namedOf, usableOf}
 use Rattle.pool.specs.State.{wordIn, wordNow, bookNow}
-use Rattle.pool.specs.Stands.{standsOf}
+use Rattle.pool.specs.Stands.{standsOf, entryWrites}
 use Rattle.pool.specs.Create.{mayCreate, newSpace, Roomy}
 use Rattle.pool.proofs.Far.{word-at}
 use borrow.Author.Tests.{leb-true, le-leb, eqb-true, eq-eqb}
@@ -158,6 +159,24 @@ module _ (h : ℕ → Bool) (m : ℕ → ℕ) (sp : Space) where
   pub names-stands : namesOf h m sp ≡ fit.Fits → standsOf h sp ≡ fit.Fits
   unfolding standsOf rootedIn
   names-stands e = rw (names-room e, in-pool sp (sp .root) (names-shows e .inside))
+
+-- A SPACE THAT MAKES SENSE lies in the window
+module _ (s : List ℕ) (sp : Space) (e : standsOf (holds s (sp .origin)) sp ≡ fit.Fits) where
+  pub stands-fit : Fitting (holds s (sp .origin)) (sp .first) (sp .pages)
+  unfolding standsOf
+  stands-fit = fitting (holds s (sp .origin)) (sp .first) (sp .pages) (root-yes sp (roomOf (holds s (sp .origin)) (sp .first) (sp .pages)) e .0)
+
+  module _ (p i : ℕ) (here : inPool sp p ≡ true) (u : i < 512) where
+    -- an entry of a page of its pool is one of a run
+    pub stands-among : isAmong s (sp .origin) (sp .first) (bookPages (sp .pages)) (sp .pages) p i ≡ true
+    stands-among =
+        let k = pool-in sp p here in
+        among-is _ _ _ _ _ _ _ (record { run = fit-runs _ _ _ _ stands-fit; small = u; behind = k .behind; before-end = k .before-end })
+
+    -- and setting it is one write
+    pub entry-one : (w : ℕ) → entryWrites s sp p i w ≡ write p i w ∷ []
+    unfolding entryWrites
+    entry-one w = simp (le-leb _ _ (stands-fit .small)) (one-among _ _ _ _ _ _ _ w stands-among)
 
 -- WHAT AN OPENED BOOK SHOWS, for any bytes
 pub record Open (h : ℕ → Bool) (m : ℕ → ℕ) (sp : Space) (b : Book) : Type 0 where

@@ -1,7 +1,10 @@
 // Where a pool lies, by as few comparisons as it takes: every operation asks for it.
+ghost use mathlib.Core.Bool.{true};
 ghost use mathlib.Core.Path.{_≡_};
 ghost use Prim.Native.Nat.{_+_, _-_, _^_, _<_, _≤_};
-ghost use Rattle.word.specs.Writes.{Wrote};
+ghost use Rattle.word.specs.Memory.{holds};
+ghost use Rattle.word.specs.Writes.{Wrote, zeros};
+ghost use Rattle.pool.specs.declared.Fit.the-variants.{Fits};
 ghost use Rattle.pool.specs.Book as the;
 ghost use Rattle.pool.specs.Layout.{bookPages};
 ghost use Rattle.pool.specs.Stands as stand;
@@ -16,6 +19,14 @@ pub fn book_of(pages: u64) -> u64
     ensures { λ r. ⌜ r ≡ bookPages pages ⌝ }
 {
     (HEADER + 2 * pages + 511) / 512
+}
+
+// The same by half of what is divided: two forms, so that the compiler keeps neither number for the other's sake.
+pub fn book_by_half(pages: u64) -> u64
+    requires { ⌜ pages ≤ 2 ^ 32 ⌝ }
+    ensures { λ r. ⌜ r ≡ bookPages pages ⌝ }
+{
+    (HEADER / 2 + pages + 255) / 256
 }
 
 // By one comparison, where the pool's numbers are those of one in a window.
@@ -100,5 +111,23 @@ pub fn set_entry(mem: &mut [u8], left: &mut u64, sp: Space, p: u64, i: u64, w: u
         p,
         i,
         w,
+    );
+}
+
+// Clears page p, where the pool lies in the window and p is a page of it, and not the book's.
+pub fn clear_page(mem: &mut [u8], left: &mut u64, sp: Space, p: u64)
+    ensures { λ _. ⌜ (stand.standsOf (holds (now (mem .entry)) (sp .origin)) sp ≡ Fits → the.inPool sp p ≡ true → Wrote (sp .origin) (zeros p 512) (now (left .entry)) (now (left .exit)) (now (mem .entry)) (now (mem .exit))) ⌝ }
+{
+    if 4294967296 < sp.pages {
+        return;
+    }
+    word::clear_among(
+        mem,
+        left,
+        sp.origin,
+        sp.first,
+        book_of(sp.pages),
+        sp.pages,
+        p,
     );
 }

@@ -23,7 +23,16 @@ pub fn put(mem: &mut [u8], left: &mut u64, space: Space, k: u64, w: u64)
         word::write(mem, left, space.origin, word::PAGE_COUNT, k % 512, w);
         return;
     }
-    word::write(mem, left, space.origin, space.first + k / 512, k % 512, w)
+    word::write_by_run(
+        mem,
+        left,
+        space.origin,
+        space.first,
+        space.pages,
+        space.first + k / 512,
+        k % 512,
+        w,
+    )
 }
 
 // The k oldest free pages were taken.

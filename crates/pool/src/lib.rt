@@ -16,7 +16,9 @@ mod layout;
 mod making;
 mod moment;
 
+use bounds::book_by_half;
 use bounds::book_of;
+pub use bounds::clear_page;
 pub use bounds::entry;
 pub use bounds::in_pool;
 pub use bounds::set_entry;
@@ -138,7 +140,7 @@ fn adds_up(pages: u64, b: Book) -> bool
     if pages <= b.head {
         return false;
     }
-    let used = book_pages(pages);
+    let used = book_by_half(pages);
     if pages <= used {
         return false;
     }
@@ -172,7 +174,14 @@ fn named(mem: &[u8], space: Space, k: u64) -> Listed
     if word::PAGE_COUNT <= space.first {
         return Listed::Bad;
     }
-    let c = word::read(mem, space.origin, space.first + k / 512, k % 512);
+    let c = word::read_by_run(
+        mem,
+        space.origin,
+        space.first,
+        space.pages,
+        space.first + k / 512,
+        k % 512,
+    );
     match c {
         Cell::Word(p) => usable(space, p),
         Cell::Outside => Listed::Bad,
