@@ -4,18 +4,23 @@ use mathlib.Core.Bool.{Bool, true, false, cond}
 use mathlib.Core.List.{List, [], _∷_, _++_}
 use mathlib.Core.Path.{_≡_, refl, sym, ap, _∙_, subst}
 use native.Mathlib.Omega.{arith}
-use borrow.Author.Tests.{le-leb}
+use borrow.Author.Tests.{le-leb, leb-true, leb-false}
 use lib.Dec.{leb}
-use Rattle.word.specs.Writes.{Wrote, write}
+use Rattle.word.specs.Memory.{holds}
+use Rattle.word.specs.Writes.{Write, Wrote, write, upTo}
+use Rattle.word.proofs.Writes.{holds-carried}
 use Rattle.word.proofs.Budget.{wrote-then}
 use Rattle.walk.specs.Walk.{indexOf}
 use Rattle.plan.specs.declared.maps.Mapping.{Mapping}
 use Rattle.plan.specs.declared.building.TableReached.{TableReached}
+use Rattle.pool.specs.Book.{inPool}
+use Rattle.pool.specs.Stands.{standsOf}
+use Rattle.pool.specs.declared.Fit.the-variants.{Fits}
 use Rattle.pool.specs.declared.Space.{Space}
 use Rattle.pool.specs.declared.Book.{Book}
 use Rattle.plan.specs.declared.unmaps.Removal.{Removal}
 use Rattle.plan.specs.Unmap.{cutBook, cutWrites, book1, book2, writesOf}
-use Rattle.plan.specs.Map.{nextOf, growOf, reached0, reached1, reached2, reached3, buildOf}
+use Rattle.plan.specs.Map.{nextOf, growOf, reached0, reached1, reached2, reached3, buildOf, Buildable}
 
 -- Map -------------------------------------------------------------------------------------------------------------------------
 
@@ -27,6 +32,58 @@ next-low target p s u = go (leb (s .level) target)
     go : (b : Bool) → cond b s (record { level = s .level - 1; table = p }) .level < 4
     go true = u
     go false = omega arith
+
+-- a space that makes sense does so after any writes
+pub stands-wrote : (sp : Space) (xs : List Write) (l r : ℕ) (s t : List ℕ) → Wrote (sp .origin) xs l r s t → standsOf (holds s (sp .origin)) sp ≡ Fits
+    → standsOf (holds t (sp .origin)) sp ≡ Fits
+stands-wrote sp xs l r s t f e = rw (f .bytes, holds-carried s (sp .origin) (upTo l xs)) e
+
+-- a way that has gone on has come to a page of the pool, and has fewer levels to go
+module _ (sp : Space) (target p : ℕ) (s : TableReached) where
+  next-in : inPool sp (s .table) ≡ true → (target < s .level → inPool sp p ≡ true) → inPool sp (nextOf target p s .table) ≡ true
+  unfolding nextOf
+  next-in t k = go (leb (s .level) target) refl
+    where
+      go : (b : Bool) → leb (s .level) target ≡ b → inPool sp (cond b s (record { level = s .level - 1; table = p }) .table) ≡ true
+      go true e = t
+      go false e = k (leb-false (s .level) target e)
+
+  next-less : (n : ℕ) → target ≤ n → n < nextOf target p s .level → n + 1 < s .level
+  unfolding nextOf
+  next-less n v = go (leb (s .level) target) refl
+    where
+      go : (b : Bool) → leb (s .level) target ≡ b → n < cond b s (record { level = s .level - 1; table = p }) .level → n + 1 < s .level
+      go true e u = absurd (omega (arith, u, v, leb-true (s .level) target e))
+      go false e u = omega (arith, u)
+
+-- where what is built is the pool's, so is each table that the way comes to, and each page that it grows by
+module _ (sp : Space) (m : Mapping) (k : Buildable sp m) where
+  first-in : inPool sp (reached1 m .table) ≡ true
+  first-in = next-in sp (m .target) (m .fresh .a) (reached0 m) (k .table) (k .a)
+
+  b-in : m .target < reached1 m .level → inPool sp (m .fresh .b) ≡ true
+  b-in u = k .b (next-less sp (m .target) (m .fresh .a) (reached0 m) (m .target) (omega arith) u)
+
+  second-in : inPool sp (reached2 m .table) ≡ true
+  second-in = next-in sp (m .target) (m .fresh .b) (reached1 m) first-in b-in
+
+  c-in : m .target < reached2 m .level → inPool sp (m .fresh .c) ≡ true
+  c-in u =
+      let v = next-less sp (m .target) (m .fresh .b) (reached1 m) (m .target) (omega arith) u in
+      k .c (omega (arith, next-less sp (m .target) (m .fresh .a) (reached0 m) (m .target + 1) (omega arith) v))
+
+  pub second-grows : (s : TableReached) → s ≡ reached1 m → m .target < s .level → (inPool sp (m .fresh .b) ≡ true) × (inPool sp (s .table) ≡ true)
+  second-grows s e u = (b-in (rw e at u), rw e first-in)
+
+  pub third-grows : (s : TableReached) → s ≡ reached2 m → m .target < s .level → (inPool sp (m .fresh .c) ≡ true) × (inPool sp (s .table) ≡ true)
+  third-grows s e u = (c-in (rw e at u), rw e second-in)
+
+  pub last-in : (s : TableReached) → s ≡ reached3 m → inPool sp (s .table) ≡ true
+  last-in s e = rw e (next-in sp (m .target) (m .fresh .c) (reached2 m) second-in c-in)
+
+  pub last-low : (s : TableReached) → s ≡ reached3 m → s .level < 4
+  last-low s e =
+      rw e (next-low (m .target) (m .fresh .c) (reached2 m) (next-low (m .target) (m .fresh .b) (reached1 m) (next-low (m .target) (m .fresh .a) (reached0 m) (k .level))))
 
 -- the tables and the page, as the functions of map write them
 pub build-wrote : (m : Mapping) (origin n0 n1 n2 n3 n4 : ℕ) (x0 x1 x2 x3 x4 : List ℕ) (s1 s2 s3 : TableReached) (i : ℕ) → m .level < 4

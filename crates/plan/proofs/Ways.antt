@@ -97,6 +97,48 @@ pub way-paged : (h : ℕ → Bool) (m : ℕ → ℕ) (sp : Space) (va target : �
 unfolding wayOf
 way-paged h m sp va target = end-known (downOf h m sp target va 4 (Going (sp .root) noWay)) (down-known h m sp target va 4 (Going (sp .root) noWay) refl)
 
+-- The table that a way stopped in is the pool's --------------------------------------------------------------------------------
+
+module _ (h : ℕ → Bool) (m : ℕ → ℕ) (sp : Space) (target va : ℕ) where
+  abbrev Inside : Descent → Type 0
+  Inside (Going t w) = w .why ≡ why.Stray
+  Inside (Stopped w) = w .why ≡ why.Nothing → inPool sp (w .a) ≡ true
+
+  told-inside : (n x : ℕ) (w : Way) (e : Entry) → inPool sp (w .a) ≡ true → w .why ≡ why.Stray → Inside (atEntryOf target n x w e)
+  unfolding atEntryOf stopOf
+  told-inside n x w entry.Nothing i s = λ _. i
+  told-inside n x w (entry.Page f g) i s = λ _. i
+  told-inside n x w (entry.Table t g) i s = go (eqb n target)
+    where
+      go : (b : Bool) → Inside (cond b (stopOf why.Table n x w) (Going t w))
+      go true = λ _. i
+      go false = s
+
+  step-inside : (n : ℕ) (s : Descent) → Inside s → Inside (stepDownOf h m sp target va n s)
+  unfolding stepDownOf arriveOf stopOf pushOf
+  step-inside n (Stopped w) k = k
+  step-inside n (Going t w) k = go (inPool sp t) (h t) refl
+    where
+      go : (a b : Bool) → inPool sp t ≡ a
+          → Inside (cond a (cond b (atEntryOf target n (m (entryOf n va t)) (pushOf w t) (says n (m (entryOf n va t)))) (stopOf why.Stray n 0 w)) (stopOf why.Stray n 0 w))
+      go true true i = told-inside n (m (entryOf n va t)) (pushOf w t) (says n (m (entryOf n va t))) i refl
+      go true false i = λ e. let z : _≡_ {A = ℕ} 0 1 = cc e in absurd (omega arith)
+      go false b i = λ e. let z : _≡_ {A = ℕ} 0 1 = cc e in absurd (omega arith)
+
+  down-inside : (n : ℕ) (s : Descent) → Inside s → Inside (downOf h m sp target va n s)
+  unfolding downOf
+  down-inside zero s k = k
+  down-inside (suc n) s k = down-inside n (stepDownOf h m sp target va n s) (step-inside n s k)
+
+  end-inside : (s : Descent) → Inside s → endOf s .why ≡ why.Nothing → inPool sp (endOf s .a) ≡ true
+  unfolding endOf
+  end-inside (Going t w) k e = let z : _≡_ {A = ℕ} 0 1 = cc in absurd (omega arith)
+  end-inside (Stopped w) k e = k e
+
+pub way-in : (h : ℕ → Bool) (m : ℕ → ℕ) (sp : Space) (va target : ℕ) → wayOf h m sp va target .why ≡ why.Nothing → inPool sp (wayOf h m sp va target .a) ≡ true
+unfolding wayOf
+way-in h m sp va target = end-inside h m sp target va (downOf h m sp target va 4 (Going (sp .root) noWay)) (down-inside h m sp target va 4 (Going (sp .root) noWay) refl)
+
 -- What the code keeps ----------------------------------------------------------------------------------------------------------
 
 pub nothing-framed : (n : ℕ) → framedOf (says n 0) ≡ 0

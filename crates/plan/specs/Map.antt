@@ -2,6 +2,7 @@
 use Prim.Native.Nat.{ℕ, _+_, _-_, _*_, _%_, _≤_, _<_}
 use mathlib.Core.Bool.{Bool, true, false, cond, _&&_}
 use mathlib.Core.List.{List, [], _∷_, _++_}
+use mathlib.Core.Path.{_≡_}
 use lib.Dec.{eqb, leb, ltb}
 use Rattle.word.specs.Memory.{pageCount}
 use Rattle.word.specs.Writes.{Write, write, zeros}
@@ -10,7 +11,7 @@ use Rattle.entry.specs.Words.{tableWord, madePage}
 use Rattle.entry.specs.declared.Made.{Made}
 use Rattle.entry.specs.declared.Made.the-variants as made
 use Rattle.walk.specs.Walk.{canonical, indexOf}
-use Rattle.pool.specs.Book.{namesOf, openedOf, listedOf}
+use Rattle.pool.specs.Book.{namesOf, openedOf, listedOf, inPool}
 use Rattle.pool.specs.Changes.{tookWrites}
 use Rattle.pool.specs.declared.Space.{Space}
 use Rattle.pool.specs.declared.Book.{Book}
@@ -162,10 +163,14 @@ pub record LowTables (f : NewTables) : Type 0 where
   pub b : f .b < pageCount
   pub c : f .c < pageCount
 
--- what is built: at a level, of such pages
-pub record Buildable (p : Mapping) : Type 0 where
+-- what is built: at a level, of such pages, that are the pool's, as many as there are levels down to the target
+pub record Buildable (sp : Space) (p : Mapping) : Type 0 where
   pub level : p .level < 4
   pub fresh : LowTables (p .fresh)
+  pub table : inPool sp (p .table) ≡ true
+  pub a : p .target < p .level → inPool sp (p .fresh .a) ≡ true
+  pub b : p .target + 1 < p .level → inPool sp (p .fresh .b) ≡ true
+  pub c : p .target + 2 < p .level → inPool sp (p .fresh .c) ≡ true
 
 -- The plan ---------------------------------------------------------------------------------------------------------------------------
 

@@ -1,8 +1,12 @@
 // Map: what was decided is carried out. For each missing level, from the top, a page is cleared and then linked; the page's own entry is written last.
+ghost use mathlib.Core.Bool.{true};
 ghost use mathlib.Core.Path.{_≡_};
 ghost use Prim.Native.Nat.{_<_};
 ghost use Rattle.word.specs.Memory.{pageCount, memory, holds};
 ghost use Rattle.word.specs.Writes.{Wrote};
+ghost use Rattle.pool.specs.Book.{inPool};
+ghost use Rattle.pool.specs.Stands.{standsOf};
+ghost use Rattle.pool.specs.declared.Fit.the-variants.{Fits};
 ghost use Rattle.plan.specs.Map as the;
 use crate::Reason;
 use crate::maps::Asked;
@@ -31,28 +35,28 @@ fn link(p: u64) -> u64
     4096 * p + 7
 }
 
-// Above the target page p is cleared and then linked, and the way goes on there.
+// Above the target page p is cleared and then linked, and the way goes on there. Both are pages of the pool, found by its own test.
 fn grow(
     mem: &mut [u8],
     left: &mut u64,
-    origin: u64,
+    space: Space,
     va: u64,
     target: u64,
     p: u64,
     s: TableReached,
 ) -> TableReached
-    requires { ⌜ (s .level < 4) × (p < pageCount) ⌝ }
+    requires { ⌜ ((s .level < 4) × (p < pageCount)) × ((standsOf (holds (now mem) (space .origin)) space ≡ Fits) × (target < s .level → (inPool space p ≡ true) × (inPool space (s .table) ≡ true))) ⌝ }
     ensures { λ r. ⌜ r ≡ the.nextOf target p s ⌝ }
-    ensures { λ _. ⌜ Wrote origin (the.growOf va target p s) (now (left .entry)) (now (left .exit)) (now (mem .entry)) (now (mem .exit)) ⌝ }
+    ensures { λ _. ⌜ Wrote (space .origin) (the.growOf va target p s) (now (left .entry)) (now (left .exit)) (now (mem .entry)) (now (mem .exit)) ⌝ }
 {
     if s.level <= target {
         return s;
     }
-    word::clear(mem, left, origin, p);
-    word::write(
+    pool::clear_page(mem, left, space, p);
+    pool::set_entry(
         mem,
         left,
-        origin,
+        space,
         s.table,
         walk::index(s.level, va),
         link(p),
@@ -63,22 +67,22 @@ fn grow(
     }
 }
 
-fn build(mem: &mut [u8], left: &mut u64, origin: u64, m: Mapping)
-    requires { ⌜ the.Buildable m ⌝ }
-    ensures { λ _. ⌜ Wrote origin (the.buildOf m) (now (left .entry)) (now (left .exit)) (now (mem .entry)) (now (mem .exit)) ⌝ }
+fn build(mem: &mut [u8], left: &mut u64, space: Space, m: Mapping)
+    requires { ⌜ the.Buildable space m × (standsOf (holds (now mem) (space .origin)) space ≡ Fits) ⌝ }
+    ensures { λ _. ⌜ Wrote (space .origin) (the.buildOf m) (now (left .entry)) (now (left .exit)) (now (mem .entry)) (now (mem .exit)) ⌝ }
 {
     let f = m.fresh;
     let s0 = TableReached {
         level: m.level,
         table: m.table,
     };
-    let s1 = grow(mem, left, origin, m.base, m.target, f.a, s0);
-    let s2 = grow(mem, left, origin, m.base, m.target, f.b, s1);
-    let s3 = grow(mem, left, origin, m.base, m.target, f.c, s2);
-    word::write(
+    let s1 = grow(mem, left, space, m.base, m.target, f.a, s0);
+    let s2 = grow(mem, left, space, m.base, m.target, f.b, s1);
+    let s3 = grow(mem, left, space, m.base, m.target, f.c, s2);
+    pool::set_entry(
         mem,
         left,
-        origin,
+        space,
         s3.table,
         walk::index(s3.level, m.base),
         m.word,
@@ -94,10 +98,10 @@ fn carry_here(mem: &mut [u8], left: &mut u64, space: Space, c: Leaf)
 
 // The tables and the page, and then the book.
 fn carry_map(mem: &mut [u8], left: &mut u64, space: Space, m: Mapping)
-    requires { ⌜ the.Buildable m ⌝ }
+    requires { ⌜ the.Buildable space m × (standsOf (holds (now mem) (space .origin)) space ≡ Fits) ⌝ }
     ensures { λ _. ⌜ Wrote (space .origin) (the.writesOf space m) (now (left .entry)) (now (left .exit)) (now (mem .entry)) (now (mem .exit)) ⌝ }
 {
-    build(mem, left, space.origin, m);
+    build(mem, left, space, m);
     let f = m.fresh;
     let b = f.book;
     if 0 < f.need {
