@@ -29,6 +29,23 @@ pub fn site(origin: u64, pool: u64, pages: u64, root: u64) -> Sited
     })
 }
 
+// The same; where there is one, it is found first, which spares the compiler the reasons' numbers.
+pub fn sited(origin: u64, pool: u64, pages: u64, root: u64) -> Sited
+    ensures { λ r. ⌜ r ≡ call.siteOf origin pool pages root ⌝ }
+{
+    if pool % 4096 == 0 {
+        if root % 4096 == 0 {
+            return Sited::At(Space {
+                origin: origin,
+                first: pool / 4096,
+                pages: pages,
+                root: root / 4096,
+            });
+        }
+    }
+    site(origin, pool, pages, root)
+}
+
 // Why map is refused where there is no space, for the reason y: its size, alignment and range come first. Where there is one, map
 // itself looks at them first.
 pub fn misplaced(q: Asked, y: u64) -> u64

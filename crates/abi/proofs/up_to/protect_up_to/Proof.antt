@@ -8,15 +8,15 @@ use Rattle.abi.proofs.up_to.protect_up_to.Reads as reads
 use Rattle.abi.proofs.up_to.protect_up_to.Lts as lts
 use Rattle.abi.proofs.answers.of_protect.Reads as of-protect-reads
 use Rattle.abi.proofs.answers.rights.Reads as rights-reads
-use Rattle.abi.proofs.sites.site.Reads as site-reads
+use Rattle.abi.proofs.sites.sited.Reads as sited-reads
 use Rattle.tablepath.proofs.protect_up_to.Reads as protect-up-to-reads
 
 returns : tie.Need-returns
 unfolding protectAnswer rightsSite
 returns c = let e = le-ltb _ _ (c .if1 .taken) in (rw e, rw e (refl, refl))
 
-site-requires : tie.Need-site-requires
-site-requires c κs = search needs
+sited-requires : tie.Need-sited-requires
+sited-requires c κs = search needs
 
 enum-known-s : tie.Need-enum-known-s
 enum-known-s c = search needs
@@ -35,7 +35,7 @@ of-protect-requires c κs = search needs
 
 returns-2 : tie.Need-returns-2
 unfolding protectAnswer rightsSite
-returns-2 c = let l = lt-ltb _ _ (c .before .before .before .before .if1 .left) in let e = sym (c .before .before .before .site .ensures) ∙ c .before .s .given .1 in (rw (l, e), rw (l, e) (refl, refl))
+returns-2 c = let l = lt-ltb _ _ (c .before .before .before .before .if1 .left) in let e = sym (c .before .before .before .sited .ensures) ∙ c .before .s .given .1 in (rw (l, e), rw (l, e) (refl, refl))
 
 same-length : tie.Need-same-length
 same-length c = search needs
@@ -44,7 +44,7 @@ returns-3 : tie.Need-returns-3
 unfolding protectAnswer rightsSite
 returns-3 c =
     let l = lt-ltb _ _ (c .before .before .before .before .before .before .before .before .before .before .before .if1 .left) in
-    let e = sym (c .before .before .before .before .before .before .before .before .before .before .site .ensures)
+    let e = sym (c .before .before .before .before .before .before .before .before .before .before .sited .ensures)
     ∙ c .before .before .before .before .before .before .before .before .s2 .given .1 in (
       rw (l, e, sym (c .before .before .before .before .rights .ensures)) (rw (
         c .of-protect .ensures,
@@ -59,7 +59,7 @@ protect-up-to-spec =
     tie.close
     (tie.spec
     returns
-    site-requires
+    sited-requires
     enum-known-s
     enum-known-s-2
     rights-requires
