@@ -12,7 +12,7 @@ use Rattle.walk.specs.Walk.{walk}
 use Rattle.pool.specs.State.{stateOf}
 use Rattle.pool.specs.declared.Space.{Space}
 use Rattle.pool.specs.declared.Reason.the-variants.{OriginUnaligned, LengthUnaligned}
-use Rattle.plan.specs.Map.{askedOf, decideOf}
+use Rattle.plan.specs.Map.{allowedOf, decideOf}
 use Rattle.plan.specs.AtOnce as plan
 use Rattle.plan.specs.Rights.{writeExecute}
 use Rattle.plan.specs.declared.Reason.the-variants.{WriteExecute}
@@ -52,7 +52,7 @@ shapedSite (Bad y) s = Refused (reasonOf y)
 
 -- for map, what is asked is looked at first
 unfoldable pub askedSite : ℕ → ℕ → ℕ → ℕ → Asked → Sited
-askedSite origin pool pages root q = shapedSite (askedOf q) (siteOf origin pool pages root)
+askedSite origin pool pages root q = shapedSite (allowedOf q) (siteOf origin pool pages root)
 
 -- where there is no space, for the reason y
 unfoldable pub misplacedBy : ℕ → Shape → ℕ
@@ -60,7 +60,7 @@ misplacedBy y (Level n) = y
 misplacedBy y (Bad r) = reasonOf r
 
 unfoldable pub misplacedOf : Asked → ℕ → ℕ
-misplacedOf q y = misplacedBy y (askedOf q)
+misplacedOf q y = misplacedBy y (allowedOf q)
 
 abbrev pub ask : ℕ → ℕ → ℕ → ℕ → Asked
 ask base frame size rights = record { base = base; frame = frame; size = size; rights = rightsIn rights }

@@ -34,7 +34,7 @@ pub fn site(origin: u64, pool: u64, pages: u64, root: u64) -> Sited
 pub fn misplaced(q: Asked, y: u64) -> u64
     ensures { λ r. ⌜ r ≡ call.misplacedOf q y ⌝ }
 {
-    let s = plan::asked(q);
+    let s = plan::allowed(q);
     match s {
         Shape::Bad(r) => crate::numbers::reason(r),
         Shape::Level(n) => y,

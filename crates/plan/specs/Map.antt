@@ -58,13 +58,13 @@ shapeOf size base frame =
     (fitsOf 0 4096 base frame)
     (cond (eqb size 2097152) (fitsOf 1 2097152 base frame) (cond (eqb size 1073741824) (fitsOf 2 1073741824 base frame) (Bad Size)))
 
-unfoldable pub allowedOf : Rights → Shape → Shape
-allowedOf r (Level n) = cond (writeExecute r) (Bad WriteExecute) (Level n)
-allowedOf r (Bad y) = Bad y
+unfoldable pub strictOf : Rights → Shape → Shape
+strictOf r (Level n) = cond (writeExecute r) (Bad WriteExecute) (Level n)
+strictOf r (Bad y) = Bad y
 
 -- size, alignment and range, and then the rights: all that is looked at before the pool
-unfoldable pub askedOf : Asked → Shape
-askedOf q = allowedOf (q .rights) (shapeOf (q .size) (q .base) (q .frame))
+unfoldable pub allowedOf : Asked → Shape
+allowedOf q = strictOf (q .rights) (shapeOf (q .size) (q .base) (q .frame))
 
 -- what is asked ends where frames do, or below
 abbrev pub Sized : Asked → Type 0
@@ -162,7 +162,7 @@ shapedOf h m sp q (Bad r) = Refused r
 
 -- WHAT MAP DECIDES: size, alignment, range, rights, the pool, overlap, room, in this order
 unfoldable pub decideOf : (ℕ → Bool) → (ℕ → ℕ) → Space → Asked → Placed
-decideOf h m sp q = shapedOf h m sp q (askedOf q)
+decideOf h m sp q = shapedOf h m sp q (allowedOf q)
 
 -- What is built ------------------------------------------------------------------------------------------------------------------------
 

@@ -17,7 +17,7 @@ pub use direct::Once;
 pub use direct::at_once;
 pub use maps::Asked;
 pub use maps::Shape;
-pub use maps::asked;
+pub use maps::allowed;
 pub use protects::Change;
 pub use protects::Changing;
 pub use protects::protect;

@@ -127,8 +127,8 @@ fn shaped(size: u64, base: u64, frame: u64) -> Shape
 }
 
 // All of what is asked that is looked at before the pool: its size, alignment and range, and then its rights.
-pub fn asked(q: Asked) -> Shape
-    ensures { λ r. ⌜ r ≡ the.askedOf q ⌝ }
+pub fn allowed(q: Asked) -> Shape
+    ensures { λ r. ⌜ r ≡ the.allowedOf q ⌝ }
 {
     let s = shaped(q.size, q.base, q.frame);
     match s {
@@ -320,7 +320,7 @@ fn standing(mem: &[u8], space: Space, q: Asked, target: u64, x: u64) -> Placing
 pub fn decide_map(mem: &[u8], space: Space, q: Asked) -> Placing
     ensures { λ r. ⌜ r ≡ the.placingOf (the.decideOf (holds (now (mem .entry)) (space .origin)) (memory (now (mem .entry)) (space .origin)) space q) ⌝ }
 {
-    let s = asked(q);
+    let s = allowed(q);
     match s {
         Shape::Bad(r) => Placing::Refused(r),
         Shape::Level(n) => {

@@ -1,0 +1,47 @@
+use borrow.Author.Needs.{needs}
+use Rattle.plan.proofs.maps.allowed.Statement.{statement}
+use Rattle.plan.proofs.maps.allowed.Tie as tie
+use Rattle.plan.proofs.maps.allowed.Reads as reads
+use Rattle.plan.proofs.maps.allowed.Lts as lts
+use Rattle.plan.proofs.maps.shaped.Reads as shaped-reads
+use Rattle.plan.proofs.rights.write_execute.Reads as write-execute-reads
+
+-- src/maps.rt:133:9
+shaped-requires : tie.Need-shaped-requires
+shaped-requires c κs = search needs
+
+-- src/maps.rt:135:20
+enum-known-s : tie.Need-enum-known-s
+enum-known-s c = search needs
+
+-- src/maps.rt:136:22
+enum-known-s-2 : tie.Need-enum-known-s-2
+enum-known-s-2 c = search needs
+
+-- src/maps.rt:138:16
+write-execute-requires : tie.Need-write-execute-requires
+write-execute-requires c κs = search needs
+
+-- src/maps.rt:139:17
+returns : tie.Need-returns
+returns c = ?
+
+-- src/maps.rt:130:1
+returns-2 : tie.Need-returns-2
+returns-2 c = ?
+
+-- src/maps.rt:130:1
+returns-3 : tie.Need-returns-3
+returns-3 c = ?
+
+pub allowed-spec : {M : Type 1} → statement M
+allowed-spec =
+    tie.close
+    (tie.spec
+    shaped-requires
+    enum-known-s
+    enum-known-s-2
+    write-execute-requires
+    returns
+    returns-2
+    returns-3)
