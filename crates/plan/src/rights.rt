@@ -7,8 +7,5 @@ use entry::Rights;
 pub fn write_execute(r: Rights) -> bool
     ensures { λ b. ⌜ b ≡ the.writeExecute r ⌝ }
 {
-    if r.noexec {
-        return false;
-    }
-    r.writable
+    r.writable & !r.noexec
 }

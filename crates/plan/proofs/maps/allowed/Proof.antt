@@ -1,3 +1,5 @@
+use mathlib.Core.Path.{sym, _∙_}
+use Rattle.plan.specs.Map.{allowedOf, strictOf}
 use borrow.Author.Needs.{needs}
 use Rattle.plan.proofs.maps.allowed.Statement.{statement}
 use Rattle.plan.proofs.maps.allowed.Tie as tie
@@ -24,15 +26,18 @@ write-execute-requires c κs = search needs
 
 -- src/maps.rt:139:17
 returns : tie.Need-returns
-returns c = ?
+unfolding allowedOf strictOf
+returns c = rw (sym (c .before .before .before .before .before .before .shaped .ensures) ∙ c .before .before .before .before .s2 .given .1, sym (c .before .write-execute .ensures) ∙ c .if1 .taken)
 
 -- src/maps.rt:130:1
 returns-2 : tie.Need-returns-2
-returns-2 c = ?
+unfolding allowedOf strictOf
+returns-2 c = rw (sym (c .before .before .before .shaped .ensures) ∙ c .before .s .given .1)
 
 -- src/maps.rt:130:1
 returns-3 : tie.Need-returns-3
-returns-3 c = ?
+unfolding allowedOf strictOf
+returns-3 c = rw (sym (c .before .before .before .before .before .before .shaped .ensures) ∙ c .before .before .before .before .s2 .given .1, sym (c .before .write-execute .ensures) ∙ c .if1 .left)
 
 pub allowed-spec : {M : Type 1} → statement M
 allowed-spec =

@@ -1,3 +1,7 @@
+use Rattle.plan.proofs.Placings.{shaped-made}
+use Rattle.plan.proofs.Shapes.{shaped, allowed-shows}
+use Rattle.plan.specs.Map.{decideOf, shapedOf, placingOf}
+use mathlib.Core.Path.{sym, _∙_}
 use borrow.Author.Needs.{needs}
 use Rattle.plan.proofs.maps.decide_map.Statement.{statement}
 use Rattle.plan.proofs.maps.decide_map.Tie as tie
@@ -33,19 +37,21 @@ enum-known-m c = search needs
 
 -- src/maps.rt:331:34
 standing-requires : tie.Need-standing-requires
-standing-requires c κs = ?
+standing-requires c κs = sym (c .before .before .before .page-word .ensures) ∙ c .before .m .given .1
 
 -- src/maps.rt:320:1
 returns : tie.Need-returns
-returns c = ?
+unfolding decideOf shapedOf placingOf
+returns c = rw (sym (c .before .before .before .allowed .ensures) ∙ c .before .s .given .1)
 
 -- src/maps.rt:320:1
 returns-2 : tie.Need-returns-2
-returns-2 c = ?
+returns-2 c = absurd (shaped-made _ _ _ _ _ (shaped _ _ _ _ (allowed-shows _ _ (sym (c .before .before .before .before .before .before .before .allowed .ensures) ∙ c .before .before .before .before .before .s2 .given .1) .0)) (sym (c .before .before .page-word .ensures) ∙ c .enum-told .given .1))
 
 -- src/maps.rt:320:1
 returns-3 : tie.Need-returns-3
-returns-3 c = ?
+unfolding decideOf shapedOf
+returns-3 c = let e = sym (c .before .before .before .before .before .before .before .before .before .allowed .ensures) ∙ c .before .before .before .before .before .before .before .s2 .given .1 in rw e (c .standing .ensures (shaped _ _ _ _ (allowed-shows _ _ e .0) .frame-fits))
 
 pub decide-map-spec : {M : Type 1} → statement M
 decide-map-spec =

@@ -1,3 +1,8 @@
+use Rattle.plan.proofs.Found.{found-at}
+use Rattle.plan.proofs.Strictly.{protect-refuses, protect-searches}
+use Rattle.pool.proofs.Opening.{names-room, now-is}
+use Rattle.plan.specs.Protect.{changingOf}
+use mathlib.Core.Path.{_≡_, sym, _∙_}
 use borrow.Author.Needs.{needs}
 use Rattle.plan.proofs.protects.decide_protect.Statement.{statement}
 use Rattle.plan.proofs.protects.decide_protect.Tie as tie
@@ -15,7 +20,7 @@ write-execute-requires c κs = search needs
 
 -- src/protects.rt:49:9
 returns : tie.Need-returns
-returns c = ?
+returns c = sym (protect-refuses _ _ _ _ _ (sym (c .before .write-execute .ensures) ∙ c .if1 .taken))
 
 -- src/protects.rt:51:9
 find-requires : tie.Need-find-requires
@@ -43,11 +48,13 @@ changed-requires c κs = search needs
 
 -- src/protects.rt:45:1
 returns-2 : tie.Need-returns-2
-returns-2 c = ?
+unfolding changingOf
+returns-2 c = rw (protect-searches _ _ _ _ _ (sym (c .before .before .before .before .before .write-execute .ensures) ∙ c .before .before .before .before .if1 .left), sym (c .before .before .before .find .ensures) ∙ c .before .s .given .1)
 
 -- src/protects.rt:45:1
 returns-3 : tie.Need-returns-3
-returns-3 c = ?
+unfolding changingOf
+returns-3 c = let e = sym (c .before .before .before .before .before .before .find .ensures) ∙ c .before .before .before .before .s2 .given .1 in let k = found-at _ _ _ _ _ e in rw (protect-searches _ _ _ _ _ (sym (c .before .before .before .before .before .before .before .before .write-execute .ensures) ∙ c .before .before .before .before .before .before .before .if1 .left), e, c .changed .ensures (k .index), c .before .ticket .ensures, c .before .before .book-now .ensures ∙ now-is _ _ (names-room _ _ _ (k .names)))
 
 pub decide-protect-spec : {M : Type 1} → statement M
 decide-protect-spec =
