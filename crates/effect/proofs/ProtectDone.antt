@@ -40,6 +40,7 @@ use Rattle.effect.proofs.Unmarking.{page-unmarked}
 use Rattle.effect.specs.ProtectDone.{ProtectDone}
 use Rattle.effect.specs.Whole.{Whole}
 use Rattle.plan.proofs.Found.{found-at}
+use Rattle.plan.proofs.Strictly.{protect-strict}
 use Rattle.effect.proofs.Located.{Located, located}
 use Rattle.effect.proofs.Wholes.{live-in, in-beside, in-of-pool}
 
@@ -54,8 +55,8 @@ with-rights-lt w r = numbers w _ _ _ (flag-lt (r .writable)) (flag-lt (r .user))
 -- the change that a decision is
 decided : (h : ℕ → Bool) (m : ℕ → ℕ) (sp : Space) (va : ℕ) (r : Rights) (c : Change) → decideOf h m sp va r ≡ Go c
     → (s : PageEntry) × (findOf h m sp va ≡ sought.Found s) × (changeOf va s r (ticketIn (bookOf m sp)) ≡ c)
-unfolding decideOf changingOf
-decided h m sp va r c e = go (findOf h m sp va) refl e
+unfolding changingOf
+decided h m sp va r c e = go (findOf h m sp va) refl (protect-strict h m sp va r c e .1)
   where
     go : (x : Sought) → findOf h m sp va ≡ x → changingOf m sp va r x ≡ Go c
         → (s : PageEntry) × (findOf h m sp va ≡ sought.Found s) × (changeOf va s r (ticketIn (bookOf m sp)) ≡ c)
