@@ -27,10 +27,10 @@ use Rattle.pool.specs.declared.Reason.{Reason as PoolReason}
 use Rattle.pool.specs.declared.Reason.the-variants.{OriginUnaligned, LengthUnaligned, PoolLarge, PoolSmall, PoolOutside}
 use Rattle.plan.specs.declared.Reason.{Reason}
 use Rattle.plan.specs.declared.maps.Asked.{Asked}
+use Rattle.plan.specs.Rights.{writeExecute}
 use Rattle.effect.specs.Whole.{Whole}
 use Rattle.effect.specs.MapDone.{Fitted, Misses}
 use Rattle.effect.specs.MapRefused.{Cause}
-use Rattle.plan.specs.Rights.{writeExecute}
 use Rattle.effect.specs.StartsAt.{StartsAt, NotThere, NotProtected}
 use Rattle.effect.specs.UnmapDone.{SetAside}
 use Rattle.tablepath.specs.declared.Mapped.{Mapped}
