@@ -15,6 +15,7 @@ pub mod Telling
 pub mod Nights
 pub mod Onward
 pub mod FrameGone
+pub mod Strict
 pub mod TableGone
 pub mod Numbering
 pub mod NightTickets
