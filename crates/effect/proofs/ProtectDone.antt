@@ -113,8 +113,12 @@ module _ {h : ℕ → Bool} {sp : Space} {m : ℕ → ℕ} {role : ℕ → Role}
       done = subst₂ (λ x y. Changed (settingOf h sp) m role va l (found.Page x y (s .frame) r) xs (after m xs) role) (k .base) (sym (k .size-is))
           (protect-done v (s .frame) (k .rights) r (w .sound) (k .comes) (k .entry) says-it clean-it)
 
+  -- a page that is found could be given any rights, as an older version of this library did: the space would be whole all the same
+  pub regranted-done : (s : PageEntry) → findOf h m sp va ≡ sought.Found s → ProtectDone h sp m role va r (changeOf va s r (ticketIn (bookOf m sp)))
+  regranted-done s f = changes s (located w (found-at h m sp va s f))
+
   -- PROTECT, DONE
   pub protected : (c : Change) → decideOf h m sp va r ≡ Go c → ProtectDone h sp m role va r c
   protected c e =
       let d = decided h m sp va r c e in
-      subst (ProtectDone h sp m role va r) (d .2) (changes (d .0) (located w (found-at h m sp va (d .0) (d .1))))
+      subst (ProtectDone h sp m role va r) (d .2) (regranted-done (d .0) (d .1))

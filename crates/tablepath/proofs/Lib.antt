@@ -21,6 +21,7 @@ pub mod Numbering
 pub mod NightTickets
 pub mod AfterMap
 pub mod NightWitness
+pub mod StrictWitness
 pub mod RoundTrips
 pub mod Wholes
 pub mod Handles

@@ -114,7 +114,7 @@ pub one-page : bookPages 5 ≡ 1
 one-page = small-book 5 (omega arith)
 
 module _ (s : List ℕ) (e : length s ≡ 20480) where
-  made : createdOf (length s) (holds s 0) 0 0 5 ≡ created.Root 1
+  pub made : createdOf (length s) (holds s 0) 0 0 5 ≡ created.Root 1
   unfolding createdOf createdIn mayCreate roomOf holds
   made = rw (e, one-page, one-page)
 
