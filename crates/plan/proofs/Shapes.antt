@@ -8,7 +8,7 @@ use lib.Dec.{leb, eqb}
 use Rattle.entry.specs.Entry.{sizeOf}
 use Rattle.walk.specs.Walk.{half, canonical}
 use Rattle.walk.proofs.Addresses.{by-wrapping}
-use Rattle.plan.specs.declared.Reason.the-variants.{Size, BaseUnaligned, FrameUnaligned, BaseRange, FrameRange, WriteExecute}
+use Rattle.plan.specs.declared.Reason.the-variants.{Size, BaseUnaligned, FrameUnaligned, BaseRange, FrameRange}
 use Rattle.plan.specs.declared.maps.Asked.{Asked}
 use Rattle.plan.specs.declared.maps.Shape.{Shape}
 use Rattle.plan.specs.declared.maps.Shape.the-variants.{Level, Bad}
@@ -111,22 +111,17 @@ module _ (base frame n : ℕ) where
 
 -- The rights ---------------------------------------------------------------------------------------------------------------------
 
--- what is asked, where size, alignment and range are right
+-- what is asked has the level of its shape, where the rights may be given
 pub allowed-strict : (q : Asked) (n : ℕ) → shapeOf (q .size) (q .base) (q .frame) ≡ Level n → writeExecute (q .rights) ≡ false → allowedOf q ≡ Level n
 unfolding allowedOf strictOf
 allowed-strict q n e s = rw (e, s)
 
-pub allowed-refused : (q : Asked) (n : ℕ) → shapeOf (q .size) (q .base) (q .frame) ≡ Level n → writeExecute (q .rights) ≡ true → allowedOf q ≡ Bad WriteExecute
+-- and no other
+pub allowed-shape : (q : Asked) (n : ℕ) → allowedOf q ≡ Level n → shapeOf (q .size) (q .base) (q .frame) ≡ Level n
 unfolding allowedOf strictOf
-allowed-refused q n e s = rw (e, s)
-
--- what has a level is right in all of this
-pub allowed-shows : (q : Asked) (n : ℕ) → allowedOf q ≡ Level n → (shapeOf (q .size) (q .base) (q .frame) ≡ Level n) × (writeExecute (q .rights) ≡ false)
-unfolding allowedOf strictOf
-allowed-shows q n e = go (shapeOf (q .size) (q .base) (q .frame)) (writeExecute (q .rights)) refl refl e
+allowed-shape q n e = go (shapeOf (q .size) (q .base) (q .frame)) (writeExecute (q .rights)) refl e
   where
-    go : (x : Shape) (b : Bool) → shapeOf (q .size) (q .base) (q .frame) ≡ x → writeExecute (q .rights) ≡ b → strictOf (q .rights) x ≡ Level n
-        → (shapeOf (q .size) (q .base) (q .frame) ≡ Level n) × (writeExecute (q .rights) ≡ false)
-    go (Bad y) b ex eb k = let z : _≡_ {A = ℕ} 0 1 = cc in absurd (omega arith)
-    go (Level l) true ex eb k = let j = rw eb at k in let z : _≡_ {A = ℕ} 0 1 = cc in absurd (omega arith)
-    go (Level l) false ex eb k = let j = rw eb at k in (ex ∙ j, eb)
+    go : (x : Shape) (b : Bool) → writeExecute (q .rights) ≡ b → strictOf (q .rights) x ≡ Level n → x ≡ Level n
+    go (Bad y) b eb k = let z : _≡_ {A = ℕ} 0 1 = cc in absurd (omega arith)
+    go (Level l) true eb k = let j = rw eb at k in let z : _≡_ {A = ℕ} 0 1 = cc in absurd (omega arith)
+    go (Level l) false eb k = rw eb at k

@@ -16,7 +16,20 @@ use Rattle.plan.specs.Find.{findOf}
 use Rattle.plan.specs.Map as map
 use Rattle.plan.specs.Protect as protect
 use Rattle.plan.specs.Rights.{writeExecute}
-use Rattle.plan.proofs.Shapes.{allowed-shows, allowed-refused}
+
+-- what map is asked, where size, alignment and range are right
+allowed-refused : (q : Asked) (n : ℕ) → map.shapeOf (q .size) (q .base) (q .frame) ≡ Level n → writeExecute (q .rights) ≡ true → map.allowedOf q ≡ Bad WriteExecute
+unfolding map.allowedOf map.strictOf
+allowed-refused q n e s = rw (e, s)
+
+allowed-not-both : (q : Asked) (n : ℕ) → map.allowedOf q ≡ Level n → writeExecute (q .rights) ≡ false
+unfolding map.allowedOf map.strictOf
+allowed-not-both q n e = go (map.shapeOf (q .size) (q .base) (q .frame)) (writeExecute (q .rights)) refl e
+  where
+    go : (x : Shape) (b : Bool) → writeExecute (q .rights) ≡ b → map.strictOf (q .rights) x ≡ Level n → writeExecute (q .rights) ≡ false
+    go (Bad y) b eb k = let z : _≡_ {A = ℕ} 0 1 = cc in absurd (omega arith)
+    go (Level l) true eb k = let j = rw eb at k in let z : _≡_ {A = ℕ} 0 1 = cc in absurd (omega arith)
+    go (Level l) false eb k = eb
 
 module _ (h : ℕ → Bool) (m : ℕ → ℕ) (sp : Space) where
   pub map-strict : (q : Asked) (p : Mapping) → map.decideOf h m sp q ≡ map.Go p → writeExecute (q .rights) ≡ false
@@ -25,7 +38,7 @@ module _ (h : ℕ → Bool) (m : ℕ → ℕ) (sp : Space) where
     where
       go : (x : Shape) → map.allowedOf q ≡ x → map.shapedOf h m sp q x ≡ map.Go p → writeExecute (q .rights) ≡ false
       go (Bad y) f k = let z : _≡_ {A = ℕ} 0 1 = cc in absurd (omega arith)
-      go (Level n) f k = allowed-shows q n f .1
+      go (Level n) f k = allowed-not-both q n f
 
   pub map-refuses : (q : Asked) (n : ℕ) → map.shapeOf (q .size) (q .base) (q .frame) ≡ Level n → writeExecute (q .rights) ≡ true
       → map.decideOf h m sp q ≡ map.Refused WriteExecute

@@ -6,123 +6,96 @@ use Rattle.abi.proofs.numbers.reason.Reads as reads
 use Rattle.abi.proofs.numbers.reason.Lts as lts
 use Rattle.abi.proofs.numbers.pool_reason.Reads as pool-reason-reads
 
--- src/numbers.rt:82:31
 enum-told : tie.Need-enum-told
 enum-told c = search needs
 
--- src/numbers.rt:83:40
 enum-told-2 : tie.Need-enum-told-2
 enum-told-2 c = search needs
 
--- src/numbers.rt:84:41
 enum-told-3 : tie.Need-enum-told-3
 enum-told-3 c = search needs
 
--- src/numbers.rt:85:36
 enum-told-4 : tie.Need-enum-told-4
 enum-told-4 c = search needs
 
--- src/numbers.rt:86:37
 enum-told-5 : tie.Need-enum-told-5
 enum-told-5 c = search needs
 
--- src/numbers.rt:87:39
 enum-told-6 : tie.Need-enum-told-6
 enum-told-6 c = search needs
 
--- src/numbers.rt:88:28
 enum-known-r : tie.Need-enum-known-r
 enum-known-r c = search needs
 
--- src/numbers.rt:88:34
 pool-reason-requires : tie.Need-pool-reason-requires
 pool-reason-requires c κs = search needs
 
--- src/numbers.rt:89:38
 enum-told-7 : tie.Need-enum-told-7
 enum-told-7 c = search needs
 
--- src/numbers.rt:90:34
 enum-told-8 : tie.Need-enum-told-8
 enum-told-8 c = search needs
 
--- src/numbers.rt:91:33
 enum-told-9 : tie.Need-enum-told-9
 enum-told-9 c = search needs
 
--- src/numbers.rt:92:40
 enum-told-10 : tie.Need-enum-told-10
 enum-told-10 c = search needs
 
--- src/numbers.rt:93:32
 enum-told-11 : tie.Need-enum-told-11
 enum-told-11 c = search needs
 
--- src/numbers.rt:94:34
 enum-told-12 : tie.Need-enum-told-12
 enum-told-12 c = search needs
 
--- src/numbers.rt:78:1
 returns : tie.Need-returns
 unfolding reasonOf
 returns c = rw (c .enum-told .given .1)
 
--- src/numbers.rt:78:1
 returns-2 : tie.Need-returns-2
 unfolding reasonOf
 returns-2 c = rw (c .enum-told2 .given .1)
 
--- src/numbers.rt:78:1
 returns-3 : tie.Need-returns-3
 unfolding reasonOf
 returns-3 c = rw (c .enum-told3 .given .1)
 
--- src/numbers.rt:78:1
 returns-4 : tie.Need-returns-4
 unfolding reasonOf
 returns-4 c = rw (c .enum-told4 .given .1)
 
--- src/numbers.rt:78:1
 returns-5 : tie.Need-returns-5
 unfolding reasonOf
 returns-5 c = rw (c .enum-told5 .given .1)
 
--- src/numbers.rt:78:1
 returns-6 : tie.Need-returns-6
 unfolding reasonOf
 returns-6 c = rw (c .enum-told6 .given .1)
 
--- src/numbers.rt:78:1
 returns-7 : tie.Need-returns-7
 unfolding reasonOf
 returns-7 c = rw (c .before .before .r .given .1, c .pool-reason .ensures)
 
--- src/numbers.rt:78:1
 returns-8 : tie.Need-returns-8
 unfolding reasonOf
 returns-8 c = rw (c .enum-told7 .given .1)
 
--- src/numbers.rt:78:1
 returns-9 : tie.Need-returns-9
 unfolding reasonOf
 returns-9 c = rw (c .enum-told8 .given .1)
 
--- src/numbers.rt:78:1
 returns-10 : tie.Need-returns-10
 unfolding reasonOf
 returns-10 c = rw (c .enum-told9 .given .1)
 
--- src/numbers.rt:78:1
 returns-11 : tie.Need-returns-11
 unfolding reasonOf
 returns-11 c = rw (c .enum-told10 .given .1)
 
--- src/numbers.rt:78:1
 returns-12 : tie.Need-returns-12
 unfolding reasonOf
 returns-12 c = rw (c .enum-told11 .given .1)
 
--- src/numbers.rt:78:1
 returns-13 : tie.Need-returns-13
 unfolding reasonOf
 returns-13 c = rw (c .enum-told12 .given .1)

@@ -13,54 +13,42 @@ use Rattle.abi.proofs.sites.site.Reads as site-reads
 use Rattle.plan.proofs.write_execute.Reads as write-execute-reads
 use Rattle.tablepath.proofs.protect_up_to.Reads as protect-up-to-reads
 
--- src/up_to.rt:84:9
 returns : tie.Need-returns
 unfolding protectAnswer rightsSite
 returns c = let e = le-ltb _ _ (c .if1 .taken) in (rw e, rw e (refl, refl))
 
--- src/up_to.rt:91:9
 rights-requires : tie.Need-rights-requires
 rights-requires c κs = search needs
 
--- src/up_to.rt:92:8
 write-execute-requires : tie.Need-write-execute-requires
 write-execute-requires c κs = search needs
 
--- src/up_to.rt:93:9
 returns-2 : tie.Need-returns-2
 unfolding protectAnswer rightsSite strictSite reasonOf
 returns-2 c = let l = lt-ltb _ _ (c .before .before .before .if1 .left) in let x = sym (c .before .write-execute .ensures) ∙ c .if2 .taken in (rw (l, sym (c .before .before .rights .ensures), x), rw (l, sym (c .before .before .rights .ensures), x) (refl, refl))
 
--- src/up_to.rt:100:9
 site-requires : tie.Need-site-requires
 site-requires c κs = search needs
 
--- src/up_to.rt:102:24
 enum-known-s : tie.Need-enum-known-s
 enum-known-s c = search needs
 
--- src/up_to.rt:108:19
 enum-known-s-2 : tie.Need-enum-known-s-2
 enum-known-s-2 c = search needs
 
--- src/up_to.rt:108:56
 protect-up-to-requires : tie.Need-protect-up-to-requires
 protect-up-to-requires c κs = search needs
 
--- src/up_to.rt:108:29
 of-protect-requires : tie.Need-of-protect-requires
 of-protect-requires c κs = search needs
 
--- src/up_to.rt:70:1
 returns-3 : tie.Need-returns-3
 unfolding protectAnswer rightsSite strictSite
 returns-3 c = let l = lt-ltb _ _ (c .before .before .before .before .before .before .before .if1 .left) in let x = sym (c .before .before .before .before .before .write-execute .ensures) ∙ c .before .before .before .before .if2 .left in let e = sym (c .before .before .before .site .ensures) ∙ c .before .s .given .1 in (rw (l, sym (c .before .before .before .before .before .before .rights .ensures), x, e), rw (l, sym (c .before .before .before .before .before .before .rights .ensures), x, e) (refl, refl))
 
--- src/up_to.rt:70:1
 same-length : tie.Need-same-length
 same-length c = search needs
 
--- src/up_to.rt:70:1
 returns-4 : tie.Need-returns-4
 unfolding protectAnswer rightsSite strictSite
 returns-4 c = let l = lt-ltb _ _ (c .before .before .before .before .before .before .before .before .before .before .before .before .before .if1 .left) in let x = sym (c .before .before .before .before .before .before .before .before .before .before .before .write-execute .ensures) ∙ c .before .before .before .before .before .before .before .before .before .before .if2 .left in let e = sym (c .before .before .before .before .before .before .before .before .before .site .ensures) ∙ c .before .before .before .before .before .before .before .s2 .given .1 in (rw (l, sym (c .before .before .before .before .before .before .before .before .before .before .before .before .rights .ensures), x, e) (rw (c .of-protect .ensures, c .before .before .before .protect-up-to .ensures .0)), rw (l, sym (c .before .before .before .before .before .before .before .before .before .before .before .before .rights .ensures), x, e) (c .before .before .before .protect-up-to .ensures .1))

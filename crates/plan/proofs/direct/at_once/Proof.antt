@@ -16,97 +16,75 @@ use Rattle.plan.proofs.maps.meets.Reads as meets-reads
 use Rattle.plan.proofs.rights.write_execute.Reads as write-execute-reads
 use Rattle.pool.proofs.names.Reads as names-reads
 
--- src/direct.rt:133:9
 returns : tie.Need-returns
 returns c = wrote-none _ _ _
 
--- src/direct.rt:135:9
 size-requires : tie.Need-size-requires
 size-requires c κs = search needs
 
--- src/direct.rt:137:9
 returns-2 : tie.Need-returns-2
 returns-2 c = wrote-none _ _ _
 
--- src/direct.rt:139:9
 fits-requires : tie.Need-fits-requires
 fits-requires c κs = (c .before .before .before .if1 .left, c .before .before .size .ensures .0 (omega (arith, c .before .before .before .if1 .left)))
 
 enum-told : tie.Need-enum-told
 enum-told c = search needs
 
--- src/direct.rt:141:9
 enum-told-2 : tie.Need-enum-told-2
 enum-told-2 c = search needs
 
--- src/direct.rt:141:9
 returns-3 : tie.Need-returns-3
 returns-3 c = wrote-none _ _ _
 
--- src/direct.rt:144:8
 write-execute-requires : tie.Need-write-execute-requires
 write-execute-requires c κs = search needs
 
--- src/direct.rt:145:9
 returns-4 : tie.Need-returns-4
 returns-4 c = wrote-none _ _ _
 
--- src/direct.rt:147:9
 page-word-requires : tie.Need-page-word-requires
 page-word-requires c κs = search needs
 
--- src/direct.rt:148:20
 enum-known-m : tie.Need-enum-known-m
 enum-known-m c = search needs
 
--- src/direct.rt:149:9
 enum-told-3 : tie.Need-enum-told-3
 enum-told-3 c = search needs
 
--- src/direct.rt:149:9
 returns-5 : tie.Need-returns-5
 returns-5 c = wrote-none _ _ _
 
--- src/direct.rt:151:9
 names-requires : tie.Need-names-requires
 names-requires c κs = search needs
 
 enum-told-4 : tie.Need-enum-told-4
 enum-told-4 c = search needs
 
--- src/direct.rt:153:9
 enum-told-5 : tie.Need-enum-told-5
 enum-told-5 c = search needs
 
--- src/direct.rt:153:9
 same-length : tie.Need-same-length
 same-length c = search needs
 
--- src/direct.rt:153:9
 returns-6 : tie.Need-returns-6
 returns-6 c = wrote-none _ _ _
 
--- src/direct.rt:155:8
 meets-requires : tie.Need-meets-requires
 meets-requires c κs = search needs
 
--- src/direct.rt:156:9
 same-length-2 : tie.Need-same-length-2
 same-length-2 c = search needs
 
--- src/direct.rt:156:9
 returns-7 : tie.Need-returns-7
 returns-7 c = wrote-none _ _ _
 
--- src/direct.rt:158:5
 placed-requires : tie.Need-placed-requires
 placed-requires c κs = (c .before .before .before .before .before .before .before .before .before .before .before .before .before .before .before .before .before .before .before .before .before .if1 .left, names-stands _ _ _ (sym (c .before .before .before .before .before .before .names .ensures) ∙ c .before .before .before .before .enum-told4 .given .1))
 
--- src/direct.rt:129:1
 same-length-3 : tie.Need-same-length-3
 same-length-3 c = search needs
 
--- src/direct.rt:129:1
 returns-8 : tie.Need-returns-8
 returns-8 c = found-at-once _ _ _ (c .before .before .placed .last .0) _ (c .before .before .before .before .before .before .before .before .before .before .before .before .before .before .before .before .before .before .before .before .before .before .before .before .before .before .args .q) _ _ (sym (c .before .before .before .before .before .before .before .before .before .before .before .before .before .before .page-word .ensures) ∙ c .before .before .before .before .before .before .before .before .before .before .before .before .m .given .1) _ _ _ (c .before .before .before .before .before .before .before .before .before .before .before .before .before .before .before .before .before .before .before .before .before .before .before .before .if1 .left) (c .before .before .before .before .before .before .before .before .before .before .before .before .before .before .before .before .before .before .before .before .before .if2 .left) (c .before .before .before .before .before .before .before .before .before .before .before .before .before .before .before .before .before .before .before .before .before .before .before .size .ensures .0 (omega (arith, c .before .before .before .before .before .before .before .before .before .before .before .before .before .before .before .before .before .before .before .before .before .before .before .before .if1 .left))) (sym (c .before .before .before .before .before .before .before .before .before .before .before .before .before .before .before .before .before .before .before .before .fits2 .ensures) ∙ c .before .before .before .before .before .before .before .before .before .before .before .before .before .before .before .before .before .before .enum-told .given .1) (sym (c .before .before .before .before .before .before .before .before .before .before .before .before .before .before .before .before .write-execute .ensures) ∙ c .before .before .before .before .before .before .before .before .before .before .before .before .before .before .before .if3 .left) (sym (c .before .before .before .before .before .before .before .before .before .names .ensures) ∙ c .before .before .before .before .before .before .before .enum-told4 .given .1) (c .before .before .before .before .before .before .meets .ensures) (c .before .before .before .before .before .if4 .left) (c .before .before .placed .result) (c .before .before .placed .ensures)
 

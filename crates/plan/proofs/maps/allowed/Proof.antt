@@ -8,33 +8,26 @@ use Rattle.plan.proofs.maps.allowed.Lts as lts
 use Rattle.plan.proofs.maps.shaped.Reads as shaped-reads
 use Rattle.plan.proofs.rights.write_execute.Reads as write-execute-reads
 
--- src/maps.rt:133:9
 shaped-requires : tie.Need-shaped-requires
 shaped-requires c κs = search needs
 
--- src/maps.rt:135:20
 enum-known-s : tie.Need-enum-known-s
 enum-known-s c = search needs
 
--- src/maps.rt:136:22
 enum-known-s-2 : tie.Need-enum-known-s-2
 enum-known-s-2 c = search needs
 
--- src/maps.rt:138:16
 write-execute-requires : tie.Need-write-execute-requires
 write-execute-requires c κs = search needs
 
--- src/maps.rt:139:17
 returns : tie.Need-returns
 unfolding allowedOf strictOf
 returns c = rw (sym (c .before .before .before .before .before .before .shaped .ensures) ∙ c .before .before .before .before .s2 .given .1, sym (c .before .write-execute .ensures) ∙ c .if1 .taken)
 
--- src/maps.rt:130:1
 returns-2 : tie.Need-returns-2
 unfolding allowedOf strictOf
 returns-2 c = rw (sym (c .before .before .before .shaped .ensures) ∙ c .before .s .given .1)
 
--- src/maps.rt:130:1
 returns-3 : tie.Need-returns-3
 unfolding allowedOf strictOf
 returns-3 c = rw (sym (c .before .before .before .before .before .before .shaped .ensures) ∙ c .before .before .before .before .s2 .given .1, sym (c .before .write-execute .ensures) ∙ c .if1 .left)

@@ -1,5 +1,5 @@
 use Rattle.plan.proofs.Placings.{shaped-made}
-use Rattle.plan.proofs.Shapes.{shaped, allowed-shows}
+use Rattle.plan.proofs.Shapes.{shaped, allowed-shape}
 use Rattle.plan.specs.Map.{decideOf, shapedOf, placingOf}
 use mathlib.Core.Path.{sym, _∙_}
 use borrow.Author.Needs.{needs}
@@ -11,47 +11,37 @@ use Rattle.entry.proofs.page_word.Reads as page-word-reads
 use Rattle.plan.proofs.maps.allowed.Reads as allowed-reads
 use Rattle.plan.proofs.maps.standing.Reads as standing-reads
 
--- src/maps.rt:323:9
 allowed-requires : tie.Need-allowed-requires
 allowed-requires c κs = search needs
 
--- src/maps.rt:325:20
 enum-known-s : tie.Need-enum-known-s
 enum-known-s c = search needs
 
--- src/maps.rt:326:22
 enum-known-s-2 : tie.Need-enum-known-s-2
 enum-known-s-2 c = search needs
 
--- src/maps.rt:328:17
 page-word-requires : tie.Need-page-word-requires
 page-word-requires c κs = search needs
 
--- src/maps.rt:330:51
 enum-told : tie.Need-enum-told
 enum-told c = search needs
 
--- src/maps.rt:331:28
 enum-known-m : tie.Need-enum-known-m
 enum-known-m c = search needs
 
--- src/maps.rt:331:34
 standing-requires : tie.Need-standing-requires
 standing-requires c κs = sym (c .before .before .before .page-word .ensures) ∙ c .before .m .given .1
 
--- src/maps.rt:320:1
 returns : tie.Need-returns
 unfolding decideOf shapedOf placingOf
 returns c = rw (sym (c .before .before .before .allowed .ensures) ∙ c .before .s .given .1)
 
--- src/maps.rt:320:1
 returns-2 : tie.Need-returns-2
-returns-2 c = absurd (shaped-made _ _ _ _ _ (shaped _ _ _ _ (allowed-shows _ _ (sym (c .before .before .before .before .before .before .before .allowed .ensures) ∙ c .before .before .before .before .before .s2 .given .1) .0)) (sym (c .before .before .page-word .ensures) ∙ c .enum-told .given .1))
+returns-2 c = absurd (shaped-made _ _ _ _ _ (shaped _ _ _ _ (allowed-shape _ _ (sym (c .before .before .before .before .before .before .before .allowed .ensures) ∙ c .before .before .before .before .before .s2 .given .1))) (sym (c .before .before .page-word .ensures) ∙ c .enum-told .given .1))
 
--- src/maps.rt:320:1
 returns-3 : tie.Need-returns-3
 unfolding decideOf shapedOf
-returns-3 c = let e = sym (c .before .before .before .before .before .before .before .before .before .allowed .ensures) ∙ c .before .before .before .before .before .before .before .s2 .given .1 in rw e (c .standing .ensures (shaped _ _ _ _ (allowed-shows _ _ e .0) .frame-fits))
+returns-3 c = let e = sym (c .before .before .before .before .before .before .before .before .before .allowed .ensures) ∙ c .before .before .before .before .before .before .before .s2 .given .1 in rw e (c .standing .ensures (shaped _ _ _ _ (allowed-shape _ _ e) .frame-fits))
 
 pub decide-map-spec : {M : Type 1} → statement M
 decide-map-spec =
