@@ -40,7 +40,8 @@
  * ADDRESSES are the machine's, canonical: bits 47 to 63 are all alike. They are the lower half, 0 to 0x7fffffffffff, and the upper half,
  * 0xffff800000000000 to 0xffffffffffffffff; no other number is an address. The last page ends at 2^64: base + size is then 0 in 64 bits.
  *
- * LIMITS. Levels: four. Sizes: 4096, 2 MiB, 1 GiB. Physical addresses: 0 to 2^52 - 1.
+ * LIMITS. Levels: four. Sizes: 4096, 2 MiB, 1 GiB. Physical addresses: 0 to 2^52 - 1. No page that is writable and executable is made; that a
+ * frame is not mapped twice, once so and once so, is the caller's.
  * The library calls no function but memset, for pages that are no table yet. The window is write-back memory, and memset makes ordinary
  * stores. The code uses general registers alone, and nothing below the stack pointer: interrupts may come while it runs. That no frame is
  * mapped which lies in another space's pool is the caller's. */
