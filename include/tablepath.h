@@ -40,7 +40,8 @@
  * ADDRESSES are the machine's, canonical: bits 47 to 63 are all alike. They are the lower half, 0 to 0x7fffffffffff, and the upper half,
  * 0xffff800000000000 to 0xffffffffffffffff; no other number is an address. The last page ends at 2^64: base + size is then 0 in 64 bits.
  *
- * LIMITS. Levels: four. Sizes: 4096, 2 MiB, 1 GiB. Physical addresses: 0 to 2^52 - 1.
+ * LIMITS. Levels: four. Sizes: 4096, 2 MiB, 1 GiB. Physical addresses: 0 to 2^52 - 1. No page that is writable and executable is made; that a
+ * frame is not mapped twice, once so and once so, is the caller's.
  * The library calls no function but memset, for pages that are no table yet. The window is write-back memory, and memset makes ordinary
  * stores. The code uses general registers alone, and nothing below the stack pointer: interrupts may come while it runs. That no frame is
  * mapped which lies in another space's pool is the caller's. */
@@ -50,7 +51,7 @@
 #include <stddef.h>
 #include <stdint.h>
 
-#define TP_VERSION "0.4.0"
+#define TP_VERSION "0.5.0"
 
 /* An answer that must be looked at, where the compiler can say so; and a pointer as a number, in C's words or in C++'s. */
 #if defined(__GNUC__)
@@ -85,6 +86,7 @@ enum tp_reason {
     TP_FRAME_UNALIGNED = 3,    /* the frame is no multiple of the size */
     TP_BASE_RANGE = 4,         /* the base is no address: it is not canonical */
     TP_FRAME_RANGE = 5,        /* the frame ends beyond 2^52 */
+    /* map still, TP_WRITE_EXECUTE before them */
     TP_FRAME_IN_POOL = 6,      /* the frame and the pool share a byte */
     TP_OVERLAP = 7,            /* some address of the range is mapped */
     TP_NO_ROOM = 8,            /* fewer free pages than tables that are missing */
@@ -111,11 +113,13 @@ enum tp_reason {
     /* map and protect, before all else */
     TP_RIGHTS = 25,            /* the rights have a bit that means nothing */
     /* every call but look-up and entry, before all else: said by this header, not by the library */
-    TP_POINTER_UNALIGNED = 26  /* the pointer and the origin differ modulo 4096 */
+    TP_POINTER_UNALIGNED = 26, /* the pointer and the origin differ modulo 4096 */
+    /* map, after TP_FRAME_RANGE and before it looks at the pool; protect, before all else but TP_RIGHTS */
+    TP_WRITE_EXECUTE = 27      /* the page would be writable and executable */
     /* tools/reasons: end */
 };
 
-/* Rights: of a page in map and protect; of the whole way in look-up. */
+/* Rights: of a page in map and protect, which refuse TP_WRITABLE without TP_NO_EXECUTE; of the whole way in look-up. */
 enum tp_rights { TP_WRITABLE = 1, TP_USER = 2, TP_NO_EXECUTE = 4 };
 
 struct tp_created {
@@ -297,6 +301,7 @@ static inline const char *tp_reason_text(uint64_t reason) {
     case TP_SPENT: return "no ticket is left: 2^62 tables were set aside";
     case TP_RIGHTS: return "the rights have a bit that means nothing";
     case TP_POINTER_UNALIGNED: return "the pointer and the origin differ modulo 4096";
+    case TP_WRITE_EXECUTE: return "the page would be writable and executable";
     /* tools/reasons: end */
     default: return "a reason that this header does not know";
     }

@@ -1,13 +1,14 @@
 -- EACH REASON EXACTLY WHEN ITS CAUSE HOLDS, by its number, in a space that is whole; and numbers that name no space, for any bytes.
 use Prim.Native.Nat.{ℕ, _<_, _≤_}
-use mathlib.Core.Bool.{true, false}
+use mathlib.Core.Bool.{Bool, true, false, true≢false, cond}
 use mathlib.Core.List.{List}
 use mathlib.Core.Logic.{_↔_, _⊎_, inl, inr, _≢_}
-use mathlib.Core.Path.{_≡_, refl, sym, ap, _∙_}
+use mathlib.Core.Path.{_≡_, refl, sym, ap, _∙_, subst}
 use native.Mathlib.Omega.{arith}
 use lib.ListN.{length}
 use borrow.Author.Tests.{eq-eqb, ne-eqb}
 use Rattle.word.specs.Memory.{memory, holds}
+use Rattle.entry.specs.declared.Rights.{Rights}
 use Rattle.walk.specs.Walk.{canonical}
 use Rattle.tables.specs.Roles.{Setting}
 use Rattle.pool.specs.Book.{bookOf, dueOf}
@@ -16,19 +17,20 @@ use Rattle.pool.specs.declared.Due.{Due}
 use Rattle.pool.specs.declared.Due.the-variants as due
 use Rattle.pool.specs.declared.Book.{Book}
 use Rattle.plan.specs.Map as map
-use Rattle.plan.specs.Map.{Placed, shapeOf}
+use Rattle.plan.specs.Map.{Placed, shapeOf, strictOf, allowedOf}
 use Rattle.plan.specs.Protect as protect
+use Rattle.plan.specs.Rights.{writeExecute}
 use Rattle.plan.specs.declared.Reason.{Reason}
-use Rattle.plan.specs.declared.Reason.the-variants.{BaseRange, NothingStarts}
+use Rattle.plan.specs.declared.Reason.the-variants.{BaseRange, NothingStarts, WriteExecute}
 use Rattle.plan.specs.declared.protects.Change.{Change}
-use Rattle.plan.specs.declared.maps.Shape.the-variants.{Bad}
+use Rattle.plan.specs.declared.maps.Shape.the-variants.{Level, Bad}
 use Rattle.plan.specs.declared.unmaps.Removal.{Removal}
 use Rattle.plan.specs.declared.unmaps.Removing.{Removing}
 use Rattle.plan.specs.declared.unmaps.Removing.the-variants as removing
 use Rattle.plan.specs.declared.protects.Changing.{Changing}
 use Rattle.plan.specs.declared.protects.Changing.the-variants as changing
 use Rattle.effect.specs.MapRefused.{Cause}
-use Rattle.effect.specs.StartsAt.{StartsAt, NotThere, no-address, none-starts}
+use Rattle.effect.specs.StartsAt.{StartsAt, NotThere, no-address, none-starts, NotProtected, write-execute, not-there}
 use Rattle.effect.proofs.MapRefused.{map-refused}
 use Rattle.effect.proofs.Exactly.{unmap-exactly, protect-exactly, told-exactly}
 use Rattle.effect.proofs.Wholes.{book-opens}
@@ -36,12 +38,12 @@ use Rattle.tablepath.specs.Answers as the
 use Rattle.abi.specs.ReasonNumbers as why
 use Rattle.abi.specs.ReasonNumbers.{reasonOf, numberOf}
 use Rattle.abi.specs.Answers.{rightsIn, mappedToC, unmappedToC, protectedToC, toldToC}
-use Rattle.abi.specs.Calls.{siteOf, askedSite, shapedSite, mapSite, ask, createAnswer, mapAnswer, unmapAnswer, protectAnswer, toldAnswer}
+use Rattle.abi.specs.Calls.{siteOf, askedSite, shapedSite, strictSite, mapSite, protectSite, ask, createAnswer, mapAnswer, unmapAnswer, protectAnswer, toldAnswer}
 use Rattle.abi.specs.Relied as c
 use Rattle.abi.specs.Relied.{Numbers, spaceOf, asked, granted, WholeAt, Call, KnownRights, reason, tpCreate, tpMap, tpUnmap, tpProtect, tpTold}
-use Rattle.abi.specs.Reasons.{MapReasons, StartReasons, ProtectReasons, ToldReasons, WellShaped, SiteReasons, CreateReasons}
+use Rattle.abi.specs.Reasons.{MapReasons, StartReasons, ProtectReasons, ToldReasons, WellShaped, AsksBoth, SiteReasons, CreateReasons}
 use Rattle.abi.specs.declared.sites.Sited.the-variants.{Refused}
-use Rattle.abi.proofs.Named.{map-answers, unmap-answers, protect-answers, told-answers}
+use Rattle.abi.proofs.Named.{rights-granted, map-answers, unmap-answers, protect-answers, told-answers}
 use Rattle.abi.proofs.Meant.{below-8, meant, rights-causes, map-given, protect-given}
 use Rattle.abi.proofs.Reasons.{one-reason, never-done, never-rights}
 
@@ -90,6 +92,26 @@ none-starts-is {σ} {m} {va} = (λ k. go NothingStarts k refl, λ k. none-starts
     go : (y : Reason) → NotThere σ m va y → y ≡ NothingStarts → (canonical va ≡ true) × (¬ StartsAt σ m va)
     go y (none-starts u n) e = (u, n)
     go y (no-address u) e = let z : _≡_ {A = ℕ} 0 1 = cc in absurd (omega arith)
+
+-- why protect is refused, as three
+module _ {σ : Setting} {m : ℕ → ℕ} {va : ℕ} {r : Rights} where
+  both-is : NotProtected σ m va r WriteExecute ↔ (writeExecute r ≡ true)
+  both-is = (λ k. go WriteExecute k refl, write-execute)
+    where
+      go : (y : Reason) → NotProtected σ m va r y → y ≡ WriteExecute → writeExecute r ≡ true
+      go y (write-execute x) e = x
+      go y (not-there z x n) e = absurd (not-there-both y n e)
+        where
+          not-there-both : (y : Reason) → NotThere σ m va y → y ≡ WriteExecute → ⊥
+          not-there-both y (no-address u) e = let z : _≡_ {A = ℕ} 0 1 = cc in omega arith
+          not-there-both y (none-starts u n) e = let z : _≡_ {A = ℕ} 0 1 = cc in omega arith
+
+  found-not : (y : Reason) → y ≢ WriteExecute → NotProtected σ m va r y ↔ ((writeExecute r ≡ false) × NotThere σ m va y)
+  found-not y other = (λ k. go y other k, λ k. not-there y (k .0) (k .1))
+    where
+      go : (y : Reason) → y ≢ WriteExecute → NotProtected σ m va r y → (writeExecute r ≡ false) × NotThere σ m va y
+      go y other (write-execute x) = absurd (other refl)
+      go y other (not-there z x n) = (x, n)
 
 -- In a space that is whole ---------------------------------------------------------------------------------------------------------------
 
@@ -143,15 +165,28 @@ module _ (s : List ℕ) (n : Numbers) (w : WholeAt s n) where
 
   -- PROTECT
   module _ (base rights : ℕ) where
-    starts-by : rights < 8 → StartReasons (tpProtect s n base rights .reason) base (StartsAt (settingOf (holds s (n .origin)) (spaceOf n)) (memory s (n .origin)) base)
+    abbrev Starts : Type 0
+    Starts = StartsAt (settingOf (holds s (n .origin)) (spaceOf n)) (memory s (n .origin)) base
+
+    protect-by : rights < 8 → (y : Reason) → (tpProtect s n base rights .reason ≡ reasonOf y)
+        ↔ NotProtected (settingOf (holds s (n .origin)) (spaceOf n)) (memory s (n .origin)) base (granted rights) y
     unfolding the.protectAnswer
-    starts-by l =
-        let k = protect-exactly (w .whole) base (granted rights) in
-        rw (protect-answers n (w .aligned) s base rights l) (record {
-          done = along (protect-zero _) (k .succeeds);
-          base-range = along (protect-number _ BaseRange) (along (k .refused BaseRange) no-address-is);
-          nothing-starts = along (protect-number _ NothingStarts) (along (k .refused NothingStarts) none-starts-is);
-        })
+    protect-by l y = rw (protect-answers n (w .aligned) s base rights l) (along (protect-number _ y) (protect-exactly (w .whole) base (granted rights) .refused y))
+
+    done-by : rights < 8 → (tpProtect s n base rights .reason ≡ 0) ↔ ((writeExecute (granted rights) ≡ false) × Starts)
+    unfolding the.protectAnswer
+    done-by l = rw (protect-answers n (w .aligned) s base rights l) (along (protect-zero _) (protect-exactly (w .whole) base (granted rights) .succeeds))
+
+    -- an answer k of which this is so where the rights mean something
+    of-known : {A : Type 0} (k : ℕ) → k ≢ numberOf why.rights → (rights < 8 → (tpProtect s n base rights .reason ≡ k) ↔ A) → (tpProtect s n base rights .reason ≡ k) ↔ ((rights < 8) × A)
+    of-known k other f = (λ e. let l = protect-given s n base rights k e other in (l, f l .0 e), λ a. f (a .0) .1 (a .1))
+
+    -- no page was found: the rights are not both
+    missed : (y : Reason) → y ≢ WriteExecute → {A : Type 0} → NotThere (settingOf (holds s (n .origin)) (spaceOf n)) (memory s (n .origin)) base y ↔ A
+        → (tpProtect s n base rights .reason ≡ reasonOf y) ↔ (((rights < 8) × (writeExecute (granted rights) ≡ false)) × A)
+    missed y other f =
+        let k = of-known (reasonOf y) (never-rights y) (λ l. along (protect-by l y) (found-not y other)) in
+        (λ e. let a = k .0 e in ((a .0, a .1 .0), f .0 (a .1 .1)), λ a. k .1 (a .0 .0, (a .0 .1, f .1 (a .1))))
 
     not-rights : rights < 8 → tpProtect s n base rights .reason ≢ numberOf why.rights
     unfolding the.protectAnswer protectedToC the.protectSaid
@@ -165,9 +200,10 @@ module _ (s : List ℕ) (n : Numbers) (w : WholeAt s n) where
     unfolding reason
     protect-causes = record {
       rights-mean = (λ e. go e (below-8 rights), λ l. rights-causes s n (c.protect base rights) (omega (arith, l)));
-      done = (λ e. let l = protect-given s n base rights 0 e (omega arith) in (l, starts-by l .done .0 e), λ k. starts-by (k .0) .done .1 (k .1));
-      base-range = (λ e. let l = protect-given s n base rights (reasonOf BaseRange) e (never-rights BaseRange) in (l, starts-by l .base-range .0 e), λ k. starts-by (k .0) .base-range .1 (k .1));
-      nothing-starts = (λ e. let l = protect-given s n base rights (reasonOf NothingStarts) e (never-rights NothingStarts) in (l, starts-by l .nothing-starts .0 e), λ k. starts-by (k .0) .nothing-starts .1 (k .1));
+      write-execute = of-known (reasonOf WriteExecute) (never-rights WriteExecute) (λ l. along (protect-by l WriteExecute) both-is);
+      done = let k = of-known 0 (λ e. omega (arith, e)) done-by in (λ e. let a = k .0 e in ((a .0, a .1 .0), a .1 .1), λ a. k .1 (a .0 .0, (a .0 .1, a .1)));
+      base-range = missed BaseRange (λ e. let z : _≡_ {A = ℕ} 0 1 = cc in omega arith) no-address-is;
+      nothing-starts = missed NothingStarts (λ e. let z : _≡_ {A = ℕ} 0 1 = cc in omega arith) none-starts-is;
     }
       where
         go : tpProtect s n base rights .reason ≡ numberOf why.rights → (rights < 8) ⊎ (8 ≤ rights) → 8 ≤ rights
@@ -206,29 +242,49 @@ module _ (s : List ℕ) (n : Numbers) (w : WholeAt s n) where
 -- Numbers that name no space -------------------------------------------------------------------------------------------------------------
 
 module _ (s : List ℕ) (n : Numbers) where
+  -- what map is asked, in its parts
+  asked-shape : (base frame size rights l : ℕ) (b : Bool) → shapeOf size base frame ≡ Level l → writeExecute (granted rights) ≡ b
+      → allowedOf (ask base frame size rights) ≡ cond b (Bad WriteExecute) (Level l)
+  unfolding allowedOf strictOf
+  asked-shape base frame size rights l b e x = rw (e, rights-granted rights, x)
+
   -- what every call says of it
-  refused-says : (x : Call) → KnownRights x → WellShaped x → (k : ℕ) → siteOf (n .origin) (n .pool) (n .pages) (n .root) ≡ Refused k → reason s n x ≡ k
-  unfolding reason askedSite shapedSite mapAnswer unmapAnswer protectAnswer toldAnswer
-  refused-says (c.map base frame size rights) m l k e =
-      let site : mapSite (n .origin) (n .pool) (n .pages) (n .root) base frame size rights ≡ Refused k = meant rights _ m ∙ rw (l .1) e in
+  refused-says : (x : Call) → KnownRights x → WellShaped x → AsksBoth false x → (k : ℕ) → siteOf (n .origin) (n .pool) (n .pages) (n .root) ≡ Refused k → reason s n x ≡ k
+  unfolding reason askedSite shapedSite strictSite mapAnswer unmapAnswer protectAnswer toldAnswer
+  refused-says (c.map base frame size rights) m l b k e =
+      let site : mapSite (n .origin) (n .pool) (n .pages) (n .root) base frame size rights ≡ Refused k = meant rights _ m ∙ rw (asked-shape base frame size rights (l .0) false (l .1) b) e in
       ap (λ x. mapAnswer s (ask base frame size rights) x .reason) site
-  refused-says (c.unmap base) m l k e = ap (λ x. unmapAnswer s base x .reason) e
-  refused-says (c.protect base rights) m l k e = ap (λ x. protectAnswer s base (rightsIn rights) x .reason) (meant rights _ m ∙ e)
-  refused-says (c.told ticket) m l k e = ap (λ x. toldAnswer s ticket x .reason) e
+  refused-says (c.unmap base) m l b k e = ap (λ x. unmapAnswer s base x .reason) e
+  refused-says (c.protect base rights) m l b k e =
+      let site : protectSite (n .origin) (n .pool) (n .pages) (n .root) rights ≡ Refused k = meant rights _ m ∙ rw (rights-granted rights, b) e in
+      ap (λ x. protectAnswer s base (rightsIn rights) x .reason) site
+  refused-says (c.told ticket) m l b k e = ap (λ x. toldAnswer s ticket x .reason) e
 
   -- what map is asked comes before
   pub shape-causes : (base frame size rights : ℕ) → rights < 8 → (y : Reason) → shapeOf size base frame ≡ Bad y → tpMap s n base frame size rights .reason ≡ reasonOf y
-  unfolding askedSite shapedSite mapAnswer
+  unfolding askedSite shapedSite allowedOf strictOf mapAnswer
   shape-causes base frame size rights m y e =
       let site : mapSite (n .origin) (n .pool) (n .pages) (n .root) base frame size rights ≡ Refused (reasonOf y) = meant rights _ m ∙ rw e in
       ap (λ x. mapAnswer s (ask base frame size rights) x .reason) site
 
+  -- then whether the page would be writable and executable
+  pub both-causes : (x : Call) → KnownRights x → WellShaped x → AsksBoth true x → reason s n x ≡ reasonOf WriteExecute
+  unfolding reason askedSite shapedSite strictSite mapAnswer protectAnswer
+  both-causes (c.map base frame size rights) m l b =
+      let site : mapSite (n .origin) (n .pool) (n .pages) (n .root) base frame size rights ≡ Refused (reasonOf WriteExecute) = meant rights _ m ∙ rw (asked-shape base frame size rights (l .0) true (l .1) b) in
+      ap (λ x. mapAnswer s (ask base frame size rights) x .reason) site
+  both-causes (c.unmap base) m l b = absurd (true≢false b)
+  both-causes (c.protect base rights) m l b =
+      let site : protectSite (n .origin) (n .pool) (n .pages) (n .root) rights ≡ Refused (reasonOf WriteExecute) = meant rights _ m ∙ rw (rights-granted rights, b) in
+      ap (λ x. protectAnswer s base (rightsIn rights) x .reason) site
+  both-causes (c.told ticket) m l b = absurd (true≢false b)
+
   -- then the space
-  pub site-causes : (x : Call) → KnownRights x → WellShaped x → SiteReasons (reason s n x) n
+  pub site-causes : (x : Call) → KnownRights x → WellShaped x → AsksBoth false x → SiteReasons (reason s n x) n
   unfolding siteOf
-  site-causes x m l = record {
-    pool-unaligned = λ p. refused-says x m l (numberOf why.pool-unaligned) (rw (ne-eqb _ _ p));
-    root-unaligned = λ p r. refused-says x m l (numberOf why.root-unaligned) (rw (eq-eqb _ _ p, ne-eqb _ _ r));
+  site-causes x m l b = record {
+    pool-unaligned = λ p. refused-says x m l b (numberOf why.pool-unaligned) (rw (ne-eqb _ _ p));
+    root-unaligned = λ p r. refused-says x m l b (numberOf why.root-unaligned) (rw (eq-eqb _ _ p, ne-eqb _ _ r));
   }
 
 pub create-causes : (s : List ℕ) (origin pool pages : ℕ) → CreateReasons (tpCreate s origin pool pages .reason) (length s) origin pool

@@ -1,6 +1,7 @@
 -- ONE HANDLE, by the numbers that C gives. In a whole space a call with other pages, another root or another page of the pool as its first is
 -- refused and touches nothing; and no call on one space touches another.
 use Prim.Native.Nat.{ℕ, _+_, _*_, _/_, _%_, _<_, _≤_}
+use mathlib.Core.Bool.{Bool, true, false, cond}
 use mathlib.Core.List.{List}
 use mathlib.Core.Logic.{_⊎_, inl, inr, _≢_}
 use mathlib.Core.Path.{_≡_, refl, sym, ap, _∙_, subst}
@@ -8,15 +9,17 @@ use native.Mathlib.Decide.{ℕ-discrete}
 use native.Mathlib.Omega.{arith}
 use borrow.Author.Tests.{eq-eqb, ne-eqb}
 use Rattle.word.specs.Memory.{memory, holds}
-use Rattle.plan.specs.Map.{shapeOf}
+use Rattle.plan.specs.Map.{allowedOf}
+use Rattle.plan.specs.Rights.{writeExecute}
+use Rattle.plan.specs.declared.Reason.the-variants.{WriteExecute}
 use Rattle.plan.specs.declared.maps.Asked.{Asked}
 use Rattle.plan.specs.declared.maps.Shape.{Shape}
 use Rattle.plan.specs.declared.maps.Shape.the-variants.{Level, Bad}
 use Rattle.tablepath.specs.Handles as the
 use Rattle.tablepath.proofs.Handles.{other-numbers, other-first, others-kept}
-use Rattle.abi.specs.ReasonNumbers.{numberOf, pool-unaligned, root-unaligned}
+use Rattle.abi.specs.ReasonNumbers.{reasonOf, numberOf, pool-unaligned, root-unaligned}
 use Rattle.abi.specs.Answers.{rightsIn, mappedToC, unmappedToC, protectedToC, toldToC}
-use Rattle.abi.specs.Calls.{siteOf, shapedSite, askedSite, ask, mapAnswer, unmapAnswer, protectAnswer, toldAnswer}
+use Rattle.abi.specs.Calls.{siteOf, shapedSite, askedSite, strictSite, ask, mapAnswer, unmapAnswer, protectAnswer, toldAnswer}
 use Rattle.abi.specs.Relied as c
 use Rattle.abi.specs.Relied.{Numbers, AlignedNumbers, spaceOf, WholeAt, Call, callOf, leaves, reason}
 use Rattle.abi.specs.Handles.{Rejected, Disjoint}
@@ -46,17 +49,26 @@ module _ (s : List ℕ) (n : Numbers) where
   shaped-astray q (Level l) y d = d
   shaped-astray q (Bad r) y d = never-done r
 
+  strict-astray : (base rights y : ℕ) → y ≢ 0 → protectAnswer s base (rightsIn rights) (strictSite rights (Refused y)) .reason ≢ 0
+  unfolding protectAnswer strictSite
+  strict-astray base rights y d = go (writeExecute (rightsIn rights))
+    where
+      go : (b : Bool) → protectAnswer s base (rightsIn rights) (cond b (Refused (reasonOf WriteExecute)) (Refused y)) .reason ≢ 0
+      go true = never-done WriteExecute
+      go false = d
+
   astray : (y : ℕ) → y ≢ 0 → siteOf (n .origin) (n .pool) (n .pages) (n .root) ≡ Refused y → (x : Call) → reason s n x ≢ 0
   unfolding reason unmapAnswer protectAnswer toldAnswer askedSite
   astray y d e (c.map base frame size rights) k =
       let q = ask base frame size rights in
       let m = meant rights (askedSite (n .origin) (n .pool) (n .pages) (n .root) q) (map-meant s n base frame size rights k) in
-      let j : mapAnswer s q (shapedSite (shapeOf size base frame) (siteOf (n .origin) (n .pool) (n .pages) (n .root))) .reason ≡ 0 = subst (λ (z : Sited). mapAnswer s q z .reason ≡ 0) m k in
-      shaped-astray q (shapeOf size base frame) y d (subst (λ (z : Sited). mapAnswer s q (shapedSite (shapeOf size base frame) z) .reason ≡ 0) e j)
+      let j : mapAnswer s q (shapedSite (allowedOf q) (siteOf (n .origin) (n .pool) (n .pages) (n .root))) .reason ≡ 0 = subst (λ (z : Sited). mapAnswer s q z .reason ≡ 0) m k in
+      shaped-astray q (allowedOf q) y d (subst (λ (z : Sited). mapAnswer s q (shapedSite (allowedOf q) z) .reason ≡ 0) e j)
   astray y d e (c.unmap base) k = d (subst (λ (z : Sited). unmapAnswer s base z .reason ≡ 0) e k)
   astray y d e (c.protect base rights) k =
-      let m = meant rights (siteOf (n .origin) (n .pool) (n .pages) (n .root)) (protect-meant s n base rights k) in
-      d (subst (λ (z : Sited). protectAnswer s base (rightsIn rights) z .reason ≡ 0) (m ∙ e) k)
+      let m = meant rights (strictSite rights (siteOf (n .origin) (n .pool) (n .pages) (n .root))) (protect-meant s n base rights k) in
+      let j : protectAnswer s base (rightsIn rights) (strictSite rights (siteOf (n .origin) (n .pool) (n .pages) (n .root))) .reason ≡ 0 = subst (λ (z : Sited). protectAnswer s base (rightsIn rights) z .reason ≡ 0) m k in
+      strict-astray base rights y d (subst (λ (z : Sited). protectAnswer s base (rightsIn rights) (strictSite rights z) .reason ≡ 0) e j)
   astray y d e (c.told ticket) k = d (subst (λ (z : Sited). toldAnswer s ticket z .reason ≡ 0) e k)
 
   rejected : (x : Call) → reason s n x ≢ 0 → Rejected s n x

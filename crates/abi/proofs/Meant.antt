@@ -10,7 +10,7 @@ use borrow.Author.Tests.{lt-ltb, le-ltb, ltb-true, ltb-false}
 use Rattle.abi.specs.ReasonNumbers as why
 use Rattle.abi.specs.ReasonNumbers.{numberOf}
 use Rattle.abi.specs.Answers.{rightsIn}
-use Rattle.abi.specs.Calls.{siteOf, askedSite, ask, rightsSite, bytesAfter, mapAnswer, mapWrites, protectAnswer, protectWrites}
+use Rattle.abi.specs.Calls.{siteOf, askedSite, strictSite, ask, rightsSite, bytesAfter, mapAnswer, mapWrites, protectAnswer, protectWrites}
 use Rattle.abi.specs.Relied as c
 use Rattle.abi.specs.Relied.{Numbers, Call, KnownRights, leaves, reason, tpMap, tpProtect}
 use Rattle.abi.specs.declared.sites.Sited.{Sited}
@@ -40,7 +40,7 @@ module _ (s : List ℕ) (n : Numbers) where
       (meaningless rights (askedSite (n .origin) (n .pool) (n .pages) (n .root) (ask base frame size rights)) (omega (arith, k)))
   rights-causes (c.unmap base) k = absurd (k tt)
   rights-causes (c.protect base rights) k =
-      ap (λ x. protectAnswer s base (rightsIn rights) x .reason) (meaningless rights (siteOf (n .origin) (n .pool) (n .pages) (n .root)) (omega (arith, k)))
+      ap (λ x. protectAnswer s base (rightsIn rights) x .reason) (meaningless rights (strictSite rights (siteOf (n .origin) (n .pool) (n .pages) (n .root))) (omega (arith, k)))
   rights-causes (c.told ticket) k = absurd (k tt)
 
   -- a call that means something, or one that leaves every byte
@@ -56,7 +56,7 @@ module _ (s : List ℕ) (n : Numbers) where
     where
       go : (rights < 8) ⊎ (8 ≤ rights) → (rights < 8) ⊎ (leaves s n (c.protect base rights) ≡ s)
       go (inl l) = inl l
-      go (inr l) = inr (rw (meaningless rights (siteOf (n .origin) (n .pool) (n .pages) (n .root)) l))
+      go (inr l) = inr (rw (meaningless rights (strictSite rights (siteOf (n .origin) (n .pool) (n .pages) (n .root))) l))
   meant-or-same (c.told ticket) = inl tt
 
   -- any other answer is given to rights that mean something

@@ -14,11 +14,11 @@ use Rattle.pool.specs.State.{stateOf}
 use Rattle.tablepath.specs.Calls.{callWrites}
 use Rattle.tablepath.specs.Answers as the
 use Rattle.abi.specs.Answers.{rightsIn, rightsWord, mappedToC, unmappedToC, protectedToC, toldToC, countedToC}
-use Rattle.abi.specs.Calls.{siteOf, askedSite, ask, bytesAfter, unmapAnswer, protectAnswer, toldAnswer, stateAnswer}
+use Rattle.abi.specs.Calls.{siteOf, askedSite, strictSite, ask, bytesAfter, unmapAnswer, protectAnswer, toldAnswer, stateAnswer}
 use Rattle.abi.specs.Relied as c
 use Rattle.abi.specs.Relied.{Numbers, AlignedNumbers, spaceOf, Call, KnownRights, callOf, granted, asked, leaves, tpMap, tpUnmap, tpProtect, tpTold, tpState}
 use Rattle.abi.specs.declared.sites.Sited.the-variants.{At}
-use Rattle.abi.proofs.Asked.{answer-asked, bytes-asked}
+use Rattle.abi.proofs.Asked.{answer-asked, bytes-asked, strict-answer, strict-bytes}
 use Rattle.abi.proofs.Meant.{meant}
 
 -- Rights -----------------------------------------------------------------------------------------------------------------------------
@@ -59,7 +59,8 @@ module _ (n : Numbers) (a : AlignedNumbers n) where
         rw (meant rights (askedSite (n .origin) (n .pool) (n .pages) (n .root) (ask base frame size rights)) l)
         (bytes-asked (ask base frame size rights) (n .origin) (n .pool) (n .pages) (n .root) s (spaceOf n) named ∙ rw (rights-granted rights))
     call-leaves (c.unmap base) l = rw named
-    call-leaves (c.protect base rights) l = rw (meant rights (siteOf (n .origin) (n .pool) (n .pages) (n .root)) l, named, rights-granted rights)
+    call-leaves (c.protect base rights) l =
+        rw (meant rights (strictSite rights (siteOf (n .origin) (n .pool) (n .pages) (n .root))) l, named) (strict-bytes rights base s (spaceOf n) ∙ rw (rights-granted rights))
     call-leaves (c.told ticket) l = rw named
 
     -- and the answers
@@ -75,8 +76,8 @@ module _ (n : Numbers) (a : AlignedNumbers n) where
 
     pub protect-answers : (base rights : ℕ) → rights < 8 → tpProtect s n base rights
         ≡ protectedToC (the.protectAnswer (holds s (n .origin)) (memory s (n .origin)) (spaceOf n) base (granted rights))
-    unfolding protectAnswer
-    protect-answers base rights l = rw (meant rights (siteOf (n .origin) (n .pool) (n .pages) (n .root)) l, named, rights-granted rights)
+    protect-answers base rights l =
+        rw (meant rights (strictSite rights (siteOf (n .origin) (n .pool) (n .pages) (n .root))) l, named) (strict-answer rights base s (spaceOf n) ∙ rw (rights-granted rights))
 
     pub told-answers : (ticket : ℕ) → tpTold s n ticket ≡ toldToC (the.toldAnswer (holds s (n .origin)) (memory s (n .origin)) (spaceOf n) ticket)
     unfolding toldAnswer

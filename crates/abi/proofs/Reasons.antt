@@ -41,6 +41,7 @@ in-header unknown = refl
 in-header spent = refl
 in-header rights = refl
 in-header pointer = refl
+in-header (refused plan.WriteExecute) = refl
 
 -- tools/reasons: end
 

@@ -28,7 +28,7 @@ module _ (s : List ℕ) (e : length s ≡ 20480) where
   pub five-whole : WholeAt (createLeaves s 0 0 5) five
   five-whole = rw five-made at (create-done s 0 0 5 (rw five-made) .whole)
 
-  -- writable, for users
-  pub five-mapped : tpMap (createLeaves s 0 0 5) five 0 1048576 4096 3 .reason ≡ 0
+  -- writable, for users, not executable
+  pub five-mapped : tpMap (createLeaves s 0 0 5) five 0 1048576 4096 7 .reason ≡ 0
   unfolding granted bit mappedToC the.mapAnswer the.mapSaid
-  five-mapped = rw (map-answers five (five-whole .aligned) (createLeaves s 0 0 5) 0 1048576 4096 3 (omega arith), create-leaves s 0 0 5 refl, rw one-page at (goes s e .1))
+  five-mapped = rw (map-answers five (five-whole .aligned) (createLeaves s 0 0 5) 0 1048576 4096 7 (omega arith), create-leaves s 0 0 5 refl, rw one-page at (goes s e .1))

@@ -12,8 +12,10 @@ use Rattle.walk.specs.Walk.{walk}
 use Rattle.pool.specs.State.{stateOf}
 use Rattle.pool.specs.declared.Space.{Space}
 use Rattle.pool.specs.declared.Reason.the-variants.{OriginUnaligned, LengthUnaligned}
-use Rattle.plan.specs.Map.{shapeOf, decideOf}
+use Rattle.plan.specs.Map.{allowedOf, decideOf}
 use Rattle.plan.specs.AtOnce as plan
+use Rattle.plan.specs.Rights.{writeExecute}
+use Rattle.plan.specs.declared.Reason.the-variants.{WriteExecute}
 use Rattle.plan.specs.declared.direct.Once.{Once}
 use Rattle.plan.specs.declared.direct.Once.the-variants.{Unsaid}
 use Rattle.plan.specs.declared.maps.Asked.{Asked}
@@ -50,7 +52,7 @@ shapedSite (Bad y) s = Refused (reasonOf y)
 
 -- for map, what is asked is looked at first
 unfoldable pub askedSite : ℕ → ℕ → ℕ → ℕ → Asked → Sited
-askedSite origin pool pages root q = shapedSite (shapeOf (q .size) (q .base) (q .frame)) (siteOf origin pool pages root)
+askedSite origin pool pages root q = shapedSite (allowedOf q) (siteOf origin pool pages root)
 
 -- where there is no space, for the reason y
 unfoldable pub misplacedBy : ℕ → Shape → ℕ
@@ -58,7 +60,7 @@ misplacedBy y (Level n) = y
 misplacedBy y (Bad r) = reasonOf r
 
 unfoldable pub misplacedOf : Asked → ℕ → ℕ
-misplacedOf q y = misplacedBy y (shapeOf (q .size) (q .base) (q .frame))
+misplacedOf q y = misplacedBy y (allowedOf q)
 
 abbrev pub ask : ℕ → ℕ → ℕ → ℕ → Asked
 ask base frame size rights = record { base = base; frame = frame; size = size; rights = rightsIn rights }
@@ -70,8 +72,12 @@ rightsSite rights s = cond (ltb rights 8) s (Refused (numberOf why.rights))
 abbrev pub mapSite : ℕ → ℕ → ℕ → ℕ → ℕ → ℕ → ℕ → ℕ → Sited
 mapSite origin pool pages root base frame size rights = rightsSite rights (askedSite origin pool pages root (ask base frame size rights))
 
+-- and protect, behind that, whether the page would be writable and executable; map looks at that behind its ranges
+unfoldable pub strictSite : ℕ → Sited → Sited
+strictSite rights s = cond (writeExecute (rightsIn rights)) (Refused (reasonOf WriteExecute)) s
+
 abbrev pub protectSite : ℕ → ℕ → ℕ → ℕ → ℕ → Sited
-protectSite origin pool pages root rights = rightsSite rights (siteOf origin pool pages root)
+protectSite origin pool pages root rights = rightsSite rights (strictSite rights (siteOf origin pool pages root))
 
 -- Bytes and writes -----------------------------------------------------------------------------------------------------------------
 

@@ -30,6 +30,7 @@ reasonOf plan.NoRoom = 8
 reasonOf plan.NothingStarts = 9
 reasonOf plan.Stray = 10
 reasonOf plan.BadList = 11
+reasonOf plan.WriteExecute = 27
 
 -- what the field `reason` says: done, an operation's own reason (the pool's among them), or one of six more, the last of which
 -- the header says, and not the library
@@ -62,6 +63,6 @@ header =
     ∷ refused plan.BadList ∷ refused (plan.Pool pool.OriginUnaligned) ∷ refused (plan.Pool pool.LengthUnaligned) ∷ pool-unaligned
     ∷ root-unaligned ∷ refused (plan.Pool pool.PoolLarge) ∷ refused (plan.Pool pool.PoolSmall) ∷ refused (plan.Pool pool.PoolOutside)
     ∷ refused (plan.Pool pool.BadRoot) ∷ refused (plan.Pool pool.NoBook) ∷ refused (plan.Pool pool.OtherBook)
-    ∷ refused (plan.Pool pool.BadBook) ∷ unknown ∷ spent ∷ rights ∷ pointer
+    ∷ refused (plan.Pool pool.BadBook) ∷ unknown ∷ spent ∷ rights ∷ pointer ∷ refused plan.WriteExecute
     -- tools/reasons: end
     ∷ []

@@ -1,7 +1,7 @@
 -- WHAT C'S NUMBERS SAY: what each answer says of the operation's, and when each reason is given. The numbers are in ReasonNumbers; the laws are
 -- in proofs/Reasons.antt, proofs/Says.antt and proofs/Causes.antt.
 use Prim.Native.Nat.{ℕ, _/_, _%_, _^_, _<_, _≤_}
-use mathlib.Core.Bool.{true, false}
+use mathlib.Core.Bool.{Bool, true, false}
 use mathlib.Core.Logic.{_↔_, _⊎_, _≢_}
 use mathlib.Core.Path.{_≡_}
 use Rattle.walk.specs.Walk.{canonical}
@@ -18,8 +18,9 @@ use Rattle.pool.specs.declared.moment.Stated.the-variants as state
 use Rattle.pool.specs.declared.Created as ofPool
 use Rattle.pool.specs.declared.Created.the-variants as create
 use Rattle.plan.specs.declared.Reason.{Reason}
-use Rattle.plan.specs.declared.Reason.the-variants.{BaseRange, NothingStarts}
+use Rattle.plan.specs.declared.Reason.the-variants.{BaseRange, NothingStarts, WriteExecute}
 use Rattle.plan.specs.Map.{shapeOf}
+use Rattle.plan.specs.Rights.{writeExecute}
 use Rattle.plan.specs.declared.maps.Shape.the-variants.{Level}
 use Rattle.tablepath.specs.declared.Mapped as ofMap
 use Rattle.tablepath.specs.declared.Mapped.the-variants as map
@@ -97,12 +98,17 @@ pub record StartReasons (n base : ℕ) (starts : Type 0) : Type 0 where
   pub base-range : (n ≡ reasonOf BaseRange) ↔ (canonical base ≡ false)
   pub nothing-starts : (n ≡ reasonOf NothingStarts) ↔ ((canonical base ≡ true) × (¬ starts))
 
+-- rights that mean something, and are not both writable and executable
+abbrev pub Grantable : ℕ → Type 0
+Grantable rights = (rights < 8) × (writeExecute (granted rights) ≡ false)
+
 -- by protect: the rights, then the same
 pub record ProtectReasons (n rights base : ℕ) (starts : Type 0) : Type 0 where
   pub rights-mean : (n ≡ numberOf why.rights) ↔ (8 ≤ rights)
-  pub done : (n ≡ 0) ↔ ((rights < 8) × starts)
-  pub base-range : (n ≡ reasonOf BaseRange) ↔ ((rights < 8) × (canonical base ≡ false))
-  pub nothing-starts : (n ≡ reasonOf NothingStarts) ↔ ((rights < 8) × ((canonical base ≡ true) × (¬ starts)))
+  pub write-execute : (n ≡ reasonOf WriteExecute) ↔ ((rights < 8) × (writeExecute (granted rights) ≡ true))
+  pub done : (n ≡ 0) ↔ (Grantable rights × starts)
+  pub base-range : (n ≡ reasonOf BaseRange) ↔ (Grantable rights × (canonical base ≡ false))
+  pub nothing-starts : (n ≡ reasonOf NothingStarts) ↔ (Grantable rights × ((canonical base ≡ true) × (¬ starts)))
 
 -- by told, with this book: whether the ticket was handed out, and whether it is one of the first 2^62
 pub record ToldReasons (n : ℕ) (b : Book) (ticket : ℕ) : Type 0 where
@@ -121,12 +127,19 @@ pub record StateCounts (x : Counts) (n : Numbers) (b : Book) (role : ℕ → Rol
 
 -- Numbers that name no space, whatever the bytes -----------------------------------------------------------------------------------------
 
--- after the rights, map looks at its size, alignments and ranges; of the others nothing else is looked at before the space
+-- map's size, alignments and ranges fit; of the others there are none
 abbrev pub WellShaped : Call → Type 0
 WellShaped (c.map base frame size w) = (l : ℕ) × (shapeOf size base frame ≡ Level l)
 WellShaped (c.unmap base) = Unit {0}
 WellShaped (c.protect base w) = Unit {0}
 WellShaped (c.told ticket) = Unit {0}
+
+-- it asks for a page that is writable and executable, or not: map and protect look at that next, and at nothing else before the space
+abbrev pub AsksBoth : Bool → Call → Type 0
+AsksBoth b (c.map base frame size w) = writeExecute (granted w) ≡ b
+AsksBoth b (c.unmap base) = b ≡ false
+AsksBoth b (c.protect base w) = writeExecute (granted w) ≡ b
+AsksBoth b (c.told ticket) = b ≡ false
 
 pub record SiteReasons (k : ℕ) (n : Numbers) : Type 0 where
   pub pool-unaligned : n .pool % 4096 ≢ 0 → k ≡ numberOf pool-unaligned

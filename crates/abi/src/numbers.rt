@@ -53,6 +53,8 @@ pub const SPENT: u64 = 24;
 
 pub const RIGHTS: u64 = 25;
 
+pub const WRITE_EXECUTE: u64 = 27;
+
 // tools/reasons: end
 
 // The number of a reason that the pool has.
@@ -82,6 +84,7 @@ pub fn reason(r: plan::Reason) -> u64
         plan::Reason::FrameUnaligned => FRAME_UNALIGNED,
         plan::Reason::BaseRange => BASE_RANGE,
         plan::Reason::FrameRange => FRAME_RANGE,
+        plan::Reason::WriteExecute => WRITE_EXECUTE,
         plan::Reason::Pool(y) => pool_reason(y),
         plan::Reason::FrameInPool => FRAME_IN_POOL,
         plan::Reason::Overlap => OVERLAP,

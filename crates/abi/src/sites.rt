@@ -46,12 +46,12 @@ pub fn sited(origin: u64, pool: u64, pages: u64, root: u64) -> Sited
     site(origin, pool, pages, root)
 }
 
-// Why map is refused where there is no space, for the reason y: its size, alignment and range come first. Where there is one, map
+// Why map is refused where there is no space, for the reason y: its size, alignment, range and rights come first. Where there is one, map
 // itself looks at them first.
 pub fn misplaced(q: Asked, y: u64) -> u64
     ensures { λ r. ⌜ r ≡ call.misplacedOf q y ⌝ }
 {
-    let s = plan::shaped(q.size, q.base, q.frame);
+    let s = plan::allowed(q);
     match s {
         Shape::Bad(r) => crate::numbers::reason(r),
         Shape::Level(n) => y,

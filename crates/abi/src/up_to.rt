@@ -88,6 +88,15 @@ pub fn protect_up_to(
             ticket: 0,
         };
     }
+    let granted = crate::answers::rights(rights);
+    if plan::write_execute(granted) {
+        return Protected {
+            reason: crate::numbers::WRITE_EXECUTE,
+            frame: 0,
+            size: 0,
+            ticket: 0,
+        };
+    }
     let s = crate::sites::sited(origin, pool, pages, root);
     match s {
         Sited::Refused(y) => Protected {
@@ -101,7 +110,7 @@ pub fn protect_up_to(
             left,
             space,
             base,
-            crate::answers::rights(rights),
+            granted,
         )),
     }
 }

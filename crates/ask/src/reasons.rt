@@ -18,6 +18,7 @@ pub fn refused(r: Reason) {
         Reason::NothingStarts => because(b"no page starts at the base"),
         Reason::Stray => because(b"the way leads to a table that is not of the pool"),
         Reason::BadList => because(b"the book lists as free what it can't"),
+        Reason::WriteExecute => because(b"the page would be writable and executable"),
         // tools/reasons: end
     }
 }

@@ -26,6 +26,15 @@ fn ranges(mem: &mut [u8]) {
     usual::map(mem, 0x1000, 0x10_0000_0000_0000, 0x20_0000);
 }
 
+fn rights(mem: &mut [u8]) {
+    say::text(
+        b" writable and executable: a page of the pool, the page that is there; and what no size fits\n",
+    );
+    usual::map_both(mem, 0x1000, 0x10_3000, 0x20_0000);
+    usual::protect_both(mem, HERE);
+    usual::map_both(mem, 8192, 0x20_0000, 0x20_0000);
+}
+
 fn frames(mem: &mut [u8]) {
     say::text(b" a page of the pool, and 2 MiB with the pool in their middle\n");
     usual::map(mem, 0x1000, 0x10_3000, 0x20_0000);
@@ -58,6 +67,7 @@ fn first_half(mem: &mut [u8]) {
     begin(mem);
     shapes(mem);
     ranges(mem);
+    rights(mem);
     frames(mem);
 }
 

@@ -1,4 +1,5 @@
-// The operations in the demonstration's own pool, on pages that the correlator reads and writes, and runs nothing in.
+// The operations in the demonstration's own pool, on pages that the correlator reads and writes, and runs nothing in; two ask for a page
+// in which it would run what it wrote.
 use ask::space;
 use entry::Rights;
 use plan::Asked;
@@ -18,6 +19,31 @@ pub fn page(size: u64, frame: u64, base: u64) -> Asked {
         size: size,
         rights: rights(true),
     }
+}
+
+fn both() -> Rights {
+    Rights {
+        writable: true,
+        user: true,
+        noexec: false,
+    }
+}
+
+pub fn map_both(mem: &mut [u8], size: u64, frame: u64, base: u64) {
+    ask::map(
+        mem,
+        space(),
+        Asked {
+            base: base,
+            frame: frame,
+            size: size,
+            rights: both(),
+        },
+    );
+}
+
+pub fn protect_both(mem: &mut [u8], base: u64) {
+    ask::protect(mem, space(), base, both());
 }
 
 pub fn create(mem: &mut [u8]) {

@@ -1,7 +1,7 @@
--- Unmap and protect are refused exactly where no page is found, and succeed exactly where one does; and which tickets are refused.
+-- Unmap is refused exactly where no page is found, protect also, and before that, for its rights; else they succeed. And which tickets are refused.
 use Prim.Native.Nat.{ℕ, _-_, _^_, _<_, _≤_}
-use mathlib.Core.Bool.{Bool}
-use mathlib.Core.Path.{_≡_, sym, ap, _∙_, subst}
+use mathlib.Core.Bool.{Bool, true, false, true≢false}
+use mathlib.Core.Path.{_≡_, refl, sym, ap, _∙_, subst}
 use native.Mathlib.Decide.{decLe}
 use native.Mathlib.Omega.{arith}
 use borrow.Author.Tests.{le-leb, lt-leb}
@@ -13,6 +13,7 @@ use Rattle.pool.specs.declared.Book.{Book}
 use Rattle.pool.specs.declared.Due.the-variants as due
 use Rattle.pool.specs.declared.Space.{Space}
 use Rattle.plan.specs.declared.Reason.{Reason}
+use Rattle.plan.specs.declared.Reason.the-variants.{WriteExecute}
 use Rattle.plan.specs.declared.finding.PageEntry.{PageEntry}
 use Rattle.plan.specs.declared.finding.Sought.the-variants as sought
 use Rattle.plan.specs.declared.protects.Change.{Change}
@@ -21,10 +22,12 @@ use Rattle.plan.specs.declared.unmaps.Removal.{Removal}
 use Rattle.plan.specs.declared.unmaps.Removing.the-variants as removing
 use Rattle.plan.specs.Find.{findOf}
 use Rattle.plan.specs.Protect as protect
+use Rattle.plan.specs.Rights.{writeExecute}
 use Rattle.effect.specs.Exactly.{UnmapExactly, ProtectExactly, ToldExactly}
-use Rattle.effect.specs.StartsAt.{NotThere}
+use Rattle.effect.specs.StartsAt.{NotThere, NotProtected, write-execute, not-there}
 use Rattle.effect.specs.Whole.{Whole}
 use Rattle.plan.proofs.Found.{found-at}
+use Rattle.plan.proofs.Strictly.{protect-refuses, protect-searches}
 use Rattle.effect.proofs.Located.{located}
 use Rattle.effect.proofs.Searching.{nowhere, not-there-once, FindVerdict, there, missing, verdict}
 use Rattle.effect.proofs.UnmapDone.{refused-so, unmap-decided}
@@ -42,15 +45,15 @@ change-no c y e = let z : _≡_ {A = ℕ} 0 1 = cc in omega arith
 one-cause : (x y : Reason) → changing.Refused x ≡ changing.Refused y → y ≡ x
 one-cause x y e = cc
 
-changes : (h : ℕ → Bool) (m : ℕ → ℕ) (sp : Space) (va : ℕ) (rights : Rights) (s : PageEntry) → findOf h m sp va ≡ sought.Found s
+changes : (h : ℕ → Bool) (m : ℕ → ℕ) (sp : Space) (va : ℕ) (rights : Rights) (s : PageEntry) → writeExecute rights ≡ false → findOf h m sp va ≡ sought.Found s
     → protect.decideOf h m sp va rights ≡ changing.Go (protect.changeOf va s rights (ticketIn (bookOf m sp)))
-unfolding protect.decideOf protect.changingOf
-changes h m sp va rights s f = rw f
+unfolding protect.changingOf
+changes h m sp va rights s x f = protect-searches h m sp va rights x ∙ rw f
 
-changes-not : (h : ℕ → Bool) (m : ℕ → ℕ) (sp : Space) (va : ℕ) (rights : Rights) (y : Reason) → findOf h m sp va ≡ sought.Refused y
+changes-not : (h : ℕ → Bool) (m : ℕ → ℕ) (sp : Space) (va : ℕ) (rights : Rights) (y : Reason) → writeExecute rights ≡ false → findOf h m sp va ≡ sought.Refused y
     → protect.decideOf h m sp va rights ≡ changing.Refused y
-unfolding protect.decideOf protect.changingOf
-changes-not h m sp va rights y f = rw f
+unfolding protect.changingOf
+changes-not h m sp va rights y x f = protect-searches h m sp va rights x ∙ rw f
 
 module _ {h : ℕ → Bool} {sp : Space} {m : ℕ → ℕ} {role : ℕ → Role} (w : Whole h sp m role) (va : ℕ) where
   -- UNMAP
@@ -76,23 +79,41 @@ module _ {h : ℕ → Bool} {sp : Space} {m : ℕ → ℕ} {role : ℕ → Role}
 
   -- PROTECT
   pub protect-exactly : (rights : Rights) → ProtectExactly h sp m va rights
-  protect-exactly rights = go (verdict w va)
+  protect-exactly rights = go (writeExecute rights) refl (verdict w va)
     where
-      go : FindVerdict w va → ProtectExactly h sp m va rights
-      go (there s f a) =
-          let d = changes h m sp va rights s f in
+      -- where the rights may be given, it is refused for what was not found
+      only-there : writeExecute rights ≡ false → (y : Reason) → NotProtected (settingOf h sp) m va rights y → NotThere (settingOf h sp) m va y
+      only-there b y (write-execute x) = absurd (true≢false (sym x ∙ b))
+      only-there b y (not-there z x n) = n
+
+      only-rights : writeExecute rights ≡ true → (y : Reason) → NotProtected (settingOf h sp) m va rights y → WriteExecute ≡ y
+      only-rights b y (write-execute x) = refl
+      only-rights b y (not-there z x n) = absurd (true≢false (sym b ∙ x))
+
+      go : (b : Bool) → writeExecute rights ≡ b → FindVerdict w va → ProtectExactly h sp m va rights
+      go true b v =
+          let d = protect-refuses h m sp va rights b in
           record {
-            refused = λ y. (λ e. absurd (change-no _ _ (sym d ∙ e)), λ n. absurd (nowhere (settingOf h sp) m va y n a));
-            succeeds = (λ c. a, λ x. (_, d));
+            refused = λ y. (
+              λ e. subst (NotProtected (settingOf h sp) m va rights) (sym (one-cause WriteExecute y (sym d ∙ e))) (write-execute b),
+              λ k. d ∙ ap changing.Refused (only-rights b y k),
+            );
+            succeeds = (λ c. absurd (change-no (c .0) WriteExecute (sym (c .1) ∙ d)), λ a. absurd (true≢false (sym b ∙ a .0)));
           }
-      go (missing y f n) =
-          let d = changes-not h m sp va rights y f in
+      go false b (there s f a) =
+          let d = changes h m sp va rights s b f in
+          record {
+            refused = λ y. (λ e. absurd (change-no _ _ (sym d ∙ e)), λ n. absurd (nowhere (settingOf h sp) m va y (only-there b y n) a));
+            succeeds = (λ c. (b, a), λ x. (_, d));
+          }
+      go false b (missing y f n) =
+          let d = changes-not h m sp va rights y b f in
           record {
             refused = λ x. (
-              λ e. subst (NotThere (settingOf h sp) m va) (sym (one-cause y x (sym d ∙ e))) n,
-              λ k. d ∙ ap changing.Refused (not-there-once (settingOf h sp) m va y x n k),
+              λ e. subst (NotProtected (settingOf h sp) m va rights) (sym (one-cause y x (sym d ∙ e))) (not-there y b n),
+              λ k. d ∙ ap changing.Refused (not-there-once (settingOf h sp) m va y x n (only-there b x k)),
             );
-            succeeds = (λ c. absurd (change-no (c .0) y (sym (c .1) ∙ d)), λ a. absurd (nowhere (settingOf h sp) m va y n a));
+            succeeds = (λ c. absurd (change-no (c .0) y (sym (c .1) ∙ d)), λ a. absurd (nowhere (settingOf h sp) m va y n (a .1)));
           }
 
 -- TOLD, by the three tests of a ticket

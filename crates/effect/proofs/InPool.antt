@@ -24,6 +24,7 @@ use Rattle.plan.specs.declared.protects.Changing.the-variants as changing
 use Rattle.plan.specs.Find.{findOf}
 use Rattle.plan.specs.Protect as protect
 use Rattle.plan.proofs.Found.{FoundAt, found-at}
+use Rattle.plan.proofs.Strictly.{protect-strict}
 use Rattle.effect.specs.OfPool.{OfPool}
 use Rattle.effect.proofs.MapInPool.{book-in-pool}
 use Rattle.effect.proofs.ProtectDone.{with-rights-lt}
@@ -48,8 +49,8 @@ module _ (h : ℕ → Bool) (m : ℕ → ℕ) (sp : Space) (va : ℕ) (g : Right
   }
 
   pub protect-went : protect.decideOf h m sp va g ≡ changing.Go c → ProtectWent h sp c
-  unfolding protect.decideOf protect.changingOf
-  protect-went e = go (findOf h m sp va) refl e
+  unfolding protect.changingOf
+  protect-went e = go (findOf h m sp va) refl (protect-strict h m sp va g c e .1)
     where
       go : (x : Sought) → findOf h m sp va ≡ x → protect.changingOf m sp va g x ≡ changing.Go c → ProtectWent h sp c
       go (sought.Refused y) f k = let z : _≡_ {A = ℕ} 0 1 = cc in absurd (omega arith)

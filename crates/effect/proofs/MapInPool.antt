@@ -34,7 +34,7 @@ use Rattle.plan.specs.declared.descent.Why.the-variants as why
 use Rattle.plan.specs.declared.maps.Asked.{Asked}
 use Rattle.plan.specs.declared.maps.NewTables.{NewTables}
 use Rattle.plan.specs.declared.maps.Mapping.{Mapping}
-use Rattle.plan.specs.Map.{Go, Refused, noBook, shapeOf, meetsOf, nthOf, freshThree, freshOf, stockOf, supplyOf, sparedOf, madeOf, placeOf, becauseOf, stoppedOf, fittingOf, standingOf, shapedOf, decideOf, linkOf, nextOf, growOf, reached0, reached1, reached2, reached3, buildOf, writesOf}
+use Rattle.plan.specs.Map.{Go, Refused, noBook, allowedOf, meetsOf, nthOf, freshThree, freshOf, stockOf, supplyOf, sparedOf, madeOf, placeOf, becauseOf, stoppedOf, fittingOf, standingOf, shapedOf, decideOf, linkOf, nextOf, growOf, reached0, reached1, reached2, reached3, buildOf, writesOf}
 use Rattle.plan.specs.declared.building.TableReached.{TableReached}
 use Rattle.plan.specs.declared.maps.Shape.{Shape}
 use Rattle.plan.specs.declared.maps.Shape.the-variants as shape
@@ -185,7 +185,7 @@ module _ (h : ℕ → Bool) (m : ℕ → ℕ) (sp : Space) (q : Asked) (p : Mapp
 
   pub map-went : decideOf h m sp q ≡ Go p → MapWent h sp p
   unfolding decideOf
-  map-went e = shaped-went (shapeOf (q .size) (q .base) (q .frame)) e
+  map-went e = shaped-went (allowedOf q) e
 
 -- The writes -----------------------------------------------------------------------------------------------------------------------
 

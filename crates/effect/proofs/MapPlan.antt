@@ -25,7 +25,7 @@ use Rattle.plan.specs.declared.descent.Way.{Way}
 use Rattle.plan.specs.declared.maps.Asked.{Asked}
 use Rattle.plan.specs.declared.maps.NewTables.{NewTables}
 use Rattle.plan.specs.declared.maps.Mapping.{Mapping}
-use Rattle.plan.specs.Map.{Go, Refused, fitsOf, shapeOf, meetsOf, noBook, nthOf, freshThree, freshOf, stockOf, supplyOf, sparedOf, madeOf, placeOf, stoppedOf, fittingOf, standingOf, shapedOf, decideOf}
+use Rattle.plan.specs.Map.{Go, Refused, fitsOf, shapeOf, allowedOf, meetsOf, noBook, nthOf, freshThree, freshOf, stockOf, supplyOf, sparedOf, madeOf, placeOf, stoppedOf, fittingOf, standingOf, shapedOf, decideOf}
 use Rattle.plan.specs.declared.maps.Shape.the-variants.{Level, Bad}
 use Rattle.plan.specs.declared.maps.Supply.the-variants.{Pages, Lacking}
 use Rattle.plan.specs.Descend.{wayOf}
@@ -36,6 +36,7 @@ use Rattle.effect.proofs.Wholes.{root-low, owned, book-names, book-open
 use Rattle.effect.proofs.Trace.{Traced, traced}
 use Rattle.plan.specs.Spare.{OnWay, last, second, third, fourth, Spared}
 use Rattle.plan.proofs.Sparing.{spares}
+use Rattle.plan.proofs.Shapes.{allowed-strict}
 
 -- Sizes --------------------------------------------------------------------------------------------------------------------------
 
@@ -59,12 +60,14 @@ size-small (suc zero) size u e = (omega arith, omega arith)
 size-small (suc (suc zero)) size u e = (omega arith, omega arith)
 size-small (suc (suc (suc l))) size u e = absurd (omega arith)
 
-pub shape-fits : (l : ℕ) (q : Asked) → Fitted l q → shapeOf (q .size) (q .base) (q .frame) ≡ Level l
+pub allowed-fits : (l : ℕ) (q : Asked) → Fitted l q → allowedOf q ≡ Level l
 unfolding fitsOf
-shape-fits l q f =
+allowed-fits l q f =
     let s = size-small l (q .size) (f .level) (f .size-is) in
+    let shape : shapeOf (q .size) (q .base) (q .frame) ≡ Level l =
     shape-of-level l q (f .level, f .size-is)
-    ∙ rw (eq-eqb (q .base % q .size) 0 (f .base-aligned), eq-eqb (q .frame % q .size) 0 (f .frame-aligned), f .base-fits, le-leb (q .frame) (2 ^ 52 - q .size) (omega (arith, f .frame-fits)))
+    ∙ rw (eq-eqb (q .base % q .size) 0 (f .base-aligned), eq-eqb (q .frame % q .size) 0 (f .frame-aligned), f .base-fits, le-leb (q .frame) (2 ^ 52 - q .size) (omega (arith, f .frame-fits))) in
+    allowed-strict q l shape (f .strict)
 
 -- the frame and the pool
 pub meets-true : (sp : Space) (q : Asked) → Meets sp q → meetsOf sp (q .frame) (q .size) ≡ true
@@ -196,7 +199,7 @@ module _ {h : ℕ → Bool} {sp : Space} {m : ℕ → ℕ} {role : ℕ → Role}
   module _ (q : Asked) (l : ℕ) (f : Fitted l q) where
     fitted-decides : decideOf h m sp q ≡ cond (meetsOf sp (q .frame) (q .size)) (Refused FrameInPool) (stoppedOf h m sp q l (wayOf h m sp (q .base) l))
     unfolding decideOf shapedOf standingOf fittingOf
-    fitted-decides = rw (shape-fits l q f, book-names w)
+    fitted-decides = rw (allowed-fits l q f, book-names w)
 
     pub meets-decides : Meets sp q → decideOf h m sp q ≡ Refused FrameInPool
     meets-decides k = fitted-decides ∙ rw (meets-true sp q k)

@@ -11,7 +11,7 @@ use Rattle.plan.specs.declared.maps.Asked.{Asked}
 use Rattle.plan.specs.declared.maps.Mapping.{Mapping}
 use Rattle.plan.specs.Map.{Placed, Go, Refused, decideOf}
 use Rattle.effect.specs.MapDone.{MapDone}
-use Rattle.effect.specs.MapRefused.{Cause, HasCause, no-size, base-unaligned, frame-unaligned, base-range, frame-high, frame-in-pool, mapped, no-room}
+use Rattle.effect.specs.MapRefused.{Cause, HasCause, no-size, base-unaligned, frame-unaligned, base-range, frame-high, write-execute, frame-in-pool, mapped, no-room}
 use Rattle.effect.specs.Whole.{Whole}
 use Rattle.effect.proofs.MapDone.{decided-done}
 use Rattle.effect.proofs.MapVerdict.{MapVerdict, refuses, goes, verdict, cause-refuses}
@@ -22,6 +22,7 @@ cause-given r (base-unaligned l o a) = tt
 cause-given r (frame-unaligned l o a b) = tt
 cause-given r (base-range l o a b u) = tt
 cause-given r (frame-high l o a b u v) = tt
+cause-given r (write-execute l o a b u v x) = tt
 cause-given r (frame-in-pool l f k) = tt
 cause-given r (mapped l f c k) = tt
 cause-given r (no-room l n f c x k u) = tt

@@ -5,7 +5,7 @@ use mathlib.Core.Logic.{_⊎_, inl, inr, _≢_}
 use mathlib.Core.Path.{_≡_, refl, sym, ap, _∙_, subst}
 use native.Mathlib.Decide.{ℕ-discrete, decLe, decLt}
 use native.Mathlib.Omega.{arith}
-use borrow.Author.Tests.{lt-leb, eq-eqb, ne-eqb}
+use borrow.Author.Tests.{le-leb, lt-leb, eq-eqb, ne-eqb}
 use Rattle.entry.specs.Entry.{sizeOf, says}
 use Rattle.entry.specs.declared.Entry.the-variants.{Nothing, Table}
 use Rattle.walk.specs.Walk.{canonical, indexOf}
@@ -19,15 +19,16 @@ use Rattle.pool.specs.Book.{bookOf}
 use Rattle.pool.specs.Booked.{settingOf}
 use Rattle.pool.specs.declared.Space.{Space}
 use Rattle.plan.specs.declared.Reason.{Reason}
-use Rattle.plan.specs.declared.Reason.the-variants.{Size, BaseUnaligned, FrameUnaligned, BaseRange, FrameRange, FrameInPool, Overlap, NoRoom}
+use Rattle.plan.specs.declared.Reason.the-variants.{Size, BaseUnaligned, FrameUnaligned, BaseRange, FrameRange, WriteExecute, FrameInPool, Overlap, NoRoom}
 use Rattle.plan.specs.declared.descent.Way.{Way}
 use Rattle.plan.specs.declared.descent.Why.{Why}
 use Rattle.plan.specs.declared.maps.Asked.{Asked}
 use Rattle.plan.specs.declared.maps.Mapping.{Mapping}
-use Rattle.plan.specs.Map.{Placed, Go, Refused, fitsOf, supplyOf, sparedOf, placeOf, becauseOf, stoppedOf, shapedOf, decideOf}
+use Rattle.plan.specs.Map.{Placed, Go, Refused, fitsOf, strictOf, allowedOf, supplyOf, sparedOf, placeOf, becauseOf, stoppedOf, shapedOf, decideOf}
 use Rattle.plan.specs.Descend.{wayOf}
+use Rattle.plan.specs.Rights.{writeExecute}
 use Rattle.effect.specs.MapDone.{Fitted, Misses}
-use Rattle.effect.specs.MapRefused.{OfLevel, Meets, FrameApart, SomeMapped, Cause, no-size, base-unaligned, frame-unaligned, base-range, frame-high, frame-in-pool, mapped, no-room}
+use Rattle.effect.specs.MapRefused.{OfLevel, Meets, FrameApart, SomeMapped, Cause, no-size, base-unaligned, frame-unaligned, base-range, frame-high, write-execute, frame-in-pool, mapped, no-room}
 use Rattle.effect.specs.Whole.{Whole}
 use Rattle.effect.proofs.MapPlan.{shape-of-level, shape-of-none, size-small, Planned, supplies, lacks, meets-decides, apart-decides, base-traced, room-decides}
 use Rattle.effect.proofs.Trace.{Because, at-nothing, at-page, at-table, Traced}
@@ -168,7 +169,7 @@ module _ {h : ℕ → Bool} {sp : Space} {m : ℕ → ℕ} {role : ℕ → Role}
 
   -- A CAUSE IS A REFUSAL
   pub cause-refuses : (r : Reason) → Cause h sp m q r → decideOf h m sp q ≡ Refused r
-  unfolding decideOf shapedOf fitsOf
+  unfolding decideOf shapedOf allowedOf strictOf fitsOf
   cause-refuses r (no-size n) = rw (shape-of-none q n)
   cause-refuses r (base-unaligned l o a) = rw (shape-of-level l q o, ne-eqb (q .base % q .size) 0 a)
   cause-refuses r (frame-unaligned l o a b) = rw (shape-of-level l q o, eq-eqb (q .base % q .size) 0 a, ne-eqb (q .frame % q .size) 0 b)
@@ -177,6 +178,9 @@ module _ {h : ℕ → Bool} {sp : Space} {m : ℕ → ℕ} {role : ℕ → Role}
   cause-refuses r (frame-high l o a b u v) =
       let s = size-small l (q .size) (o .0) (o .1) in
       rw (shape-of-level l q o, eq-eqb (q .base % q .size) 0 a, eq-eqb (q .frame % q .size) 0 b, u, lt-leb (q .frame) (2 ^ 52 - q .size) (omega arith))
+  cause-refuses r (write-execute l o a b u v x) =
+      let s = size-small l (q .size) (o .0) (o .1) in
+      rw (shape-of-level l q o, eq-eqb (q .base % q .size) 0 a, eq-eqb (q .frame % q .size) 0 b, u, le-leb (q .frame) (2 ^ 52 - q .size) (omega arith), x)
   cause-refuses r (frame-in-pool l f k) = meets-decides w q l f k
   cause-refuses r (mapped l f c k) = overlap-refuses l f c k
   cause-refuses r (no-room l n f c none k u) = room-refuses l f c n none k u
@@ -193,15 +197,17 @@ module _ {h : ℕ → Bool} {sp : Space} {m : ℕ → ℕ} {role : ℕ → Role}
       fitted-go l f (inr k) = because FrameInPool (frame-in-pool l f k)
 
       level-go : (l : ℕ) → OfLevel l q → Dec (q .base % q .size ≡ 0) → Dec (q .frame % q .size ≡ 0) → (c : Bool) → canonical (q .base) ≡ c → Dec (q .frame + q .size ≤ 2 ^ 52)
-          → MapVerdict h sp m q (decideOf h m sp q)
-      level-go l o (no a) b c e d = because BaseUnaligned (base-unaligned l o a)
-      level-go l o (yes a) (no b) c e d = because FrameUnaligned (frame-unaligned l o a b)
-      level-go l o (yes a) (yes b) false e d = because BaseRange (base-range l o a b e)
-      level-go l o (yes a) (yes b) true e (no d) = because FrameRange (frame-high l o a b e (omega arith))
-      level-go l o (yes a) (yes b) true e (yes d) =
-          fitted-go l (record { level = o .0; size-is = o .1; base-aligned = a; frame-aligned = b; base-fits = e; frame-fits = d }) (apart-or-meets h sp q)
+          → (x : Bool) → writeExecute (q .rights) ≡ x → MapVerdict h sp m q (decideOf h m sp q)
+      level-go l o (no a) b c e d x s = because BaseUnaligned (base-unaligned l o a)
+      level-go l o (yes a) (no b) c e d x s = because FrameUnaligned (frame-unaligned l o a b)
+      level-go l o (yes a) (yes b) false e d x s = because BaseRange (base-range l o a b e)
+      level-go l o (yes a) (yes b) true e (no d) x s = because FrameRange (frame-high l o a b e (omega arith))
+      level-go l o (yes a) (yes b) true e (yes d) true s = because WriteExecute (write-execute l o a b e d s)
+      level-go l o (yes a) (yes b) true e (yes d) false s =
+          fitted-go l (record { level = o .0; size-is = o .1; base-aligned = a; frame-aligned = b; base-fits = e; frame-fits = d; strict = s }) (apart-or-meets h sp q)
 
       size-go : ((l : ℕ) × OfLevel l q) ⊎ ((l : ℕ) → l ≤ 2 → q .size ≢ sizeOf l) → MapVerdict h sp m q (decideOf h m sp q)
       size-go (inr n) = because Size (no-size n)
       size-go (inl k) =
           level-go (k .0) (k .1) (ℕ-discrete (q .base % q .size) 0) (ℕ-discrete (q .frame % q .size) 0) (canonical (q .base)) refl (decLe (q .frame + q .size) (2 ^ 52))
+          (writeExecute (q .rights)) refl

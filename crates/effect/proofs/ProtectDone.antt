@@ -40,6 +40,7 @@ use Rattle.effect.proofs.Unmarking.{page-unmarked}
 use Rattle.effect.specs.ProtectDone.{ProtectDone}
 use Rattle.effect.specs.Whole.{Whole}
 use Rattle.plan.proofs.Found.{found-at}
+use Rattle.plan.proofs.Strictly.{protect-strict}
 use Rattle.effect.proofs.Located.{Located, located}
 use Rattle.effect.proofs.Wholes.{live-in, in-beside, in-of-pool}
 
@@ -54,8 +55,8 @@ with-rights-lt w r = numbers w _ _ _ (flag-lt (r .writable)) (flag-lt (r .user))
 -- the change that a decision is
 decided : (h : ℕ → Bool) (m : ℕ → ℕ) (sp : Space) (va : ℕ) (r : Rights) (c : Change) → decideOf h m sp va r ≡ Go c
     → (s : PageEntry) × (findOf h m sp va ≡ sought.Found s) × (changeOf va s r (ticketIn (bookOf m sp)) ≡ c)
-unfolding decideOf changingOf
-decided h m sp va r c e = go (findOf h m sp va) refl e
+unfolding changingOf
+decided h m sp va r c e = go (findOf h m sp va) refl (protect-strict h m sp va r c e .1)
   where
     go : (x : Sought) → findOf h m sp va ≡ x → changingOf m sp va r x ≡ Go c
         → (s : PageEntry) × (findOf h m sp va ≡ sought.Found s) × (changeOf va s r (ticketIn (bookOf m sp)) ≡ c)
@@ -112,8 +113,12 @@ module _ {h : ℕ → Bool} {sp : Space} {m : ℕ → ℕ} {role : ℕ → Role}
       done = subst₂ (λ x y. Changed (settingOf h sp) m role va l (found.Page x y (s .frame) r) xs (after m xs) role) (k .base) (sym (k .size-is))
           (protect-done v (s .frame) (k .rights) r (w .sound) (k .comes) (k .entry) says-it clean-it)
 
+  -- a page that is found could be given any rights, as an older version of this library did: the space would be whole all the same
+  pub regranted-done : (s : PageEntry) → findOf h m sp va ≡ sought.Found s → ProtectDone h sp m role va r (changeOf va s r (ticketIn (bookOf m sp)))
+  regranted-done s f = changes s (located w (found-at h m sp va s f))
+
   -- PROTECT, DONE
   pub protected : (c : Change) → decideOf h m sp va r ≡ Go c → ProtectDone h sp m role va r c
   protected c e =
       let d = decided h m sp va r c e in
-      subst (ProtectDone h sp m role va r) (d .2) (changes (d .0) (located w (found-at h m sp va (d .0) (d .1))))
+      subst (ProtectDone h sp m role va r) (d .2) (regranted-done (d .0) (d .1))

@@ -1,7 +1,7 @@
--- REFUSED EXACTLY: unmap and protect have two reasons to refuse, that va is no address and that no page starts there, and refuse exactly then;
--- and what told refuses.
+-- REFUSED EXACTLY: unmap has two reasons to refuse, that va is no address and that no page starts there, protect one more before them, the
+-- rights, and each refuses exactly then; and what told refuses.
 use Prim.Native.Nat.{ℕ, _^_, _<_, _≤_}
-use mathlib.Core.Bool.{Bool}
+use mathlib.Core.Bool.{Bool, false}
 use mathlib.Core.Logic.{_↔_}
 use mathlib.Core.Path.{_≡_}
 use Rattle.entry.specs.declared.Rights.{Rights}
@@ -16,8 +16,9 @@ use Rattle.plan.specs.declared.protects.Changing.the-variants as changing
 use Rattle.plan.specs.declared.unmaps.Removal.{Removal}
 use Rattle.plan.specs.declared.unmaps.Removing.the-variants as removing
 use Rattle.plan.specs.Protect as protect
-use Rattle.effect.specs.StartsAt.{StartsAt, NotThere}
+use Rattle.plan.specs.Rights.{writeExecute}
 use Rattle.plan.specs.Unmap as unmap
+use Rattle.effect.specs.StartsAt.{StartsAt, NotThere, NotProtected}
 
 -- refused: it refuses exactly where no page is found, for the reason that there is; succeeds: it is done exactly where a page starts
 pub record UnmapExactly (h : ℕ → Bool) (sp : Space) (m : ℕ → ℕ) (va : ℕ) : Type 0 where
@@ -25,8 +26,8 @@ pub record UnmapExactly (h : ℕ → Bool) (sp : Space) (m : ℕ → ℕ) (va : 
   pub succeeds : ((r : Removal) × (unmap.decideOf h m sp va ≡ removing.Go r)) ↔ StartsAt (settingOf h sp) m va
 
 pub record ProtectExactly (h : ℕ → Bool) (sp : Space) (m : ℕ → ℕ) (va : ℕ) (rights : Rights) : Type 0 where
-  pub refused : (y : Reason) → (protect.decideOf h m sp va rights ≡ changing.Refused y) ↔ NotThere (settingOf h sp) m va y
-  pub succeeds : ((c : Change) × (protect.decideOf h m sp va rights ≡ changing.Go c)) ↔ StartsAt (settingOf h sp) m va
+  pub refused : (y : Reason) → (protect.decideOf h m sp va rights ≡ changing.Refused y) ↔ NotProtected (settingOf h sp) m va rights y
+  pub succeeds : ((c : Change) × (protect.decideOf h m sp va rights ≡ changing.Go c)) ↔ ((writeExecute rights ≡ false) × StartsAt (settingOf h sp) m va)
 
 -- TOLD: a ticket above the present one is unknown; one with which the numbers would run out is spent; any other is done.
 pub record ToldExactly (b : Book) (t : ℕ) : Type 0 where

@@ -1,6 +1,6 @@
 -- WHAT IS SO WHEN MAP HAS DONE IT, in a space that is whole: exactly what was asked has changed, by one write, and the space is whole.
 use Prim.Native.Nat.{ℕ, suc, _+_, _%_, _≤_}
-use mathlib.Core.Bool.{Bool, true}
+use mathlib.Core.Bool.{Bool, true, false}
 use mathlib.Core.Path.{_≡_}
 use Rattle.word.specs.Writes.{after, Every}
 use Rattle.entry.specs.Entry.{sizeOf, frameEnd}
@@ -16,10 +16,12 @@ use Rattle.pool.specs.declared.Space.{Space}
 use Rattle.plan.specs.declared.maps.Asked.{Asked}
 use Rattle.plan.specs.declared.maps.Mapping.{Mapping}
 use Rattle.plan.specs.Map.{writesOf}
+use Rattle.plan.specs.Rights.{writeExecute}
 use Rattle.effect.specs.Whole.{Whole}
 use Rattle.effect.specs.Numbers.{KeepsNumbers}
 
--- what is asked is a page of level l, aligned, at an address and in range; so it lies in one half of the addresses (`page-in-half`)
+-- what is asked is a page of level l, aligned, at an address and in range, and not both writable and executable; it lies in one half of the
+-- addresses (`page-in-half`)
 pub record Fitted (l : ℕ) (q : Asked) : Type 0 where
   pub level : l ≤ 2
   pub size-is : q .size ≡ sizeOf l
@@ -27,6 +29,7 @@ pub record Fitted (l : ℕ) (q : Asked) : Type 0 where
   pub frame-aligned : q .frame % q .size ≡ 0
   pub base-fits : canonical (q .base) ≡ true
   pub frame-fits : q .frame + q .size ≤ frameEnd
+  pub strict : writeExecute (q .rights) ≡ false
 
 -- n tables are missing on the way of va to level l: it stops n levels above, where nothing is
 pub record Misses (σ : Setting) (m : ℕ → ℕ) (va l n : ℕ) : Type 0 where

@@ -11,8 +11,9 @@ use Rattle.pool.specs.Book.{bookOf}
 use Rattle.pool.specs.Booked.{settingOf}
 use Rattle.pool.specs.declared.Space.{Space}
 use Rattle.plan.specs.declared.Reason.{Reason}
-use Rattle.plan.specs.declared.Reason.the-variants.{Size, BaseUnaligned, FrameUnaligned, BaseRange, FrameRange, Pool, FrameInPool, Overlap, NoRoom, NothingStarts, Stray, BadList}
+use Rattle.plan.specs.declared.Reason.the-variants.{Size, BaseUnaligned, FrameUnaligned, BaseRange, FrameRange, WriteExecute, Pool, FrameInPool, Overlap, NoRoom, NothingStarts, Stray, BadList}
 use Rattle.plan.specs.declared.maps.Asked.{Asked}
+use Rattle.plan.specs.Rights.{writeExecute}
 use Rattle.effect.specs.MapDone.{Fitted, Misses}
 
 -- the size is that of a page of level l
@@ -38,6 +39,8 @@ pub data Cause (h : ℕ → Bool) (sp : Space) (m : ℕ → ℕ) (q : Asked) : R
   base-range : (l : ℕ) → OfLevel l q → q .base % q .size ≡ 0 → q .frame % q .size ≡ 0 → canonical (q .base) ≡ false → Cause h sp m q BaseRange
   frame-high : (l : ℕ) → OfLevel l q → q .base % q .size ≡ 0 → q .frame % q .size ≡ 0 → canonical (q .base) ≡ true → frameEnd < q .frame + q .size
       → Cause h sp m q FrameRange
+  write-execute : (l : ℕ) → OfLevel l q → q .base % q .size ≡ 0 → q .frame % q .size ≡ 0 → canonical (q .base) ≡ true → q .frame + q .size ≤ frameEnd
+      → writeExecute (q .rights) ≡ true → Cause h sp m q WriteExecute
   frame-in-pool : (l : ℕ) → Fitted l q → Meets sp q → Cause h sp m q FrameInPool
   mapped : (l : ℕ) → Fitted l q → FrameApart h sp q → SomeMapped h sp m q → Cause h sp m q Overlap
   no-room : (l n : ℕ) → Fitted l q → FrameApart h sp q → ¬ SomeMapped h sp m q → Misses (settingOf h sp) m (q .base) l n → bookOf m sp .free < n
@@ -50,6 +53,7 @@ HasCause BaseUnaligned = Unit {0}
 HasCause FrameUnaligned = Unit {0}
 HasCause BaseRange = Unit {0}
 HasCause FrameRange = Unit {0}
+HasCause WriteExecute = Unit {0}
 HasCause (Pool y) = ⊥
 HasCause FrameInPool = Unit {0}
 HasCause Overlap = Unit {0}

@@ -24,11 +24,12 @@ use Rattle.plan.specs.declared.direct.Once.the-variants as once
 use Rattle.plan.specs.declared.maps.Asked.{Asked}
 use Rattle.plan.specs.declared.maps.Shape.the-variants.{Level}
 use Rattle.plan.specs.Descend.{Going, startOf, pushOf, stopOf, downOf, endOf, wayOf}
-use Rattle.plan.specs.Map.{Placed, Refused, fitsOf, shapeOf, meetsOf, becauseOf, stoppedOf, fittingOf, standingOf, shapedOf, decideOf, placingOf}
+use Rattle.plan.specs.Map.{Placed, Refused, fitsOf, shapeOf, allowedOf, meetsOf, becauseOf, stoppedOf, fittingOf, standingOf, shapedOf, decideOf, placingOf}
+use Rattle.plan.specs.Rights.{writeExecute}
 use Rattle.plan.specs.AtOnce.{leadOf, Comes, onceOf, onceWrites, Found, AtOnce}
 use Rattle.plan.proofs.Leads.{lead-page, lead-nothing, lead-table}
 use Rattle.plan.proofs.Placings.{place-here}
-use Rattle.plan.proofs.Shapes.{shape-fits, fits-level, shaped}
+use Rattle.plan.proofs.Shapes.{shape-fits, fits-level, shaped, allowed-strict}
 use Rattle.pool.proofs.Opening.{names-shows}
 
 -- the way came to the table in page t, whose entry was looked at, and set where nothing was there
@@ -54,7 +55,7 @@ module _ (left rest : ℕ) (s after : List ℕ) (sp : Space) (n va x t : ℕ)
 
 module _ (h : ℕ → Bool) (m : ℕ → ℕ) (sp : Space) (q : Asked) (n : ℕ) where
   -- where all but the way was found right, the way decides
-  by-the-way : shapeOf (q .size) (q .base) (q .frame) ≡ Level n → namesOf h m sp ≡ Fits → meetsOf sp (q .frame) (q .size) ≡ false
+  by-the-way : allowedOf q ≡ Level n → namesOf h m sp ≡ Fits → meetsOf sp (q .frame) (q .size) ≡ false
       → decideOf h m sp q ≡ stoppedOf h m sp q n (wayOf h m sp (q .base) n)
   unfolding decideOf shapedOf standingOf fittingOf
   by-the-way a b c = rw (a, b, c)
@@ -81,12 +82,13 @@ module _ (left rest : ℕ) (s after : List ℕ) (sp : Space) (q : Asked) (n x : 
       go v false = refl
   at-once d once.Unsaid e f = f
 
-  -- the tests in the order of the code: size, alignment and range, the pool, whether the frame meets it
-  pub found-at-once : (k size : ℕ) (met : Bool) → n ≤ 2 → q .size ≡ size → size ≡ sizeOf n → fitsOf n size (q .base) (q .frame) ≡ Level k → namesOf H M sp ≡ Fits
+  -- the tests in the order of the code: size, alignment and range, the rights, the pool, whether the frame meets it
+  pub found-at-once : (k size : ℕ) (met : Bool) → n ≤ 2 → q .size ≡ size → size ≡ sizeOf n → fitsOf n size (q .base) (q .frame) ≡ Level k
+      → writeExecute (q .rights) ≡ false → namesOf H M sp ≡ Fits
       → (q .frame + size ≤ 2 ^ 52 → sp .pages ≤ 2 ^ 32 → met ≡ meetsOf sp (q .frame) size) → met ≡ false
       → (o : Once) → Found left rest s after sp n (q .base) x o → AtOnce left rest s after sp (decideOf H M sp q) o
-  found-at-once k size met low asked sized fit st m free o =
+  found-at-once k size met low asked sized fit strict st m free o =
       let shape : shapeOf (q .size) (q .base) (q .frame) ≡ Level n = shape-fits n (q .size) (q .base) (q .frame) low (asked ∙ sized) ∙ (rw asked fit ∙ ap Level (fits-level n k size (q .base) (q .frame) fit)) in
       let ends : q .frame + size ≤ 2 ^ 52 = rw (← asked) (shaped (q .base) (q .frame) n (q .size) shape .frame-fits) in
       let apart : meetsOf sp (q .frame) (q .size) ≡ false = rw asked (sym (m ends (names-shows H M sp st .fits .small)) ∙ free) in
-      at-once (decideOf H M sp q) o (by-the-way H M sp q n shape st apart)
+      at-once (decideOf H M sp q) o (by-the-way H M sp q n (allowed-strict q n shape strict) st apart)

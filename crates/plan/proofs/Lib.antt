@@ -7,6 +7,7 @@ pub mod Arrivals
 pub mod Leads
 pub mod Directly
 pub mod Standing
+pub mod Strictly
 pub mod Carrying
 pub mod Sparing
 pub mod Low

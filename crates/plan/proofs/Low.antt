@@ -182,7 +182,7 @@ module _ (h : ℕ → Bool) (m : ℕ → ℕ) (sp : Space) (small : (x : ℕ) �
 
     pub map-low : map.decideOf h m sp q ≡ map.Go p → Buildable sp p × (standsOf h sp ≡ fit.Fits)
     unfolding map.decideOf
-    map-low e = shaped-low (map.shapeOf (q .size) (q .base) (q .frame)) e
+    map-low e = shaped-low (map.allowedOf q) e
 
 -- a page that lies in a window has such a number
 pub held-low : (s : List ℕ) (origin x : ℕ) → holds s origin x ≡ true → x < 2 ^ 40

@@ -1,4 +1,4 @@
--- What it shows that sizes, alignment and range are right.
+-- What it shows that sizes, alignment, range and rights are right.
 use Prim.Native.Nat.{ℕ, zero, suc, _+_, _-_, _*_, _%_, _^_, _<_, _≤_}
 use mathlib.Core.Bool.{Bool, true, false, cond}
 use mathlib.Core.Path.{_≡_, refl, sym, _∙_, subst}
@@ -9,8 +9,11 @@ use Rattle.entry.specs.Entry.{sizeOf}
 use Rattle.walk.specs.Walk.{half, canonical}
 use Rattle.walk.proofs.Addresses.{by-wrapping}
 use Rattle.plan.specs.declared.Reason.the-variants.{Size, BaseUnaligned, FrameUnaligned, BaseRange, FrameRange}
+use Rattle.plan.specs.declared.maps.Asked.{Asked}
+use Rattle.plan.specs.declared.maps.Shape.{Shape}
 use Rattle.plan.specs.declared.maps.Shape.the-variants.{Level, Bad}
-use Rattle.plan.specs.Map.{fitsOf, shapeOf}
+use Rattle.plan.specs.Map.{fitsOf, shapeOf, strictOf, allowedOf}
+use Rattle.plan.specs.Rights.{writeExecute}
 
 -- a page of level n, and where it may go
 pub record Shaped (n size base frame : ℕ) : Type 0 where
@@ -105,3 +108,20 @@ module _ (base frame n : ℕ) where
       go false true c ea eb ec k = let s = eqb-true size 2097152 eb in rw s (fits-shaped 1 2097152 (omega arith) refl (omega arith) k)
       go false false true ea eb ec k = let s = eqb-true size 1073741824 ec in rw s (fits-shaped 2 1073741824 (omega arith) refl (omega arith) k)
       go false false false ea eb ec k = let z : _≡_ {A = ℕ} 0 1 = cc in absurd (omega arith)
+
+-- The rights ---------------------------------------------------------------------------------------------------------------------
+
+-- what is asked has the level of its shape, where the rights may be given
+pub allowed-strict : (q : Asked) (n : ℕ) → shapeOf (q .size) (q .base) (q .frame) ≡ Level n → writeExecute (q .rights) ≡ false → allowedOf q ≡ Level n
+unfolding allowedOf strictOf
+allowed-strict q n e s = rw (e, s)
+
+-- and no other
+pub allowed-shape : (q : Asked) (n : ℕ) → allowedOf q ≡ Level n → shapeOf (q .size) (q .base) (q .frame) ≡ Level n
+unfolding allowedOf strictOf
+allowed-shape q n e = go (shapeOf (q .size) (q .base) (q .frame)) (writeExecute (q .rights)) refl e
+  where
+    go : (x : Shape) (b : Bool) → writeExecute (q .rights) ≡ b → strictOf (q .rights) x ≡ Level n → x ≡ Level n
+    go (Bad y) b eb k = let z : _≡_ {A = ℕ} 0 1 = cc in absurd (omega arith)
+    go (Level l) true eb k = let j = rw eb at k in let z : _≡_ {A = ℕ} 0 1 = cc in absurd (omega arith)
+    go (Level l) false eb k = rw eb at k

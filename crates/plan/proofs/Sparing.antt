@@ -26,7 +26,7 @@ use Rattle.plan.specs.declared.maps.NewTables.{NewTables}
 use Rattle.plan.specs.declared.maps.Supply.{Supply}
 use Rattle.plan.specs.declared.maps.Supply.the-variants.{Pages, Lacking}
 use Rattle.plan.specs.Descend.{wayOf}
-use Rattle.plan.specs.Map.{Go, Refused, wayHas, apartOf, sparedOf, shapeOf, meetsOf, supplyOf, madeOf, placeOf, becauseOf, stoppedOf, fittingOf, standingOf, shapedOf, decideOf}
+use Rattle.plan.specs.Map.{Go, Refused, wayHas, apartOf, sparedOf, allowedOf, meetsOf, supplyOf, madeOf, placeOf, becauseOf, stoppedOf, fittingOf, standingOf, shapedOf, decideOf}
 use Rattle.plan.specs.Spare.{OnWay, last, second, third, fourth, Spared}
 
 -- what is answered is the supply itself
@@ -219,4 +219,4 @@ module _ (h : ℕ → Bool) (m : ℕ → ℕ) (sp : Space) (q : Asked) (p : Mapp
   -- THE PAGES THAT MAP TAKES, of any bytes
   pub map-spared : decideOf h m sp q ≡ Go p → Spared (wayOf h m sp (q .base) (p .target)) (p .fresh)
   unfolding decideOf
-  map-spared e = shaped-so (shapeOf (q .size) (q .base) (q .frame)) e
+  map-spared e = shaped-so (allowedOf q) e

@@ -1,5 +1,6 @@
 pub mod Descend
 pub mod Find
+pub mod Rights
 pub mod Protect
 pub mod Map
 pub mod Spare

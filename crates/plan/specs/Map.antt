@@ -10,6 +10,7 @@ use Rattle.entry.specs.Entry.{frameEnd}
 use Rattle.entry.specs.Words.{tableWord, madePage}
 use Rattle.entry.specs.declared.Made.{Made}
 use Rattle.entry.specs.declared.Made.the-variants as made
+use Rattle.entry.specs.declared.Rights.{Rights}
 use Rattle.walk.specs.Walk.{canonical, indexOf}
 use Rattle.pool.specs.Book.{namesOf, openedOf, listedOf, inPool}
 use Rattle.pool.specs.Changes.{tookWrites}
@@ -22,7 +23,7 @@ use Rattle.pool.specs.declared.Listed.the-variants as listed
 use Rattle.pool.specs.declared.Opened.{Opened}
 use Rattle.pool.specs.declared.Opened.the-variants as opened
 use Rattle.plan.specs.declared.Reason.{Reason}
-use Rattle.plan.specs.declared.Reason.the-variants.{Size, BaseUnaligned, FrameUnaligned, BaseRange, FrameRange, Pool, FrameInPool, Overlap, NoRoom, Stray, BadList}
+use Rattle.plan.specs.declared.Reason.the-variants.{Size, BaseUnaligned, FrameUnaligned, BaseRange, FrameRange, WriteExecute, Pool, FrameInPool, Overlap, NoRoom, Stray, BadList}
 use Rattle.plan.specs.declared.descent.Way.{Way}
 use Rattle.plan.specs.declared.descent.Why.{Why}
 use Rattle.plan.specs.declared.descent.Why.the-variants as why
@@ -40,8 +41,9 @@ use Rattle.plan.specs.declared.building.TableReached.{TableReached}
 use Rattle.plan.specs.declared.building.Making.{Making}
 use Rattle.plan.specs.declared.building.Making.the-variants as making
 use Rattle.plan.specs.Descend.{wayOf}
+use Rattle.plan.specs.Rights.{writeExecute}
 
--- Sizes, alignment, range --------------------------------------------------------------------------------------------------------
+-- Sizes, alignment, range, rights --------------------------------------------------------------------------------------------------------
 
 unfoldable pub fitsOf : ℕ → ℕ → ℕ → ℕ → Shape
 fitsOf n size base frame =
@@ -56,6 +58,14 @@ shapeOf size base frame =
     cond (eqb size 4096)
     (fitsOf 0 4096 base frame)
     (cond (eqb size 2097152) (fitsOf 1 2097152 base frame) (cond (eqb size 1073741824) (fitsOf 2 1073741824 base frame) (Bad Size)))
+
+unfoldable pub strictOf : Rights → Shape → Shape
+strictOf r (Level n) = cond (writeExecute r) (Bad WriteExecute) (Level n)
+strictOf r (Bad y) = Bad y
+
+-- size, alignment and range, and then the rights: all that is looked at before the pool
+unfoldable pub allowedOf : Asked → Shape
+allowedOf q = strictOf (q .rights) (shapeOf (q .size) (q .base) (q .frame))
 
 -- what is asked ends where frames do, or below
 abbrev pub Sized : Asked → Type 0
@@ -151,9 +161,9 @@ unfoldable pub shapedOf : (ℕ → Bool) → (ℕ → ℕ) → Space → Asked �
 shapedOf h m sp q (Level n) = standingOf h m sp q n
 shapedOf h m sp q (Bad r) = Refused r
 
--- WHAT MAP DECIDES: size, alignment, range, the pool, overlap, room, in this order
+-- WHAT MAP DECIDES: size, alignment, range, rights, the pool, overlap, room, in this order
 unfoldable pub decideOf : (ℕ → Bool) → (ℕ → ℕ) → Space → Asked → Placed
-decideOf h m sp q = shapedOf h m sp q (shapeOf (q .size) (q .base) (q .frame))
+decideOf h m sp q = shapedOf h m sp q (allowedOf q)
 
 -- What is built ------------------------------------------------------------------------------------------------------------------------
 

@@ -1,6 +1,6 @@
 -- Protect: the decision, and the one write of its plan.
 use Prim.Native.Nat.{ℕ, _<_}
-use mathlib.Core.Bool.{Bool}
+use mathlib.Core.Bool.{Bool, cond}
 use mathlib.Core.List.{List, [], _∷_}
 use Rattle.word.specs.Writes.{Write, write}
 use Rattle.entry.specs.Words.{withRights}
@@ -8,6 +8,7 @@ use Rattle.entry.specs.declared.Rights.{Rights}
 use Rattle.walk.specs.Walk.{indexOf}
 use Rattle.pool.specs.Book.{bookOf, ticketIn}
 use Rattle.pool.specs.declared.Space.{Space}
+use Rattle.plan.specs.declared.Reason.the-variants.{WriteExecute}
 use Rattle.plan.specs.declared.finding.PageEntry.{PageEntry}
 use Rattle.plan.specs.declared.finding.Sought.{Sought}
 use Rattle.plan.specs.declared.finding.Sought.the-variants as sought
@@ -15,6 +16,7 @@ use Rattle.plan.specs.declared.protects.Change.{Change}
 use Rattle.plan.specs.declared.protects.Changing.{Changing}
 use Rattle.plan.specs.declared.protects.Changing.the-variants.{Go, Refused}
 use Rattle.plan.specs.Find.{findOf}
+use Rattle.plan.specs.Rights.{writeExecute}
 
 unfoldable pub changeOf : ℕ → PageEntry → Rights → ℕ → Change
 changeOf va s r t = record {
@@ -31,9 +33,9 @@ unfoldable pub changingOf : (ℕ → ℕ) → Space → ℕ → Rights → Sough
 changingOf m sp va r (sought.Found s) = Go (changeOf va s r (ticketIn (bookOf m sp)))
 changingOf m sp va r (sought.Refused y) = Refused y
 
--- WHAT PROTECT DECIDES
+-- WHAT PROTECT DECIDES: the rights that are asked, then the pool, then whether a page starts there
 unfoldable pub decideOf : (ℕ → Bool) → (ℕ → ℕ) → Space → ℕ → Rights → Changing
-decideOf h m sp va r = changingOf m sp va r (findOf h m sp va)
+decideOf h m sp va r = cond (writeExecute r) (Refused WriteExecute) (changingOf m sp va r (findOf h m sp va))
 
 -- what it writes
 unfoldable pub writesOf : Change → List Write

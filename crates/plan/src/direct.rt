@@ -15,6 +15,7 @@ use crate::maps::Asked;
 use crate::maps::Shape;
 use crate::maps::fits;
 use crate::maps::meets;
+use crate::rights::write_execute;
 use entry::Entry;
 use entry::Made;
 use pool::Fit;
@@ -140,6 +141,9 @@ pub fn at_once(mem: &mut [u8], left: &mut u64, space: Space, q: Asked, n: u64) -
         return Once::Unsaid;
     };
     let rights = q.rights;
+    if write_execute(rights) {
+        return Once::Unsaid;
+    }
     let m = entry::page_word(n, q.frame, rights);
     let Made::Word(x) = m else {
         return Once::Unsaid;

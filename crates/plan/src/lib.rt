@@ -5,6 +5,7 @@ mod direct;
 mod finding;
 mod maps;
 mod protects;
+mod rights;
 mod spare;
 mod unmaps;
 
@@ -16,10 +17,11 @@ pub use direct::Once;
 pub use direct::at_once;
 pub use maps::Asked;
 pub use maps::Shape;
-pub use maps::shaped;
+pub use maps::allowed;
 pub use protects::Change;
 pub use protects::Changing;
 pub use protects::protect;
+pub use rights::write_execute;
 pub use unmaps::Removal;
 pub use unmaps::Unmapping;
 pub use unmaps::unmap;
@@ -34,6 +36,8 @@ pub enum Reason {
     BaseRange,
     // the frame does not end at 2^52 or below
     FrameRange,
+    // a page with these rights could be written and executed
+    WriteExecute,
     // the window, the pool, the root or the book
     Pool(pool::Reason),
     FrameInPool,

@@ -12,6 +12,7 @@ use crate::Reason;
 use crate::descent::Arrival;
 use crate::descent::Why;
 use crate::descent::descend;
+use crate::rights::write_execute;
 use crate::spare::spared;
 use entry::Made;
 use entry::Rights;
@@ -110,7 +111,7 @@ pub fn fits(n: u64, size: u64, base: u64, frame: u64) -> Shape
     tested(n, size, base, frame)
 }
 
-pub fn shaped(size: u64, base: u64, frame: u64) -> Shape
+fn shaped(size: u64, base: u64, frame: u64) -> Shape
     ensures { λ r. ⌜ r ≡ the.shapeOf size base frame ⌝ }
 {
     if size == 4096 {
@@ -123,6 +124,23 @@ pub fn shaped(size: u64, base: u64, frame: u64) -> Shape
         return fits(2, 1073741824, base, frame);
     }
     Shape::Bad(Reason::Size)
+}
+
+// All of what is asked that is looked at before the pool: its size, alignment and range, and then its rights.
+pub fn allowed(q: Asked) -> Shape
+    ensures { λ r. ⌜ r ≡ the.allowedOf q ⌝ }
+{
+    let s = shaped(q.size, q.base, q.frame);
+    match s {
+        Shape::Bad(y) => Shape::Bad(y),
+        Shape::Level(n) => {
+            let rights = q.rights;
+            if write_execute(rights) {
+                return Shape::Bad(Reason::WriteExecute);
+            }
+            Shape::Level(n)
+        }
+    }
 }
 
 // Do the frame and the pool share a byte?
@@ -302,7 +320,7 @@ fn standing(mem: &[u8], space: Space, q: Asked, target: u64, x: u64) -> Placing
 pub fn decide_map(mem: &[u8], space: Space, q: Asked) -> Placing
     ensures { λ r. ⌜ r ≡ the.placingOf (the.decideOf (holds (now (mem .entry)) (space .origin)) (memory (now (mem .entry)) (space .origin)) space q) ⌝ }
 {
-    let s = shaped(q.size, q.base, q.frame);
+    let s = allowed(q);
     match s {
         Shape::Bad(r) => Placing::Refused(r),
         Shape::Level(n) => {

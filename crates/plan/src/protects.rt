@@ -8,6 +8,7 @@ use crate::Reason;
 use crate::finding::PageEntry;
 use crate::finding::Sought;
 use crate::finding::find;
+use crate::rights::write_execute;
 use entry::Rights;
 use pool::Space;
 
@@ -44,6 +45,9 @@ fn changed(va: u64, s: PageEntry, rights: Rights, ticket: u64) -> Change
 fn decide_protect(mem: &[u8], space: Space, va: u64, rights: Rights) -> Changing
     ensures { λ r. ⌜ r ≡ the.decideOf (holds (now (mem .entry)) (space .origin)) (memory (now (mem .entry)) (space .origin)) space va rights ⌝ }
 {
+    if write_execute(rights) {
+        return Changing::Refused(Reason::WriteExecute);
+    }
     let s = find(mem, space, va);
     match s {
         Sought::Refused(r) => Changing::Refused(r),

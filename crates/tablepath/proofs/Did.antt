@@ -156,7 +156,7 @@ module _ (h : ℕ → Bool) (sp : Space) where
     unfolding toldWrites toldDid
     told-stirs t = rw (book-opens w) (due-stirs t (dueOf (bookOf m sp) t) refl)
 
-    plan-stirs : (c : Call) → Stirs c m m (eventsOf (callWrites h m sp c))
+    pub plan-stirs : (c : Call) → Stirs c m m (eventsOf (callWrites h m sp c))
     unfolding callWrites mapWrites unmapWrites protectWrites
     plan-stirs (calls.map q) = map-stirs q (map.decideOf h m sp q) refl
     plan-stirs (calls.unmap va) = unmap-stirs va (unmap.decideOf h m sp va) refl

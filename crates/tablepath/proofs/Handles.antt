@@ -1,7 +1,7 @@
 -- ONE HANDLE. Where a space is whole, every call that names its first page with other pages or another root, or begins at another page of its
 -- pool, is refused and writes nothing. A call that is not refused found a book with exactly its numbers; and it leaves every other space.
 use Prim.Native.Nat.{ℕ, _+_, _*_, _/_, _%_, _<_, _≤_}
-use mathlib.Core.Bool.{Bool, true}
+use mathlib.Core.Bool.{Bool, true, false}
 use mathlib.Core.List.{List, []}
 use mathlib.Core.Logic.{_⊎_, inl, inr, _≢_}
 use mathlib.Core.Path.{_≡_, refl, sym, ap, _∙_, subst}
@@ -30,12 +30,14 @@ use Rattle.plan.specs.Find.{findOf, soughtOf}
 use Rattle.plan.specs.Map as map
 use Rattle.plan.specs.Unmap as unmap
 use Rattle.plan.specs.Protect as protect
+use Rattle.plan.specs.Rights.{writeExecute}
 use Rattle.plan.specs.declared.Reason.{Reason}
-use Rattle.plan.specs.declared.Reason.the-variants.{Pool}
+use Rattle.plan.specs.declared.Reason.the-variants.{Pool, WriteExecute}
 use Rattle.plan.specs.declared.maps.Asked.{Asked}
 use Rattle.plan.specs.declared.maps.Shape.{Shape}
 use Rattle.plan.specs.declared.maps.Shape.the-variants as shape
 use Rattle.plan.specs.declared.finding.Sought.the-variants as sought
+use Rattle.plan.specs.declared.protects.Changing.the-variants as changing
 use Rattle.effect.specs.OfPool.{OfPool}
 use Rattle.effect.specs.Whole.{Whole}
 use Rattle.tablepath.specs.Answers.{mapAnswer, mapWrites, mapSaid, unmapAnswer, unmapWrites, unmapSaid, protectAnswer, protectWrites, protectSaid, toldAnswer, toldWrites, toldSaid, toldDid}
@@ -58,18 +60,26 @@ module _ (h : ℕ → Bool) (m : ℕ → ℕ) (sp : Space) (r : PoolReason) (e :
 
   not-mapped : (q : Asked) → (y : Reason) × (map.decideOf h m sp q ≡ map.Refused y)
   unfolding map.decideOf map.shapedOf map.standingOf map.fittingOf
-  not-mapped q = go (map.shapeOf (q .size) (q .base) (q .frame)) refl
+  not-mapped q = go (map.allowedOf q) refl
     where
-      go : (x : Shape) → map.shapeOf (q .size) (q .base) (q .frame) ≡ x → (y : Reason) × (map.shapedOf h m sp q (map.shapeOf (q .size) (q .base) (q .frame)) ≡ map.Refused y)
+      go : (x : Shape) → map.allowedOf q ≡ x → (y : Reason) × (map.shapedOf h m sp q (map.allowedOf q) ≡ map.Refused y)
       go (shape.Bad y) s = (y, rw s)
       go (shape.Level n) s = (Pool r, rw (s, e))
 
+  not-protected : (va : ℕ) (g : Rights) → (y : Reason) × (protect.decideOf h m sp va g ≡ changing.Refused y)
+  unfolding protect.decideOf protect.changingOf
+  not-protected va g = go (writeExecute g) refl
+    where
+      go : (b : Bool) → writeExecute g ≡ b → (y : Reason) × (protect.decideOf h m sp va g ≡ changing.Refused y)
+      go true s = (WriteExecute, rw s)
+      go false s = (Pool r, rw (s, not-found va))
+
   -- EVERY CALL WITH IT IS REJECTED
   pub unnamed-rejected : (c : Call) → Rejected h m sp c
-  unfolding callWrites mapAnswer mapWrites mapSaid map.didOf unmapAnswer unmapWrites unmapSaid unmap.removingOf unmap.didOf protectAnswer protectWrites protectSaid protect.decideOf protect.changingOf protect.didOf toldAnswer toldWrites toldSaid toldDid openedOf openedIn
+  unfolding callWrites mapAnswer mapWrites mapSaid map.didOf unmapAnswer unmapWrites unmapSaid unmap.removingOf unmap.didOf protectAnswer protectWrites protectSaid protect.didOf toldAnswer toldWrites toldSaid toldDid openedOf openedIn
   unnamed-rejected (calls.map q) = let k = not-mapped q in record { refused = (k .0, rw (k .1)); nothing = rw (k .1) }
   unnamed-rejected (calls.unmap va) = record { refused = (Pool r, rw (not-unmapped va)); nothing = rw (not-unmapped va) }
-  unnamed-rejected (calls.protect va g) = record { refused = (Pool r, rw (not-found va)); nothing = rw (not-found va) }
+  unnamed-rejected (calls.protect va g) = let k = not-protected va g in record { refused = (k .0, rw (k .1)); nothing = rw (k .1) }
   unnamed-rejected (calls.told t) = record { refused = (r, rw e); nothing = rw e }
 
   -- AND FOR THAT REASON
@@ -78,7 +88,7 @@ module _ (h : ℕ → Bool) (m : ℕ → ℕ) (sp : Space) (r : PoolReason) (e :
   unnamed-reason = record {
     map = λ q l s. rw (s, e);
     unmap = λ va. rw (not-unmapped va);
-    protect = λ va g. rw (not-found va);
+    protect = λ va g s. rw (s, not-found va);
     told = λ t. rw e;
   }
 

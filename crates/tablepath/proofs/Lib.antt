@@ -15,11 +15,13 @@ pub mod Telling
 pub mod Nights
 pub mod Onward
 pub mod FrameGone
+pub mod Strict
 pub mod TableGone
 pub mod Numbering
 pub mod NightTickets
 pub mod AfterMap
 pub mod NightWitness
+pub mod StrictWitness
 pub mod RoundTrips
 pub mod Wholes
 pub mod Handles

@@ -51,7 +51,7 @@ use Rattle.tablepath.proofs.Marking.{saw-self}
 use Rattle.tablepath.proofs.Says.{unmap-says}
 use Rattle.tablepath.proofs.Nights.{exact-complete}
 use Rattle.tablepath.proofs.FrameGone.{frame-gone}
-use Rattle.tablepath.specs.Witness.{five, page}
+use Rattle.tablepath.specs.Witness.{five, ofData, page}
 use Rattle.tablepath.proofs.Witness.{nothing-yet, goes, five-pages, start, none-mapped}
 use Rattle.tablepath.specs.NightWitness.{arrive, act, calm, window, contents, mapped, gone, shot, reported}
 
@@ -116,12 +116,12 @@ module _ (s : List ℕ) (e : length s ≡ 20480) where
   whole₁ : Whole (window s) five m₁ (five-pages s e .0)
   whole₁ = five-pages s e .1
 
-  means₁ : meaning (settingOf (window s) five) m₁ 0 ≡ found.Page 0 4096 1048576 everything
+  means₁ : meaning (settingOf (window s) five) m₁ 0 ≡ found.Page 0 4096 1048576 ofData
   means₁ = five-pages s e .3
 
   -- and unmapped
   removes : (r : Removal) × (unmap.decideOf (window s) m₁ five 0 ≡ unmap′.Go r)
-  removes = unmap-exactly whole₁ 0 .succeeds .1 (record { address = 0; size = 4096; frame = 1048576; rights = everything; means = means₁ })
+  removes = unmap-exactly whole₁ 0 .succeeds .1 (record { address = 0; size = 4096; frame = 1048576; rights = ofData; means = means₁ })
 
   removed : UnmapDone (window s) five m₁ (five-pages s e .0) 0 (removes .0)
   removed = unmapped whole₁ 0 (removes .0) (removes .1)
@@ -129,7 +129,7 @@ module _ (s : List ℕ) (e : length s ≡ 20480) where
   abbrev m₂ : ℕ → ℕ
   m₂ = word.after m₁ (unmap.writesOf five 0 (removes .0))
 
-  same-page : found.Page 0 (removes .0 .page .size) (removes .0 .page .frame) (removed .had) ≡ found.Page 0 4096 1048576 everything
+  same-page : found.Page 0 (removes .0 .page .size) (removes .0 .page .frame) (removed .had) ≡ found.Page 0 4096 1048576 ofData
   same-page = sym (removed .before) ∙ means₁
 
   long : removes .0 .page .size ≡ 4096
@@ -227,7 +227,7 @@ module _ (s : List ℕ) (e : length s ≡ 20480) where
       answered : (g : Gone) → unmapAnswer (window s) (codeSees (window s) five (mapped s)) five 0 ≡ unmapped′.Done g → g .size ≡ 4096
       answered g a =
           let there : unmapAnswer (window s) m₁ five 0 ≡ unmapped′.Done g = subst (λ x. unmapAnswer (window s) x five 0 ≡ unmapped′.Done g) (seen-now (window s) five untoldKept (mapped s) (honest₁ .0) (honest₁ .1) ∙ now₁) a in
-          let p : found.Page 0 (g .size) (g .frame) _ ≡ found.Page 0 4096 1048576 everything = sym (unmap-says whole₁ 0 .gone g there .before) ∙ means₁ in
+          let p : found.Page 0 (g .size) (g .frame) _ ≡ found.Page 0 4096 1048576 ofData = sym (unmap-says whole₁ 0 .gone g there .before) ∙ means₁ in
           cc
 
       hits : (va : ℕ) → Hits (window s) five (Hit (window s) five) acts va → va < 4096

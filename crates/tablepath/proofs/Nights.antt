@@ -145,6 +145,11 @@ module _ (h : ℕ → Bool) (sp : Space) where
     pub night-facts : Facts h sp N
     night-facts = sure Half (λ p x. x) N honest (inl complete) .facts
 
+    -- whatever is given, its address meant it at some moment since the shootdown began that was the last to tell it
+    pub night-told-fresh : (va : ℕ) (o : Found) → Gets h sp untoldKept N va o → Fresh (walkerOf (settingOf h sp)) untoldKept (history N) va o
+    night-told-fresh va o g =
+        fresh (walkerOf (settingOf h sp)) (laws-of (settingOf h sp)) untoldKept (finishes h sp Half) (history N) (s .keeps) (s .tells) va (g .place) o (g .held) (g .gives)
+
     -- a word that the walk of an address reads at no moment of the last period is read from nothing that is held
     pub night-reads : (va x : ℕ) → All (lastBegan N) (lastSince N) (λ y. ¬ Reads (walkerOf (settingOf h sp)) y va (walkerOf (settingOf h sp) .start va) x) → ¬ MayRead h sp untoldKept N va x
     night-reads va x none r =
@@ -238,6 +243,9 @@ module _ (h : ℕ → Bool) (sp : Space) where
   module _ (N : Night) (honest : Honest h sp upperDropped N) where
     abbrev t : Sure (λ p. ⊥) N
     t = sure (λ p. ⊥) (λ p x. absurd x) N honest (inr (λ p x. x))
+
+    pub stale-facts : Facts h sp N
+    stale-facts = sure (λ p. ⊥) (λ p x. absurd x) N honest (inr (λ p x. x)) .facts
 
     pub night-fresh : NightFresh h sp N
     night-fresh va o g = fresh (walkerOf (settingOf h sp)) (laws-of (settingOf h sp)) upperDropped (finishes h sp (λ p. ⊥)) (history N) (t .keeps) (t .tells) va (g .place) o (g .held) (g .gives)

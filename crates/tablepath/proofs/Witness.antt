@@ -11,7 +11,7 @@ use lib.Dec.{eqb, leb, ltb}
 use lib.ListN.{length}
 use Rattle.word.specs.Memory.{memory, holds}
 use Rattle.word.specs.Writes.{after}
-use Rattle.entry.specs.Entry.{sizeOf, everything}
+use Rattle.entry.specs.Entry.{sizeOf}
 use Rattle.entry.specs.declared.Rights.{Rights}
 use Rattle.entry.specs.declared.Entry.the-variants.{Page}
 use Rattle.entry.proofs.Parts.{root-no-page}
@@ -36,16 +36,17 @@ use Rattle.pool.proofs.Pages.{adds-up}
 use Rattle.plan.specs.Map as map
 use Rattle.plan.specs.declared.Reason.{Reason}
 use Rattle.plan.specs.declared.maps.Mapping.{Mapping}
+use Rattle.plan.specs.Rights.{writeExecute}
 use Rattle.effect.specs.Whole.{Whole}
 use Rattle.effect.specs.MapDone.{MapDone}
-use Rattle.effect.specs.MapRefused.{Cause, no-size, base-unaligned, frame-unaligned, base-range, frame-high, frame-in-pool, mapped, no-room}
+use Rattle.effect.specs.MapRefused.{Cause, no-size, base-unaligned, frame-unaligned, base-range, frame-high, write-execute, frame-in-pool, mapped, no-room}
 use Rattle.effect.proofs.Wholes.{owned}
 use Rattle.effect.proofs.MapDone.{mapped-inside}
 use Rattle.effect.proofs.MapRefused.{map-succeeds}
 use Rattle.tablepath.specs.Looks.{WholeBytes}
 use Rattle.tablepath.proofs.Wholes.{create-whole}
 use Rattle.tablepath.proofs.Means.{map-means}
-use Rattle.tablepath.specs.Witness.{five, pageOn, page, bytes, Mappable}
+use Rattle.tablepath.specs.Witness.{five, ofData, pageOn, page, bytes, Mappable}
 
 -- a new pool has no role but these
 new-roles : (sp : Space) (p : ℕ) (P : Role → Type 0) → P foreign → P book → P root → P free → P (newRole sp p)
@@ -113,7 +114,7 @@ pub one-page : bookPages 5 ≡ 1
 one-page = small-book 5 (omega arith)
 
 module _ (s : List ℕ) (e : length s ≡ 20480) where
-  made : createdOf (length s) (holds s 0) 0 0 5 ≡ created.Root 1
+  pub made : createdOf (length s) (holds s 0) 0 0 5 ≡ created.Root 1
   unfolding createdOf createdIn mayCreate roomOf holds
   made = rw (e, one-page, one-page)
 
@@ -132,6 +133,7 @@ module _ (s : List ℕ) (e : length s ≡ 20480) where
   fine va a h r (frame-unaligned l o b n) = n refl
   fine va a h r (base-range l o b c n) = false≢true (sym n ∙ h)
   fine va a h r (frame-high l o b c u n) = omega arith
+  fine va a h r (write-execute l o b c u v x) = false≢true (unfold writeExecute in x)
   fine va a h r (frame-in-pool l g k) = omega (arith, k .1)
   fine va a h r (mapped l g c k) = none-mapped start (k .address) (k .start) (k .long) (k .frame) (k .rights) (k .means)
   fine va a h r (no-room l n g c x k u) = omega (arith, enough, only-root start (k .comes))
@@ -158,7 +160,7 @@ module _ (s : List ℕ) (e : length s ≡ 20480) where
   -- THE WITNESS: the space is whole; the three free pages are tables; address 0 means the page
   pub five-pages : (role : ℕ → Role) × Whole (holds (bytes s) 0) five (after (memory (bytes s) 0) (map.writesOf five (goes .0))) role
       × ((j : ℕ) → j < 3 → (l : ℕ) × (q : ℕ) × (i : ℕ) × (role (pageAt (memory (bytes s) 0) five j) ≡ table l q i))
-      × (meaning (settingOf (holds (bytes s) 0) five) (after (memory (bytes s) 0) (map.writesOf five (goes .0))) 0 ≡ found.Page 0 4096 1048576 everything)
+      × (meaning (settingOf (holds (bytes s) 0) five) (after (memory (bytes s) 0) (map.writesOf five (goes .0))) 0 ≡ found.Page 0 4096 1048576 ofData)
   five-pages =
       let d = goes .2 in
       let three : goes .0 .fresh .need ≡ 3 = omega (arith, only-root start (d .missing .comes), last-size (goes .0 .target) (d .fitted .level) (d .fitted .size-is)) in

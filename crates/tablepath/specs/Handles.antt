@@ -1,6 +1,6 @@
 -- ONE HANDLE: what a call does that names another space than the one that is there; and what a call on one space does to another.
 use Prim.Native.Nat.{ℕ, _+_, _≤_}
-use mathlib.Core.Bool.{Bool}
+use mathlib.Core.Bool.{Bool, false}
 use mathlib.Core.List.{List, []}
 use mathlib.Core.Logic.{_⊎_, _≢_}
 use mathlib.Core.Path.{_≡_}
@@ -11,7 +11,8 @@ use Rattle.pool.specs.declared.Fit.the-variants as fit
 use Rattle.pool.specs.declared.Reason.{Reason as PoolReason}
 use Rattle.pool.specs.declared.Reason.the-variants.{NoBook, OtherBook, BadRoot}
 use Rattle.entry.specs.declared.Rights.{Rights}
-use Rattle.plan.specs.Map.{shapeOf}
+use Rattle.plan.specs.Map.{allowedOf}
+use Rattle.plan.specs.Rights.{writeExecute}
 use Rattle.plan.specs.declared.Reason.{Reason}
 use Rattle.plan.specs.declared.Reason.the-variants.{Pool}
 use Rattle.plan.specs.declared.maps.Asked.{Asked}
@@ -42,11 +43,11 @@ pub record NamedNot (h : ℕ → Bool) (m : ℕ → ℕ) (sp : Space) : Type 0 w
   pub other-book : m (wordOf sp signatureAt) ≡ signature → m (wordOf sp pagesAt) ≢ sp .pages → namesOf h m sp ≡ fit.Refused OtherBook
   pub bad-root : m (wordOf sp signatureAt) ≡ signature → m (wordOf sp pagesAt) ≡ sp .pages → m (wordOf sp rootAt) ≢ sp .root → namesOf h m sp ≡ fit.Refused BadRoot
 
--- and that is the reason that every operation answers; of map, where size, alignment and range fit
+-- and that is the reason that every operation answers; of map, where size, alignment, range and rights fit, of protect, where the rights do
 pub record RefusedFor (y : PoolReason) (h : ℕ → Bool) (m : ℕ → ℕ) (sp : Space) : Type 0 where
-  pub map : (q : Asked) (l : ℕ) → shapeOf (q .size) (q .base) (q .frame) ≡ Level l → mapAnswer h m sp q ≡ mapped.Refused (Pool y)
+  pub map : (q : Asked) (l : ℕ) → allowedOf q ≡ Level l → mapAnswer h m sp q ≡ mapped.Refused (Pool y)
   pub unmap : (va : ℕ) → unmapAnswer h m sp va ≡ unmapped.Refused (Pool y)
-  pub protect : (va : ℕ) (r : Rights) → protectAnswer h m sp va r ≡ protected.Refused (Pool y)
+  pub protect : (va : ℕ) (r : Rights) → writeExecute r ≡ false → protectAnswer h m sp va r ≡ protected.Refused (Pool y)
   pub told : (t : ℕ) → toldAnswer h m sp t ≡ told.Refused y
 
 -- there is a book with exactly these numbers

@@ -7,6 +7,7 @@ pub mod Means
 pub mod Nights
 pub mod Gone
 pub mod Shown
+pub mod Strict
 pub mod Handles
 pub mod Witness
 pub mod NightWitness

@@ -27,10 +27,11 @@ use Rattle.pool.specs.declared.Reason.{Reason as PoolReason}
 use Rattle.pool.specs.declared.Reason.the-variants.{OriginUnaligned, LengthUnaligned, PoolLarge, PoolSmall, PoolOutside}
 use Rattle.plan.specs.declared.Reason.{Reason}
 use Rattle.plan.specs.declared.maps.Asked.{Asked}
+use Rattle.plan.specs.Rights.{writeExecute}
 use Rattle.effect.specs.Whole.{Whole}
 use Rattle.effect.specs.MapDone.{Fitted, Misses}
 use Rattle.effect.specs.MapRefused.{Cause}
-use Rattle.effect.specs.StartsAt.{StartsAt, NotThere}
+use Rattle.effect.specs.StartsAt.{StartsAt, NotThere, NotProtected}
 use Rattle.effect.specs.UnmapDone.{SetAside}
 use Rattle.tablepath.specs.declared.Mapped.{Mapped}
 use Rattle.tablepath.specs.declared.Mapped.the-variants as mapped
@@ -134,10 +135,10 @@ module _ (h h' : ℕ → Bool) (sp : Space) (m m' : ℕ → ℕ) (role : ℕ →
     pub ticket : (g .ticket ≡ ticketOf (bookOf m' sp)) × (g .ticket ≡ ticketOf (bookOf m sp))
 
   pub record ProtectSays (va : ℕ) (rights : Rights) (r : Protected) : Type 0 where
-    -- as unmap: it refuses exactly where no page is found
-    pub refused : (y : Reason) → (r ≡ protected.Refused y) ↔ NotThere (settingOf h sp) m va y
-    -- it is done exactly where one starts
-    pub done : ((g : Altered) × (r ≡ protected.Done g)) ↔ StartsAt (settingOf h sp) m va
+    -- it refuses exactly where the page would be writable and executable, and then, as unmap, where none is found
+    pub refused : (y : Reason) → (r ≡ protected.Refused y) ↔ NotProtected (settingOf h sp) m va rights y
+    -- it is done exactly where one starts and it would not
+    pub done : ((g : Altered) × (r ≡ protected.Done g)) ↔ ((writeExecute rights ≡ false) × StartsAt (settingOf h sp) m va)
     -- and what it answers then is so
     pub same : (g : Altered) → r ≡ protected.Done g → ProtectSame va rights g
 

@@ -1,6 +1,6 @@
 -- MAP_FRAME, both outcomes: what the source promises follows from what our map answers and writes.
 use Prim.Native.Nat.{ℕ, zero, suc, _+_, _*_, _%_, _^_, _<_, _≤_}
-use mathlib.Core.Bool.{Bool, false≢true}
+use mathlib.Core.Bool.{Bool, false, false≢true}
 use mathlib.Core.Logic.{inl, inr, _≢_}
 use mathlib.Core.Option.{none}
 use mathlib.Core.Path.{_≡_, refl, sym, ap, _∙_, subst}
@@ -26,9 +26,10 @@ use Rattle.plan.specs.declared.Reason.{Reason}
 use Rattle.plan.specs.declared.maps.Asked.{Asked}
 use Rattle.plan.specs.declared.maps.Mapping.{Mapping}
 use Rattle.plan.specs.Map.{Placed}
+use Rattle.plan.specs.Rights.{writeExecute}
 use Rattle.effect.specs.Whole.{Whole}
 use Rattle.effect.specs.MapDone.{MapDone, Fitted}
-use Rattle.effect.specs.MapRefused.{Cause, FrameApart, SomeMapped, no-size, base-unaligned, frame-unaligned, base-range, frame-high, frame-in-pool, mapped, no-room}
+use Rattle.effect.specs.MapRefused.{Cause, FrameApart, SomeMapped, no-size, base-unaligned, frame-unaligned, base-range, frame-high, write-execute, frame-in-pool, mapped, no-room}
 use Rattle.effect.proofs.Wholes.{root-low}
 use Rattle.effect.proofs.MapDone.{decided-done, mapped-inside, mapped-outside}
 use Rattle.effect.proofs.MapRefused.{map-refused, map-succeeds}
@@ -76,10 +77,10 @@ frame-ends (suc zero) f u k p = omega arith
 frame-ends (suc (suc zero)) f u k p = omega arith
 frame-ends (suc (suc (suc l))) f u k p = absurd (omega arith)
 
--- what accepted_mapping accepts fits
-pub accepted-fits : (q : Asked) (a : AcceptedMapping (q .base) (askedEntry q)) → Fitted (a .size .level) q
+-- what accepted_mapping accepts fits, where it is not both writable and executable
+pub accepted-fits : (q : Asked) (a : AcceptedMapping (q .base) (askedEntry q)) → writeExecute (q .rights) ≡ false → Fitted (a .size .level) q
 unfolding pteOf
-accepted-fits q a = record {
+accepted-fits q a s = record {
   level = a .size .low;
   size-is = a .size .is;
   base-aligned = a .vaddr-aligned;
@@ -88,6 +89,7 @@ accepted-fits q a = record {
   frame-fits =
       let k : q .frame % sizeOf (a .size .level) ≡ 0 = subst (λ x. q .frame % x ≡ 0) (a .size .is) (a .frame-aligned) in
       omega (arith, a .size .is, frame-ends (a .size .level) (q .frame) (a .size .low) k (a .physical));
+  strict = s;
 }
 
 module _ {h : ℕ → Bool} {sp : Space} {m : ℕ → ℕ} {role : ℕ → Role} (w : Whole h sp m role) (q : Asked) where
@@ -140,15 +142,15 @@ module _ {h : ℕ → Bool} {sp : Space} {m : ℕ → ℕ} {role : ℕ → Role}
       go (map.Refused r) e f = let z : _≡_ {A = ℕ} 0 1 = cc in absurd (omega arith)
       go (map.Go p) e f = map-made p e
 
-  -- MAP_FRAME, ERR, where the source's demands hold (accepted_mapping; table memory and frames lie apart; there always is a page): nothing
-  -- was written, and the candidate overlaps.
-  pub map-err : (y : Reason) → mapAnswer h m sp q ≡ mapped′.Refused y → AcceptedMapping (q .base) (askedEntry q) → FrameApart h sp q → 3 ≤ bookOf m sp .free
+  -- MAP_FRAME, ERR, where the source's demands hold (accepted_mapping; table memory and frames lie apart; there always is a page) and the page
+  -- is not both writable and executable, which the source allows: nothing was written, and the candidate overlaps.
+  pub map-err : (y : Reason) → mapAnswer h m sp q ≡ mapped′.Refused y → AcceptedMapping (q .base) (askedEntry q) → writeExecute (q .rights) ≡ false → FrameApart h sp q → 3 ≤ bookOf m sp .free
       → MapErr sp m (mapWrites h m sp q) (q .base) (askedEntry q)
   unfolding mapAnswer mapWrites mapSaid map.didOf pteOf
-  map-err y refused a apart enough = go (map.decideOf h m sp q) refl refused
+  map-err y refused a strict apart enough = go (map.decideOf h m sp q) refl refused
     where
       f : Fitted (a .size .level) q
-      f = accepted-fits q a
+      f = accepted-fits q a strict
 
       wide : 0 < q .size
       wide = omega (arith, f .size-is, size-pos (a .size .level))
@@ -159,6 +161,7 @@ module _ {h : ℕ → Bool} {sp : Space} {m : ℕ → ℕ} {role : ℕ → Role}
       because r (frame-unaligned l o b n) = absurd (n (a .frame-aligned))
       because r (base-range l o b c n) = absurd (false≢true (sym n ∙ a .address))
       because r (frame-high l o b c u n) = absurd (omega (arith, f .frame-fits))
+      because r (write-execute l o b c u v x) = absurd (false≢true (sym strict ∙ x))
       because r (frame-in-pool l g k) = absurd (meets k apart)
         where
           meets : (sp .first * 4096 < q .frame + q .size) × (q .frame < (sp .first + sp .pages) * 4096) → FrameApart h sp q → ⊥

@@ -1,6 +1,6 @@
 -- UNMAP AND PROTECT, both outcomes: what the source promises follows from what ours answer and write.
 use Prim.Native.Nat.{ℕ, _%_, _<_}
-use mathlib.Core.Bool.{Bool}
+use mathlib.Core.Bool.{Bool, false, true≢false}
 use mathlib.Core.List.{List}
 use mathlib.Core.Logic.{_≢_}
 use mathlib.Core.Option.{none, some}
@@ -25,13 +25,15 @@ use Rattle.pool.specs.declared.Space.{Space}
 use Rattle.pool.proofs.Pages.{root-page}
 use Rattle.plan.specs.Unmap as unmap
 use Rattle.plan.specs.Protect as protect
+use Rattle.plan.specs.Rights.{writeExecute}
 use Rattle.plan.specs.declared.Reason.{Reason}
 use Rattle.plan.specs.declared.unmaps.Removing.{Removing}
 use Rattle.plan.specs.declared.unmaps.Removing.the-variants as removing
 use Rattle.plan.specs.declared.protects.Changing.{Changing}
 use Rattle.plan.specs.declared.protects.Changing.the-variants as changing
 use Rattle.effect.specs.Whole.{Whole}
-use Rattle.effect.specs.StartsAt.{StartsAt}
+use Rattle.effect.specs.StartsAt as effect
+use Rattle.effect.specs.StartsAt.{StartsAt, NotProtected, write-execute, not-there}
 use Rattle.effect.specs.UnmapDone.{UnmapDone}
 use Rattle.effect.specs.ProtectDone.{ProtectDone}
 use Rattle.effect.proofs.Searching.{nowhere}
@@ -148,12 +150,16 @@ module _ {h : ℕ → Bool} {sp : Space} {m : ℕ → ℕ} {role : ℕ → Role}
             had = had-page (c .size) (c .frame) (d .had) (d .before);
           })
 
-  -- PROTECT, ERR
-  pub protect-err : (r : Rights) (y : Reason) → protectAnswer h m sp base r ≡ protected′.Refused y → NotThere sp m (protectWrites h m sp base r) base
+  -- PROTECT, ERR, where the page would not be writable and executable, which the source allows
+  pub protect-err : (r : Rights) (y : Reason) → protectAnswer h m sp base r ≡ protected′.Refused y → writeExecute r ≡ false → NotThere sp m (protectWrites h m sp base r) base
   unfolding protectAnswer protectWrites protectSaid protect.didOf
-  protect-err r y refused = go (protect.decideOf h m sp base r) refl refused
+  protect-err r y refused strict = go (protect.decideOf h m sp base r) refl refused
     where
+      only-there : (z : Reason) → NotProtected (settingOf h sp) m base r z → effect.NotThere (settingOf h sp) m base z
+      only-there z (write-execute x) = absurd (true≢false (sym x ∙ strict))
+      only-there z (not-there z' x n) = n
+
       go : (x : Changing) → protect.decideOf h m sp base r ≡ x → protectSaid x ≡ protected′.Refused y → NotThere sp m (protect.didOf x) base
       go (changing.Go c) e f = let z : _≡_ {A = ℕ} 0 1 = cc in absurd (omega arith)
       go (changing.Refused z) e f =
-          record { unchanged = refl; missing = λ k. nowhere (settingOf h sp) m base z (protect-exactly w base r .refused z .0 e) (key-starts k) }
+          record { unchanged = refl; missing = λ k. nowhere (settingOf h sp) m base z (only-there z (protect-exactly w base r .refused z .0 e)) (key-starts k) }

@@ -75,6 +75,8 @@ pub enum Reason {
     SpentTickets = 24,
     /// The rights have a bit that means nothing.
     Rights = 25,
+    /// The page would be writable and executable.
+    WriteExecute = 27,
     // tools/reasons: end
 }
 

@@ -69,7 +69,7 @@ pub trait Operations {
 
 /// The reasons, by number; 0 is no refusal.
 // tools/reasons: names (of include/reasons.txt)
-pub const REASONS: [&str; 27] = [
+pub const REASONS: [&str; 28] = [
     "done",
     "Size",
     "BaseUnaligned",
@@ -97,6 +97,7 @@ pub const REASONS: [&str; 27] = [
     "SpentTickets",
     "Rights",
     "PointerUnaligned",
+    "WriteExecute",
 ];
 // tools/reasons: end
 

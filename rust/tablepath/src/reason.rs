@@ -94,6 +94,7 @@ reasons! {
     SpentTickets = 24, "no ticket is left: 2^62 tables were set aside";
     Rights = 25, "the rights have a bit that means nothing";
     PointerUnaligned = 26, "the pointer and the origin differ modulo 4096";
+    WriteExecute = 27, "the page would be writable and executable";
     // tools/reasons: end
 }
 

@@ -21,14 +21,14 @@ enum-told-4 c = search needs
 enum-told-5 : tie.Need-enum-told-5
 enum-told-5 c = search needs
 
+enum-told-6 : tie.Need-enum-told-6
+enum-told-6 c = search needs
+
 enum-known-r : tie.Need-enum-known-r
 enum-known-r c = search needs
 
 pool-reason-requires : tie.Need-pool-reason-requires
 pool-reason-requires c κs = search needs
-
-enum-told-6 : tie.Need-enum-told-6
-enum-told-6 c = search needs
 
 enum-told-7 : tie.Need-enum-told-7
 enum-told-7 c = search needs
@@ -44,6 +44,9 @@ enum-told-10 c = search needs
 
 enum-told-11 : tie.Need-enum-told-11
 enum-told-11 c = search needs
+
+enum-told-12 : tie.Need-enum-told-12
+enum-told-12 c = search needs
 
 returns : tie.Need-returns
 unfolding reasonOf
@@ -67,11 +70,11 @@ returns-5 c = rw (c .enum-told5 .given .1)
 
 returns-6 : tie.Need-returns-6
 unfolding reasonOf
-returns-6 c = rw (c .before .before .r .given .1, c .pool-reason .ensures)
+returns-6 c = rw (c .enum-told6 .given .1)
 
 returns-7 : tie.Need-returns-7
 unfolding reasonOf
-returns-7 c = rw (c .enum-told6 .given .1)
+returns-7 c = rw (c .before .before .r .given .1, c .pool-reason .ensures)
 
 returns-8 : tie.Need-returns-8
 unfolding reasonOf
@@ -93,6 +96,10 @@ returns-12 : tie.Need-returns-12
 unfolding reasonOf
 returns-12 c = rw (c .enum-told11 .given .1)
 
+returns-13 : tie.Need-returns-13
+unfolding reasonOf
+returns-13 c = rw (c .enum-told12 .given .1)
+
 pub reason-spec : {M : Type 1} → statement M
 reason-spec =
     tie.close
@@ -102,14 +109,15 @@ reason-spec =
     enum-told-3
     enum-told-4
     enum-told-5
+    enum-told-6
     enum-known-r
     pool-reason-requires
-    enum-told-6
     enum-told-7
     enum-told-8
     enum-told-9
     enum-told-10
     enum-told-11
+    enum-told-12
     returns
     returns-2
     returns-3
@@ -121,4 +129,5 @@ reason-spec =
     returns-9
     returns-10
     returns-11
-    returns-12)
+    returns-12
+    returns-13)

@@ -13,6 +13,7 @@ use Rattle.entry.proofs.size.Reads as size-reads
 use Rattle.plan.proofs.direct.placed.Reads as placed-reads
 use Rattle.plan.proofs.maps.fits.Reads as fits-reads
 use Rattle.plan.proofs.maps.meets.Reads as meets-reads
+use Rattle.plan.proofs.rights.write_execute.Reads as write-execute-reads
 use Rattle.pool.proofs.names.Reads as names-reads
 
 returns : tie.Need-returns
@@ -36,6 +37,12 @@ enum-told-2 c = search needs
 returns-3 : tie.Need-returns-3
 returns-3 c = wrote-none _ _ _
 
+write-execute-requires : tie.Need-write-execute-requires
+write-execute-requires c κs = search needs
+
+returns-4 : tie.Need-returns-4
+returns-4 c = wrote-none _ _ _
+
 page-word-requires : tie.Need-page-word-requires
 page-word-requires c κs = search needs
 
@@ -45,8 +52,8 @@ enum-known-m c = search needs
 enum-told-3 : tie.Need-enum-told-3
 enum-told-3 c = search needs
 
-returns-4 : tie.Need-returns-4
-returns-4 c = wrote-none _ _ _
+returns-5 : tie.Need-returns-5
+returns-5 c = wrote-none _ _ _
 
 names-requires : tie.Need-names-requires
 names-requires c κs = search needs
@@ -60,8 +67,8 @@ enum-told-5 c = search needs
 same-length : tie.Need-same-length
 same-length c = search needs
 
-returns-5 : tie.Need-returns-5
-returns-5 c = wrote-none _ _ _
+returns-6 : tie.Need-returns-6
+returns-6 c = wrote-none _ _ _
 
 meets-requires : tie.Need-meets-requires
 meets-requires c κs = search needs
@@ -69,17 +76,17 @@ meets-requires c κs = search needs
 same-length-2 : tie.Need-same-length-2
 same-length-2 c = search needs
 
-returns-6 : tie.Need-returns-6
-returns-6 c = wrote-none _ _ _
+returns-7 : tie.Need-returns-7
+returns-7 c = wrote-none _ _ _
 
 placed-requires : tie.Need-placed-requires
-placed-requires c κs = (c .before .before .before .before .before .before .before .before .before .before .before .before .before .before .before .before .before .before .before .if1 .left, names-stands _ _ _ (sym (c .before .before .before .before .before .before .names .ensures) ∙ c .before .before .before .before .enum-told4 .given .1))
+placed-requires c κs = (c .before .before .before .before .before .before .before .before .before .before .before .before .before .before .before .before .before .before .before .before .before .if1 .left, names-stands _ _ _ (sym (c .before .before .before .before .before .before .names .ensures) ∙ c .before .before .before .before .enum-told4 .given .1))
 
 same-length-3 : tie.Need-same-length-3
 same-length-3 c = search needs
 
-returns-7 : tie.Need-returns-7
-returns-7 c = found-at-once _ _ _ (c .before .before .placed .last .0) _ (c .before .before .before .before .before .before .before .before .before .before .before .before .before .before .before .before .before .before .before .before .before .before .before .before .args .q) _ _ (sym (c .before .before .before .before .before .before .before .before .before .before .before .before .before .before .page-word .ensures) ∙ c .before .before .before .before .before .before .before .before .before .before .before .before .m .given .1) _ _ _ (c .before .before .before .before .before .before .before .before .before .before .before .before .before .before .before .before .before .before .before .before .before .before .if1 .left) (c .before .before .before .before .before .before .before .before .before .before .before .before .before .before .before .before .before .before .before .if2 .left) (c .before .before .before .before .before .before .before .before .before .before .before .before .before .before .before .before .before .before .before .before .before .size .ensures .0 (omega (arith, c .before .before .before .before .before .before .before .before .before .before .before .before .before .before .before .before .before .before .before .before .before .before .if1 .left))) (sym (c .before .before .before .before .before .before .before .before .before .before .before .before .before .before .before .before .before .before .fits2 .ensures) ∙ c .before .before .before .before .before .before .before .before .before .before .before .before .before .before .before .before .enum-told .given .1) (sym (c .before .before .before .before .before .before .before .before .before .names .ensures) ∙ c .before .before .before .before .before .before .before .enum-told4 .given .1) (c .before .before .before .before .before .before .meets .ensures) (c .before .before .before .before .before .if3 .left) (c .before .before .placed .result) (c .before .before .placed .ensures)
+returns-8 : tie.Need-returns-8
+returns-8 c = found-at-once _ _ _ (c .before .before .placed .last .0) _ (c .before .before .before .before .before .before .before .before .before .before .before .before .before .before .before .before .before .before .before .before .before .before .before .before .before .before .args .q) _ _ (sym (c .before .before .before .before .before .before .before .before .before .before .before .before .before .before .page-word .ensures) ∙ c .before .before .before .before .before .before .before .before .before .before .before .before .m .given .1) _ _ _ (c .before .before .before .before .before .before .before .before .before .before .before .before .before .before .before .before .before .before .before .before .before .before .before .before .if1 .left) (c .before .before .before .before .before .before .before .before .before .before .before .before .before .before .before .before .before .before .before .before .before .if2 .left) (c .before .before .before .before .before .before .before .before .before .before .before .before .before .before .before .before .before .before .before .before .before .before .before .size .ensures .0 (omega (arith, c .before .before .before .before .before .before .before .before .before .before .before .before .before .before .before .before .before .before .before .before .before .before .before .before .if1 .left))) (sym (c .before .before .before .before .before .before .before .before .before .before .before .before .before .before .before .before .before .before .before .before .fits2 .ensures) ∙ c .before .before .before .before .before .before .before .before .before .before .before .before .before .before .before .before .before .before .enum-told .given .1) (sym (c .before .before .before .before .before .before .before .before .before .before .before .before .before .before .before .before .write-execute .ensures) ∙ c .before .before .before .before .before .before .before .before .before .before .before .before .before .before .before .if3 .left) (sym (c .before .before .before .before .before .before .before .before .before .names .ensures) ∙ c .before .before .before .before .before .before .before .enum-told4 .given .1) (c .before .before .before .before .before .before .meets .ensures) (c .before .before .before .before .before .if4 .left) (c .before .before .placed .result) (c .before .before .placed .ensures)
 
 pub at-once-spec : {M : Type 1} → statement M
 at-once-spec =
@@ -92,18 +99,20 @@ at-once-spec =
     enum-told
     enum-told-2
     returns-3
+    write-execute-requires
+    returns-4
     page-word-requires
     enum-known-m
     enum-told-3
-    returns-4
+    returns-5
     names-requires
     enum-told-4
     enum-told-5
     same-length
-    returns-5
+    returns-6
     meets-requires
     same-length-2
-    returns-6
+    returns-7
     placed-requires
     same-length-3
-    returns-7)
+    returns-8)

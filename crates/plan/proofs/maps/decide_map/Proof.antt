@@ -1,5 +1,5 @@
 use Rattle.plan.proofs.Placings.{shaped-made}
-use Rattle.plan.proofs.Shapes.{shaped}
+use Rattle.plan.proofs.Shapes.{shaped, allowed-shape}
 use Rattle.plan.specs.Map.{decideOf, shapedOf, placingOf}
 use mathlib.Core.Path.{sym, _∙_}
 use borrow.Author.Needs.{needs}
@@ -8,11 +8,11 @@ use Rattle.plan.proofs.maps.decide_map.Tie as tie
 use Rattle.plan.proofs.maps.decide_map.Reads as reads
 use Rattle.plan.proofs.maps.decide_map.Lts as lts
 use Rattle.entry.proofs.page_word.Reads as page-word-reads
-use Rattle.plan.proofs.maps.shaped.Reads as shaped-reads
+use Rattle.plan.proofs.maps.allowed.Reads as allowed-reads
 use Rattle.plan.proofs.maps.standing.Reads as standing-reads
 
-shaped-requires : tie.Need-shaped-requires
-shaped-requires c κs = search needs
+allowed-requires : tie.Need-allowed-requires
+allowed-requires c κs = search needs
 
 enum-known-s : tie.Need-enum-known-s
 enum-known-s c = search needs
@@ -34,20 +34,20 @@ standing-requires c κs = sym (c .before .before .before .page-word .ensures) �
 
 returns : tie.Need-returns
 unfolding decideOf shapedOf placingOf
-returns c = rw (sym (c .before .before .before .shaped .ensures) ∙ c .before .s .given .1)
+returns c = rw (sym (c .before .before .before .allowed .ensures) ∙ c .before .s .given .1)
 
 returns-2 : tie.Need-returns-2
-returns-2 c = absurd (shaped-made _ _ _ _ _ (shaped _ _ _ _ (sym (c .before .before .before .before .before .before .before .shaped .ensures) ∙ c .before .before .before .before .before .s2 .given .1)) (sym (c .before .before .page-word .ensures) ∙ c .enum-told .given .1))
+returns-2 c = absurd (shaped-made _ _ _ _ _ (shaped _ _ _ _ (allowed-shape _ _ (sym (c .before .before .before .before .before .before .before .allowed .ensures) ∙ c .before .before .before .before .before .s2 .given .1))) (sym (c .before .before .page-word .ensures) ∙ c .enum-told .given .1))
 
 returns-3 : tie.Need-returns-3
 unfolding decideOf shapedOf
-returns-3 c = let e = sym (c .before .before .before .before .before .before .before .before .before .shaped .ensures) ∙ c .before .before .before .before .before .before .before .s2 .given .1 in rw e (c .standing .ensures (shaped _ _ _ _ e .frame-fits))
+returns-3 c = let e = sym (c .before .before .before .before .before .before .before .before .before .allowed .ensures) ∙ c .before .before .before .before .before .before .before .s2 .given .1 in rw e (c .standing .ensures (shaped _ _ _ _ (allowed-shape _ _ e) .frame-fits))
 
 pub decide-map-spec : {M : Type 1} → statement M
 decide-map-spec =
     tie.close
     (tie.spec
-    shaped-requires
+    allowed-requires
     enum-known-s
     enum-known-s-2
     page-word-requires
