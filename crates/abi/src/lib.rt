@@ -122,7 +122,7 @@ pub extern "C" fn tp_raw_told(
 pub extern "C" fn tp_raw_state(mem: &[u8], origin: u64, pool: u64, pages: u64, root: u64) -> Counts
     ensures answer { λ r. ⌜ r ≡ call.stateAnswer (now (mem .entry)) (call.siteOf origin pool pages root) ⌝ }
 {
-    let s = sites::sited(origin, pool, pages, root);
+    let s = sites::site_first(origin, pool, pages, root);
     match s {
         Sited::Refused(y) => answers::uncounted(y),
         Sited::At(space) => answers::of_state(tablepath::state(mem, space)),

@@ -30,7 +30,7 @@ pub fn site(origin: u64, pool: u64, pages: u64, root: u64) -> Sited
 }
 
 // The same; where there is one, it is found first, which spares the compiler the reasons' numbers.
-pub fn sited(origin: u64, pool: u64, pages: u64, root: u64) -> Sited
+pub fn site_first(origin: u64, pool: u64, pages: u64, root: u64) -> Sited
     ensures { λ r. ⌜ r ≡ call.siteOf origin pool pages root ⌝ }
 {
     if pool % 4096 == 0 {

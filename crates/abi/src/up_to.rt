@@ -48,7 +48,7 @@ pub fn unmap_up_to(
     ensures answer { λ r. ⌜ r ≡ call.unmapAnswer (now (mem .entry)) base (call.siteOf origin pool pages root) ⌝ }
     ensures order { λ _. ⌜ call.InOrder (call.siteOf origin pool pages root) (call.unmapWrites (now (mem .entry)) base) (now (left .entry)) (now (left .exit)) (now (mem .entry)) (now (mem .exit)) ⌝ }
 {
-    let s = crate::sites::sited(origin, pool, pages, root);
+    let s = crate::sites::site_first(origin, pool, pages, root);
     match s {
         Sited::Refused(y) => Unmapped {
             reason: y,
@@ -97,7 +97,7 @@ pub fn protect_up_to(
             ticket: 0,
         };
     }
-    let s = crate::sites::sited(origin, pool, pages, root);
+    let s = crate::sites::site_first(origin, pool, pages, root);
     match s {
         Sited::Refused(y) => Protected {
             reason: y,
@@ -128,7 +128,7 @@ pub fn told_up_to(
     ensures answer { λ r. ⌜ r ≡ call.toldAnswer (now (mem .entry)) ticket (call.siteOf origin pool pages root) ⌝ }
     ensures order { λ _. ⌜ call.InOrder (call.siteOf origin pool pages root) (call.toldWrites (now (mem .entry)) ticket) (now (left .entry)) (now (left .exit)) (now (mem .entry)) (now (mem .exit)) ⌝ }
 {
-    let s = crate::sites::sited(origin, pool, pages, root);
+    let s = crate::sites::site_first(origin, pool, pages, root);
     match s {
         Sited::Refused(y) => Told {
             reason: y,

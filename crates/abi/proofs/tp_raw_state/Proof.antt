@@ -7,11 +7,11 @@ use Rattle.abi.proofs.tp_raw_state.Reads as reads
 use Rattle.abi.proofs.tp_raw_state.Lts as lts
 use Rattle.abi.proofs.answers.of_state.Reads as of-state-reads
 use Rattle.abi.proofs.answers.uncounted.Reads as uncounted-reads
-use Rattle.abi.proofs.sites.sited.Reads as sited-reads
+use Rattle.abi.proofs.sites.site_first.Reads as site-first-reads
 use Rattle.tablepath.proofs.state.Reads as state-reads
 
-sited-requires : tie.Need-sited-requires
-sited-requires c κs = search needs
+site-first-requires : tie.Need-site-first-requires
+site-first-requires c κs = search needs
 
 enum-known-s : tie.Need-enum-known-s
 enum-known-s c = search needs
@@ -30,17 +30,17 @@ of-state-requires c κs = search needs
 
 returns : tie.Need-returns
 unfolding stateAnswer
-returns c = rw (sym (c .before .before .before .before .sited .ensures) ∙ c .before .before .s .given .1, c .uncounted .ensures)
+returns c = rw (sym (c .before .before .before .before .site-first .ensures) ∙ c .before .before .s .given .1, c .uncounted .ensures)
 
 returns-2 : tie.Need-returns-2
 unfolding stateAnswer
-returns-2 c = rw (sym (c .before .before .before .before .before .sited .ensures) ∙ c .before .before .before .s2 .given .1, c .of-state .ensures, c .before .state .ensures .0)
+returns-2 c = rw (sym (c .before .before .before .before .before .site-first .ensures) ∙ c .before .before .before .s2 .given .1, c .of-state .ensures, c .before .state .ensures .0)
 
 pub tp-raw-state-spec : {M : Type 1} → statement M
 tp-raw-state-spec =
     tie.close
     (tie.spec
-    sited-requires
+    site-first-requires
     enum-known-s
     uncounted-requires
     enum-known-s-2

@@ -9,7 +9,7 @@ use Rattle.abi.proofs.up_to.protect_up_to.Reads as reads
 use Rattle.abi.proofs.up_to.protect_up_to.Lts as lts
 use Rattle.abi.proofs.answers.of_protect.Reads as of-protect-reads
 use Rattle.abi.proofs.answers.rights.Reads as rights-reads
-use Rattle.abi.proofs.sites.sited.Reads as sited-reads
+use Rattle.abi.proofs.sites.site_first.Reads as site-first-reads
 use Rattle.plan.proofs.write_execute.Reads as write-execute-reads
 use Rattle.tablepath.proofs.protect_up_to.Reads as protect-up-to-reads
 
@@ -27,8 +27,8 @@ returns-2 : tie.Need-returns-2
 unfolding protectAnswer rightsSite strictSite reasonOf
 returns-2 c = let l = lt-ltb _ _ (c .before .before .before .if1 .left) in let x = sym (c .before .write-execute .ensures) ∙ c .if2 .taken in (rw (l, sym (c .before .before .rights .ensures), x), rw (l, sym (c .before .before .rights .ensures), x) (refl, refl))
 
-sited-requires : tie.Need-sited-requires
-sited-requires c κs = search needs
+site-first-requires : tie.Need-site-first-requires
+site-first-requires c κs = search needs
 
 enum-known-s : tie.Need-enum-known-s
 enum-known-s c = search needs
@@ -44,14 +44,14 @@ of-protect-requires c κs = search needs
 
 returns-3 : tie.Need-returns-3
 unfolding protectAnswer rightsSite strictSite
-returns-3 c = let l = lt-ltb _ _ (c .before .before .before .before .before .before .before .if1 .left) in let x = sym (c .before .before .before .before .before .write-execute .ensures) ∙ c .before .before .before .before .if2 .left in let e = sym (c .before .before .before .sited .ensures) ∙ c .before .s .given .1 in (rw (l, sym (c .before .before .before .before .before .before .rights .ensures), x, e), rw (l, sym (c .before .before .before .before .before .before .rights .ensures), x, e) (refl, refl))
+returns-3 c = let l = lt-ltb _ _ (c .before .before .before .before .before .before .before .if1 .left) in let x = sym (c .before .before .before .before .before .write-execute .ensures) ∙ c .before .before .before .before .if2 .left in let e = sym (c .before .before .before .site-first .ensures) ∙ c .before .s .given .1 in (rw (l, sym (c .before .before .before .before .before .before .rights .ensures), x, e), rw (l, sym (c .before .before .before .before .before .before .rights .ensures), x, e) (refl, refl))
 
 same-length : tie.Need-same-length
 same-length c = search needs
 
 returns-4 : tie.Need-returns-4
 unfolding protectAnswer rightsSite strictSite
-returns-4 c = let l = lt-ltb _ _ (c .before .before .before .before .before .before .before .before .before .before .before .before .before .if1 .left) in let x = sym (c .before .before .before .before .before .before .before .before .before .before .before .write-execute .ensures) ∙ c .before .before .before .before .before .before .before .before .before .before .if2 .left in let e = sym (c .before .before .before .before .before .before .before .before .before .sited .ensures) ∙ c .before .before .before .before .before .before .before .s2 .given .1 in (rw (l, sym (c .before .before .before .before .before .before .before .before .before .before .before .before .rights .ensures), x, e) (rw (c .of-protect .ensures, c .before .before .before .protect-up-to .ensures .0)), rw (l, sym (c .before .before .before .before .before .before .before .before .before .before .before .before .rights .ensures), x, e) (c .before .before .before .protect-up-to .ensures .1))
+returns-4 c = let l = lt-ltb _ _ (c .before .before .before .before .before .before .before .before .before .before .before .before .before .if1 .left) in let x = sym (c .before .before .before .before .before .before .before .before .before .before .before .write-execute .ensures) ∙ c .before .before .before .before .before .before .before .before .before .before .if2 .left in let e = sym (c .before .before .before .before .before .before .before .before .before .site-first .ensures) ∙ c .before .before .before .before .before .before .before .s2 .given .1 in (rw (l, sym (c .before .before .before .before .before .before .before .before .before .before .before .before .rights .ensures), x, e) (rw (c .of-protect .ensures, c .before .before .before .protect-up-to .ensures .0)), rw (l, sym (c .before .before .before .before .before .before .before .before .before .before .before .before .rights .ensures), x, e) (c .before .before .before .protect-up-to .ensures .1))
 
 pub protect-up-to-spec : {M : Type 1} → statement M
 protect-up-to-spec =
@@ -61,7 +61,7 @@ protect-up-to-spec =
     rights-requires
     write-execute-requires
     returns-2
-    sited-requires
+    site-first-requires
     enum-known-s
     enum-known-s-2
     protect-up-to-requires
