@@ -53,14 +53,7 @@ fn grow(
         return s;
     }
     pool::clear_page(mem, left, space, p);
-    pool::set_entry(
-        mem,
-        left,
-        space,
-        s.table,
-        walk::index(s.level, va),
-        link(p),
-    );
+    pool::set_entry(mem, left, space, s.table, walk::index(s.level, va), link(p));
     TableReached {
         level: s.level - 1,
         table: p,

@@ -12,36 +12,28 @@ use Rattle.pool.proofs.named.Lts as lts
 use Rattle.pool.proofs.usable.Reads as usable-reads
 use Rattle.word.proofs.read_by_run.Reads as read-by-run-reads
 
--- src/lib.rt:175:9
 returns : tie.Need-returns
 unfolding namedOf
 returns c = rw (far (c .before .before .before .args .mem .now) (c .before .before .before .args .space .origin) (c .before .before .before .args .space .first + c .before .before .before .args .k / 512) (omega arith))
 
--- src/lib.rt:182:9
 add-read-by-run : tie.Need-add-read-by-run
 add-read-by-run c = search needs
 
--- src/lib.rt:177:9
 read-by-run-requires : tie.Need-read-by-run-requires
 read-by-run-requires c κs = search needs
 
--- src/lib.rt:186:20
 enum-known-c : tie.Need-enum-known-c
 enum-known-c c = search needs
 
--- src/lib.rt:186:26
 usable-requires : tie.Need-usable-requires
 usable-requires c κs = search needs
 
--- src/lib.rt:187:26
 enum-told : tie.Need-enum-told
 enum-told c = search needs
 
--- src/lib.rt:171:1
 returns-2 : tie.Need-returns-2
 returns-2 c = c .usable .ensures ∙ named-word _ _ _ _ (sym (c .before .before .before .before .read-by-run .ensures) ∙ c .before .before .c .given .1)
 
--- src/lib.rt:171:1
 returns-3 : tie.Need-returns-3
 returns-3 c = named-outside _ _ _ (sym (c .before .before .read-by-run .ensures) ∙ c .enum-told .given .1)
 

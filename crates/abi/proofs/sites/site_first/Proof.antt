@@ -7,16 +7,13 @@ use Rattle.abi.proofs.sites.site_first.Reads as reads
 use Rattle.abi.proofs.sites.site_first.Lts as lts
 use Rattle.abi.proofs.sites.site.Reads as site-reads
 
--- src/sites.rt:38:13
 returns : tie.Need-returns
 unfolding siteOf
 returns c = simp (eq-eqb _ _ (c .before .if1 .taken), eq-eqb _ _ (c .if2 .taken))
 
--- src/sites.rt:46:5
 site-requires : tie.Need-site-requires
 site-requires c κs = search needs
 
--- src/sites.rt:33:1
 returns-2 : tie.Need-returns-2
 returns-2 c = search needs
 

@@ -14,31 +14,24 @@ use Rattle.plan.proofs.building.grow.Reads as grow-reads
 use Rattle.pool.proofs.set_entry.Reads as set-entry-reads
 use Rattle.walk.proofs.index.Reads as index-reads
 
--- src/building.rt:81:9
 grow-requires : tie.Need-grow-requires
 grow-requires c κs = ((c .before .before .before .before .pre .0 .level, c .before .before .before .before .pre .0 .fresh .a), (c .before .before .before .before .pre .1, λ u. (c .before .before .before .before .pre .0 .a u, c .before .before .before .before .pre .0 .table)))
 
--- src/building.rt:82:9
 grow-requires-2 : tie.Need-grow-requires-2
 grow-requires-2 c κs = ((rw (c .before .before .before .before .grow .ensures .0) (next-low _ _ _ (c .before .before .before .before .before .before .before .before .before .pre .0 .level)), c .before .before .before .before .before .before .before .before .before .pre .0 .fresh .b), (stands-wrote _ _ _ _ _ _ (c .before .before .before .before .grow .ensures .1) (c .before .before .before .before .before .before .before .before .before .pre .1), second-grows _ _ (c .before .before .before .before .before .before .before .before .before .pre .0) _ (c .before .before .before .before .grow .ensures .0)))
 
--- src/building.rt:83:9
 grow-requires-3 : tie.Need-grow-requires-3
 grow-requires-3 c κs = ((rw (c .before .before .before .before .grow2 .ensures .0, c .before .before .before .before .before .before .before .before .before .grow .ensures .0) (next-low _ _ _ (next-low _ _ _ (c .before .before .before .before .before .before .before .before .before .before .before .before .before .before .pre .0 .level))), c .before .before .before .before .before .before .before .before .before .before .before .before .before .before .pre .0 .fresh .c), (stands-wrote _ _ _ _ _ _ (c .before .before .before .before .grow2 .ensures .1) (stands-wrote _ _ _ _ _ _ (c .before .before .before .before .before .before .before .before .before .grow .ensures .1) (c .before .before .before .before .before .before .before .before .before .before .before .before .before .before .pre .1)), third-grows _ _ (c .before .before .before .before .before .before .before .before .before .before .before .before .before .before .pre .0) _ (c .before .before .before .before .grow2 .ensures .0 ∙ ap (nextOf (c .before .before .before .before .before .before .before .before .before .before .before .before .before .before .args .m .target) (c .before .before .before .before .before .before .before .before .before .before .before .before .before .before .args .m .fresh .b)) (c .before .before .before .before .before .before .before .before .before .grow .ensures .0))))
 
--- src/building.rt:89:9
 index-requires : tie.Need-index-requires
 index-requires c κs = search needs
 
--- src/building.rt:84:5
 set-entry-requires : tie.Need-set-entry-requires
 set-entry-requires c κs = search needs
 
--- src/building.rt:71:1
 same-length : tie.Need-same-length
 same-length c = search needs
 
--- src/building.rt:71:1
 returns : tie.Need-returns
 returns c = let e1 = c .before .before .before .before .before .before .before .before .before .before .before .before .before .before .before .before .before .before .grow .ensures .0 in let e2 = c .before .before .before .before .before .before .before .before .before .before .before .before .before .grow2 .ensures .0 in let e3 = c .before .before .before .before .before .before .before .before .grow3 .ensures .0 in let c3 = e3 ∙ ap (nextOf (c .before .before .before .before .before .before .before .before .before .before .before .before .before .before .before .before .before .before .before .before .before .before .before .args .m .target) (c .before .before .before .before .before .before .before .before .before .before .before .before .before .before .before .before .before .before .before .before .before .before .before .args .m .fresh .c)) (e2 ∙ ap (nextOf (c .before .before .before .before .before .before .before .before .before .before .before .before .before .before .before .before .before .before .before .before .before .before .before .args .m .target) (c .before .before .before .before .before .before .before .before .before .before .before .before .before .before .before .before .before .before .before .before .before .before .before .args .m .fresh .b)) e1) in let i = c .before .before .before .index .ensures .0 (last-low _ _ (c .before .before .before .before .before .before .before .before .before .before .before .before .before .before .before .before .before .before .before .before .before .before .before .pre .0) _ c3) in let st = stands-wrote _ _ _ _ _ _ (c .before .before .before .before .before .before .before .before .grow3 .ensures .1) (stands-wrote _ _ _ _ _ _ (c .before .before .before .before .before .before .before .before .before .before .before .before .before .grow2 .ensures .1) (stands-wrote _ _ _ _ _ _ (c .before .before .before .before .before .before .before .before .before .before .before .before .before .before .before .before .before .before .grow .ensures .1) (c .before .before .before .before .before .before .before .before .before .before .before .before .before .before .before .before .before .before .before .before .before .before .before .pre .1))) in build-wrote _ _ _ _ _ _ _ _ _ _ _ _ _ _ _ _ (c .before .before .before .before .before .before .before .before .before .before .before .before .before .before .before .before .before .before .before .before .before .before .before .pre .0 .level) e1 e2 e3 (c .before .before .before .before .before .before .before .before .before .before .before .before .before .before .before .before .before .before .grow .ensures .1) (c .before .before .before .before .before .before .before .before .before .before .before .before .before .grow2 .ensures .1) (c .before .before .before .before .before .before .before .before .grow3 .ensures .1) (c .before .before .before .index .ensures .0) (wrote-as _ _ _ _ _ _ _ (entry-one _ _ st _ _ (last-in _ _ (c .before .before .before .before .before .before .before .before .before .before .before .before .before .before .before .before .before .before .before .before .before .before .before .pre .0) _ c3) (rw i (index-lt _ _)) _) (c .before .before .set-entry .ensures))
 

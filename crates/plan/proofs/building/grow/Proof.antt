@@ -15,36 +15,28 @@ use Rattle.pool.proofs.clear_page.Reads as clear-page-reads
 use Rattle.pool.proofs.set_entry.Reads as set-entry-reads
 use Rattle.walk.proofs.index.Reads as index-reads
 
--- src/building.rt:54:9
 returns : tie.Need-returns
 unfolding nextOf growOf
 returns c = (simp (le-leb _ _ (c .if1 .taken)), simp (le-leb _ _ (c .if1 .taken)) (wrote-none _ _ _))
 
--- src/building.rt:56:5
 clear-page-requires : tie.Need-clear-page-requires
 clear-page-requires c κs = search needs
 
--- src/building.rt:62:9
 index-requires : tie.Need-index-requires
 index-requires c κs = search needs
 
--- src/building.rt:63:9
 link-requires : tie.Need-link-requires
 link-requires c κs = search needs
 
--- src/building.rt:57:5
 set-entry-requires : tie.Need-set-entry-requires
 set-entry-requires c κs = search needs
 
--- src/building.rt:66:16
 sub-t16 : tie.Need-sub-t16
 sub-t16 c = search needs
 
--- src/building.rt:39:1
 same-length : tie.Need-same-length
 same-length c = search needs
 
--- src/building.rt:39:1
 returns-2 : tie.Need-returns-2
 unfolding nextOf growOf
 returns-2 c = let o = c .before .before .before .before .before .before .before .before .before .before .before .before .before .before .before .before .pre .1 .1 (c .before .before .before .before .before .before .before .before .before .before .before .before .before .if1 .left) in let w = c .before .before .before .before .before .before .before .before .before .before .clear-page .ensures (c .before .before .before .before .before .before .before .before .before .before .before .before .before .before .before .before .pre .1 .0) (o .0) in let i = c .before .before .before .before .before .index .ensures .0 (c .before .before .before .before .before .before .before .before .before .before .before .before .before .before .before .before .pre .0 .0) in (simp (lt-leb _ _ (c .before .before .before .before .before .before .before .before .before .before .before .before .before .if1 .left)), simp (lt-leb _ _ (c .before .before .before .before .before .before .before .before .before .before .before .before .before .if1 .left)) (wrote-then _ _ _ _ _ _ _ _ _ w (rw (← i, ← c .before .before .before .before .link .ensures) (wrote-as _ _ _ _ _ _ _ (entry-one _ _ (stands-wrote _ _ _ _ _ _ w (c .before .before .before .before .before .before .before .before .before .before .before .before .before .before .before .before .pre .1 .0)) _ _ (o .1) (rw i (index-lt _ _)) _) (c .before .before .before .set-entry .ensures)))))

@@ -6,15 +6,12 @@ use Rattle.pool.proofs.bounds.book_by_half.Tie as tie
 use Rattle.pool.proofs.bounds.book_by_half.Reads as reads
 use Rattle.pool.proofs.bounds.book_by_half.Lts as lts
 
--- src/bounds.rt:29:6
 add-result : tie.Need-add-result
 add-result c = search needs
 
--- src/bounds.rt:29:6
 add-result-2 : tie.Need-add-result-2
 add-result-2 c = search needs
 
--- src/bounds.rt:25:1
 returns : tie.Need-returns
 unfolding bookPages
 returns c = omega arith

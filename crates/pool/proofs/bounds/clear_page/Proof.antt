@@ -9,23 +9,18 @@ use Rattle.pool.proofs.bounds.clear_page.Lts as lts
 use Rattle.pool.proofs.bounds.book_of.Reads as book-of-reads
 use Rattle.word.proofs.clear_among.Reads as clear-among-reads
 
--- src/bounds.rt:114:9
 returns : tie.Need-returns
 returns c = λ e u. absurd (omega (arith, stands-fit _ _ e .small, c .if1 .taken))
 
--- src/bounds.rt:121:9
 book-of-requires : tie.Need-book-of-requires
 book-of-requires c κs = search needs
 
--- src/bounds.rt:116:5
 clear-among-requires : tie.Need-clear-among-requires
 clear-among-requires c κs = search needs
 
--- src/bounds.rt:110:1
 same-length : tie.Need-same-length
 same-length c = search needs
 
--- src/bounds.rt:110:1
 returns-2 : tie.Need-returns-2
 returns-2 c = λ e u. c .before .before .clear-among .ensures (rw (c .before .before .before .book-of .ensures) (stands-among _ _ e _ 0 u (omega arith)))
 

@@ -10,31 +10,24 @@ use Rattle.pool.proofs.changes.put.Lts as lts
 use Rattle.word.proofs.write_by_run.Reads as write-by-run-reads
 use Rattle.word.proofs.write.Reads as write-reads
 
--- src/changes.rt:23:9
 write-requires : tie.Need-write-requires
 write-requires c κs = search needs
 
--- src/changes.rt:24:9
 same-length : tie.Need-same-length
 same-length c = search needs
 
--- src/changes.rt:24:9
 returns : tie.Need-returns
 returns c = wrote-same _ _ _ _ _ _ _ _ _ _ _ (sym (written-far _ _ _ _ _ (omega arith)) ∙ written-far _ _ _ _ _ (omega (arith, c .before .before .before .before .before .if1 .taken))) (c .before .before .write .ensures)
 
--- src/changes.rt:32:9
 add-write-by-run : tie.Need-add-write-by-run
 add-write-by-run c = search needs
 
--- src/changes.rt:26:5
 write-by-run-requires : tie.Need-write-by-run-requires
 write-by-run-requires c κs = search needs
 
--- src/changes.rt:19:1
 same-length-2 : tie.Need-same-length-2
 same-length-2 c = search needs
 
--- src/changes.rt:19:1
 returns-2 : tie.Need-returns-2
 returns-2 c = search needs
 

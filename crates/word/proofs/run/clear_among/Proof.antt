@@ -35,9 +35,14 @@ loop-less c = omega arith
 loop-again : tie.Need-loop-again Inv-loop μ-loop
 loop-again c =
     let k = c .before .before .before .before .before .before .loop .inv in
-    let w = c .before .before .write-among .ensures in
-    (omega arith, (length-wrote _ _ _ _ _ _ w ∙ k .1 .0, λ e. wrote-zero _ _ _ _ _ _ _ _ _ (k .1 .1 e)
-    (wrote-as _ _ _ _ _ _ _ (one-among _ _ _ _ _ _ _ 0 (among-again _ _ _ _ _ _ _ _ _ (k .1 .0) (omega arith) e)) w)))
+    let w = c .before .before .write-among .ensures in (
+      omega arith,
+      (
+        length-wrote _ _ _ _ _ _ w ∙ k .1 .0,
+        λ e. wrote-zero _ _ _ _ _ _ _ _ _ (k .1 .1 e)
+            (wrote-as _ _ _ _ _ _ _ (one-among _ _ _ _ _ _ _ 0 (among-again _ _ _ _ _ _ _ _ _ (k .1 .0) (omega arith) e)) w),
+      ),
+    )
 
 same-length : tie.Need-same-length Inv-loop μ-loop
 same-length c = c .before .loop .inv .1 .0

@@ -8,27 +8,21 @@ use Rattle.word.proofs.run.read_by_run.Lts as lts
 use Rattle.word.proofs.read.Reads as read-reads
 use Rattle.word.proofs.run.read_among.Reads as read-among-reads
 
--- src/run.rt:110:9
 read-among-requires : tie.Need-read-among-requires
 read-among-requires c κs = search needs
 
--- src/run.rt:112:20
 enum-known-c : tie.Need-enum-known-c
 enum-known-c c = search needs
 
--- src/run.rt:113:26
 enum-told : tie.Need-enum-told
 enum-told c = search needs
 
--- src/run.rt:113:26
 read-requires : tie.Need-read-requires
 read-requires c κs = search needs
 
--- src/run.rt:107:1
 returns : tie.Need-returns
 returns c = among-read _ _ _ _ _ _ _ _ (sym (c .before .before .before .read-among .ensures) ∙ c .before .c .given .1)
 
--- src/run.rt:107:1
 returns-2 : tie.Need-returns-2
 returns-2 c = search needs
 

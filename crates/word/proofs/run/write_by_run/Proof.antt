@@ -10,31 +10,24 @@ use Rattle.word.proofs.run.among.Reads as among-reads
 use Rattle.word.proofs.run.write_among.Reads as write-among-reads
 use Rattle.word.proofs.write.Reads as write-reads
 
--- src/run.rt:130:8
 among-requires : tie.Need-among-requires
 among-requires c κs = search needs
 
--- src/run.rt:131:9
 write-among-requires : tie.Need-write-among-requires
 write-among-requires c κs = search needs
 
--- src/run.rt:132:9
 same-length : tie.Need-same-length
 same-length c = search needs
 
--- src/run.rt:132:9
 returns : tie.Need-returns
 returns c = wrote-as _ _ _ _ _ _ _ (one-among _ _ _ _ _ _ _ _ (sym (c .before .before .before .before .before .before .among .ensures) ∙ c .before .before .before .before .before .if1 .taken)) (c .before .before .write-among .ensures)
 
--- src/run.rt:134:5
 write-requires : tie.Need-write-requires
 write-requires c κs = search needs
 
--- src/run.rt:118:1
 same-length-2 : tie.Need-same-length-2
 same-length-2 c = search needs
 
--- src/run.rt:118:1
 returns-2 : tie.Need-returns-2
 returns-2 c = search needs
 
