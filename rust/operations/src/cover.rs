@@ -247,7 +247,9 @@ impl Cover {
                     need(5, format!("{request} {reason}"));
                 }
             }
-            for reason in ["OriginUnaligned", "LengthUnaligned", "PoolUnaligned", "PoolLarge", "PoolSmall", "PoolOutside"] {
+            for reason in
+                ["OriginUnaligned", "LengthUnaligned", "PoolUnaligned", "PoolLarge", "PoolSmall", "PoolOutside"]
+            {
                 need(5, format!("create {reason}"));
             }
             need(500, "map WriteExecute".into());
