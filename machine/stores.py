@@ -1,10 +1,10 @@
 #!/usr/bin/python3
-"""stores PROGRAM [PREFIX]: random operations of the library's x86-64 code, and every store of each held to what it should be:
-one aligned store of 8 bytes for each planned write, in the planned order; after every single store the tables mean to each sampled
-address what they meant before the operation or what they mean after it, and it turns at one store only; no store into a page that
-is set aside; none outside the pool. Bases are of both halves and of the hole between them, rights are all
-that there are. What the numbers alone refuse has its reason, in the order of the tests. No load is beyond the window, and an entry of a linked table is loaded once in an operation, by one
-load; but a map that could not be done at once begins anew at the root, before any store. Look-up loads each entry of the way once, whole, from
+"""stores PROGRAM [PREFIX]: random operations of the library's x86-64 code, and every store of each held to what it should be: one aligned
+store of 8 bytes for each planned write, in the planned order; after every single store the tables mean to each sampled address what they
+meant before the operation or what they mean after it, and it turns at one store only; no store into a page that is set aside; none outside
+the pool. Bases are of both halves and of the hole between them, rights are all that there are. What the numbers alone refuse has its
+reason, in the order of the tests. No load is beyond the window, and an entry of a linked table is loaded once in an operation, by one load;
+but a map that could not be done at once begins anew at the root, before any store. Look-up loads each entry of the way once, whole, from
 the root down, and nothing else; entry loads one; and neither they nor state store anything. The last line counts the operations."""
 import collections
 import os
