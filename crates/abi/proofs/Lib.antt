@@ -8,6 +8,7 @@ pub mod Reasons
 pub mod Says
 pub mod RoundTrips
 pub mod Created
+pub mod Strict
 pub mod Refusals
 pub mod Handles
 pub mod Causes

@@ -1,7 +1,7 @@
 -- WHAT A CALLER IN C RELIES ON: statements over the functions' own answers and bytes, for plain numbers as C gives them. The laws are in
 -- proofs/Created.antt, proofs/RoundTrips.antt and proofs/Refusals.antt; what the numbers of the answers say is in Reasons.antt.
 use Prim.Native.Nat.{ℕ, _+_, _*_, _/_, _%_, _<_, _≤_}
-use mathlib.Core.Bool.{true}
+use mathlib.Core.Bool.{true, false}
 use mathlib.Core.List.{List, [], _∷_}
 use mathlib.Core.Path.{_≡_}
 use lib.ListN.{length, replicate}
@@ -11,6 +11,7 @@ use Rattle.walk.specs.Walk.{canonical}
 use Rattle.tables.specs.Roles.{Role}
 use Rattle.pool.specs.declared.Space.{Space}
 use Rattle.plan.specs.declared.maps.Asked.{Asked}
+use Rattle.plan.specs.Rights.{writeExecute}
 use Rattle.tablepath.specs.Calls as calls
 use Rattle.tablepath.specs.Looks.{In, WholeBytes}
 use Rattle.abi.specs.Answers.{rightsIn}
@@ -132,6 +133,10 @@ pub record Untouched (s s' : List ℕ) (fields : List ℕ) : Type 0 where
 -- a page with these rights
 abbrev pub page : ℕ → ℕ → ℕ → ℕ → LookedUp
 page base size frame rights = record { kind = 1; base = base; size = size; frame = frame; rights = rights }
+
+-- it answers none that is writable and executable
+abbrev pub StrictAt : List ℕ → Numbers → Type 0
+StrictAt s n = (va : ℕ) → tpLookUp s n va .kind ≡ 1 → writeExecute (granted (tpLookUp s n va .rights)) ≡ false
 
 abbrev pub nothing : LookedUp
 nothing = record { kind = 0; base = 0; size = 0; frame = 0; rights = 0 }

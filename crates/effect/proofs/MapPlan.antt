@@ -65,8 +65,8 @@ unfolding fitsOf
 allowed-fits l q f =
     let s = size-small l (q .size) (f .level) (f .size-is) in
     let shape : shapeOf (q .size) (q .base) (q .frame) ≡ Level l =
-        shape-of-level l q (f .level, f .size-is)
-        ∙ rw (eq-eqb (q .base % q .size) 0 (f .base-aligned), eq-eqb (q .frame % q .size) 0 (f .frame-aligned), f .base-fits, le-leb (q .frame) (2 ^ 52 - q .size) (omega (arith, f .frame-fits))) in
+    shape-of-level l q (f .level, f .size-is)
+    ∙ rw (eq-eqb (q .base % q .size) 0 (f .base-aligned), eq-eqb (q .frame % q .size) 0 (f .frame-aligned), f .base-fits, le-leb (q .frame) (2 ^ 52 - q .size) (omega (arith, f .frame-fits))) in
     allowed-strict q l shape (f .strict)
 
 -- the frame and the pool
