@@ -6,7 +6,7 @@ use tablepath::{Found, Page, Pages, Reason, Rights, Size, Space};
 
 const ORIGIN: u64 = 0x10_0000;
 const FRAME: u64 = 0x40_0000_0000;
-/// By its number: what is tested must not come from what tests.
+/// Writable without no-execute, as bits; and all others.
 const BOTH: [u64; 2] = [1, 3];
 const ALLOWED: [u64; 6] = [0, 2, 4, 5, 6, 7];
 
@@ -20,7 +20,7 @@ fn rights(bits: u64) -> Rights {
     Rights::from_bits(bits).expect("its bits mean something")
 }
 
-/// A base and a frame of each size.
+/// Bases of each size: the first of all, the first of the upper half, the last of all.
 fn pages() -> impl Iterator<Item = (u64, Size)> {
     Size::ALL
         .into_iter()
