@@ -32,6 +32,11 @@ allowed-not-both q n e = go (map.shapeOf (q .size) (q .base) (q .frame)) (writeE
     go (Level l) false eb k = eb
 
 module _ (h : ℕ → Bool) (m : ℕ → ℕ) (sp : Space) where
+  pub map-refuses : (q : Asked) (n : ℕ) → map.shapeOf (q .size) (q .base) (q .frame) ≡ Level n → writeExecute (q .rights) ≡ true
+      → map.decideOf h m sp q ≡ map.Refused WriteExecute
+  unfolding map.decideOf map.shapedOf
+  map-refuses q n e s = rw (allowed-refused q n e s)
+
   pub map-strict : (q : Asked) (p : Mapping) → map.decideOf h m sp q ≡ map.Go p → writeExecute (q .rights) ≡ false
   unfolding map.decideOf map.shapedOf
   map-strict q p e = go (map.allowedOf q) refl e
@@ -39,11 +44,6 @@ module _ (h : ℕ → Bool) (m : ℕ → ℕ) (sp : Space) where
       go : (x : Shape) → map.allowedOf q ≡ x → map.shapedOf h m sp q x ≡ map.Go p → writeExecute (q .rights) ≡ false
       go (Bad y) f k = let z : _≡_ {A = ℕ} 0 1 = cc in absurd (omega arith)
       go (Level n) f k = allowed-not-both q n f
-
-  pub map-refuses : (q : Asked) (n : ℕ) → map.shapeOf (q .size) (q .base) (q .frame) ≡ Level n → writeExecute (q .rights) ≡ true
-      → map.decideOf h m sp q ≡ map.Refused WriteExecute
-  unfolding map.decideOf map.shapedOf
-  map-refuses q n e s = rw (allowed-refused q n e s)
 
   module _ (va : ℕ) (r : Rights) where
     pub protect-refuses : writeExecute r ≡ true → protect.decideOf h m sp va r ≡ changing.Refused WriteExecute
