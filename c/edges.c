@@ -67,9 +67,9 @@ static void check_none(uint64_t base) {
 /* a page at an end of a half: mapped, looked up, protected, unmapped; and the same base with each of the high bits turned over */
 static void check_end(uint64_t base, unsigned n) {
     uint64_t size = sizes[n], last = base + (size - 1);
-    struct tp_mapped m = tp_map(&space, base, FRAME, size, TP_WRITABLE);
+    struct tp_mapped m = tp_map(&space, base, FRAME, size, TP_NO_EXECUTE);
     check("map at an end", m.reason == TP_DONE && m.tables == 3 - n);
-    check_edges(base, size, TP_WRITABLE);
+    check_edges(base, size, TP_NO_EXECUTE);
     check("the last address of the page", tp_look_up(&space, last).base == base);
     check("overlap at an end", tp_map(&space, last & ~0xfffull, FRAME, 4096, 0).reason == TP_OVERLAP);
     struct tp_protected p = tp_protect(&space, base, TP_USER);

@@ -2,7 +2,7 @@
  * change nothing. */
 #include "check.h"
 
-enum { PAGES = 64, SLACK = 2, BUFFERS = 12 };
+enum { PAGES = 64, SLACK = 2, BUFFERS = 12, VARIABLES = TP_WRITABLE | TP_NO_EXECUTE };
 #define ORIGIN 0x100000u
 #define BUFFER 0x8000000u
 #define MIB2 0x200000u
@@ -20,8 +20,8 @@ static int is_refused(const struct tp_space *wrong) {
     int refused = tp_open(wrong) != TP_DONE && tp_state(wrong).reason != TP_DONE && tp_told(wrong, 0).reason != TP_DONE;
     for (uint64_t n = 0; n < BUFFERS; n++) {
         refused &= tp_unmap(wrong, base_of(n)).reason != TP_DONE && tp_protect(wrong, base_of(n), TP_USER).reason != TP_DONE;
-        refused &= tp_map(wrong, base_of(n) + MIB2, BUFFER, MIB2, TP_WRITABLE).reason != TP_DONE;
-        refused &= tp_map(wrong, n << 39 | 1ull << 38, BUFFER, 4096, TP_WRITABLE | TP_USER).reason != TP_DONE;
+        refused &= tp_map(wrong, base_of(n) + MIB2, BUFFER, MIB2, VARIABLES).reason != TP_DONE;
+        refused &= tp_map(wrong, n << 39 | 1ull << 38, BUFFER, 4096, VARIABLES | TP_USER).reason != TP_DONE;
     }
     for (size_t i = 0; i < sizeof mem; i++) refused &= before[i] == mem[i];
     return refused;
@@ -48,7 +48,7 @@ static void test_five_pages(void) {
     struct tp_space wrong = space;
     wrong.pages = 5;
     for (uint64_t page = 0; page < PAGES; page++) {
-        struct tp_mapped m = tp_map(&wrong, base_of(40), space.pool + page * 4096, 4096, TP_WRITABLE | TP_USER);
+        struct tp_mapped m = tp_map(&wrong, base_of(40), space.pool + page * 4096, 4096, VARIABLES | TP_USER);
         check("a page of the real pool by a handle of five pages", m.reason != TP_DONE && tp_look_up(&space, base_of(40)).kind == TP_NOTHING);
     }
 }
@@ -67,7 +67,7 @@ static void test_pools(void) {
 void run(void) {
     check("create", tp_create(&space) == TP_DONE);
     for (uint64_t n = 0; n < BUFFERS; n++)
-        check("map", tp_map(&space, base_of(n), BUFFER + n * MIB2, MIB2, TP_WRITABLE | TP_USER).reason == TP_DONE);
+        check("map", tp_map(&space, base_of(n), BUFFER + n * MIB2, MIB2, VARIABLES | TP_USER).reason == TP_DONE);
     check("unmap", tp_unmap(&space, base_of(3)).reason == TP_DONE); /* its tables are set aside */
     test_roots();
     test_sizes();

@@ -33,7 +33,7 @@ static void check_way(void) {
     check_entry("a page of 1 GiB", upper, 2, 1, (struct tp_said){TP_PAGE, 2ull * GIB1, TP_WRITABLE | TP_USER | TP_NO_EXECUTE, 0});
     uint8_t *entry = mem + (lower - ORIGIN);
     entry[0] |= 0x60;
-    check_entry("marks", lower, 1, 0, (struct tp_said){TP_PAGE, 5ull * MIB2, TP_WRITABLE, TP_ACCESSED | TP_DIRTY});
+    check_entry("marks", lower, 1, 0, (struct tp_said){TP_PAGE, 5ull * MIB2, TP_WRITABLE | TP_NO_EXECUTE, TP_ACCESSED | TP_DIRTY});
     entry[1] |= 0x20;
     check_entry("a reserved bit", lower, 1, 0, (struct tp_said){TP_RESERVED, 0, 0, 0});
     entry[1] &= (uint8_t)~0x20;
@@ -57,6 +57,8 @@ static void check_refusals(void) {
     check("nothing starts", tp_unmap(&space, GIB1 + 4096).reason == TP_NOTHING_STARTS);
     check("rights of map", tp_map(&space, 0, 0, 8192, 8).reason == TP_RIGHTS);
     check("rights of protect", tp_protect(&space, 0, ~0ull).reason == TP_RIGHTS);
+    check("writable and executable of map", tp_map(&space, 0, 0, 4096, TP_WRITABLE).reason == TP_WRITE_EXECUTE);
+    check("writable and executable of protect", tp_protect(&space, GIB1, TP_WRITABLE | TP_USER).reason == TP_WRITE_EXECUTE);
     check("unknown", tp_told(&space, 99).reason == TP_UNKNOWN);
     check("a refusal changes nothing", unchanged());
 }
@@ -85,9 +87,9 @@ static int same_text(const char *a, const char *b) {
 static void check_texts(void) {
     check("text of done", same_text(tp_reason_text(TP_DONE), "done"));
     check("text of a reason", same_text(tp_reason_text(TP_NO_ROOM), "fewer free pages than tables that are missing"));
-    check("text of the last reason", !same_text(tp_reason_text(TP_POINTER_UNALIGNED), tp_reason_text(TP_POINTER_UNALIGNED + 1)));
-    for (uint64_t reason = 0; reason < TP_POINTER_UNALIGNED; reason++)
-        for (uint64_t other = reason + 1; other <= TP_POINTER_UNALIGNED + 1; other++)
+    check("text of the last reason", !same_text(tp_reason_text(TP_WRITE_EXECUTE), tp_reason_text(TP_WRITE_EXECUTE + 1)));
+    for (uint64_t reason = 0; reason < TP_WRITE_EXECUTE; reason++)
+        for (uint64_t other = reason + 1; other <= TP_WRITE_EXECUTE + 1; other++)
             if (same_text(tp_reason_text(reason), tp_reason_text(other))) check("two reasons in the same words", 0);
 }
 
@@ -100,7 +102,7 @@ static void night(void) {
     struct tp_mapped m = tp_map(&space, GIB1, 2ull * GIB1, GIB1, TP_WRITABLE | TP_USER | TP_NO_EXECUTE);
     check("map 1 GiB", m.reason == TP_DONE && m.tables == 1);
     check_found("look up 1 GiB", tp_look_up(&space, GIB1 + 12345), GIB1, GIB1, 2ull * GIB1, TP_WRITABLE | TP_USER | TP_NO_EXECUTE);
-    m = tp_map(&space, 2ull * GIB1, 5ull * MIB2, MIB2, TP_WRITABLE);
+    m = tp_map(&space, 2ull * GIB1, 5ull * MIB2, MIB2, TP_WRITABLE | TP_NO_EXECUTE);
     check("map 2 MiB", m.reason == TP_DONE && m.tables == 1);
     check_way();
     check_refusals();

@@ -40,8 +40,13 @@
  * ADDRESSES are the machine's, canonical: bits 47 to 63 are all alike. They are the lower half, 0 to 0x7fffffffffff, and the upper half,
  * 0xffff800000000000 to 0xffffffffffffffff; no other number is an address. The last page ends at 2^64: base + size is then 0 in 64 bits.
  *
- * LIMITS. Levels: four. Sizes: 4096, 2 MiB, 1 GiB. Physical addresses: 0 to 2^52 - 1. No page that is writable and executable is made; that a
- * frame is not mapped twice, once so and once so, is the caller's.
+ * NO PAGE BECOMES WRITABLE AND EXECUTABLE. tp_map and tp_protect refuse TP_WRITABLE without TP_NO_EXECUTE, with TP_WRITE_EXECUTE: tp_map once
+ * size, alignments and ranges are right and before it looks at the pool, tp_protect before all else but TP_RIGHTS. What is asked is tested, not
+ * what is there: where tables have such a page already, tp_look_up and tp_entry say so, tp_unmap unmaps it and tp_protect gives it other
+ * rights. A frame that is mapped twice, writable here and executable there, is the caller's. So is one that tp_protect made executable, until
+ * its shootdown is done: a processor may still write to it as before.
+ *
+ * LIMITS. Levels: four. Sizes: 4096, 2 MiB, 1 GiB. Physical addresses: 0 to 2^52 - 1.
  * The library calls no function but memset, for pages that are no table yet. The window is write-back memory, and memset makes ordinary
  * stores. The code uses general registers alone, and nothing below the stack pointer: interrupts may come while it runs. That no frame is
  * mapped which lies in another space's pool is the caller's. */

@@ -40,11 +40,16 @@ static void test_word(unsigned n, unsigned level) {
     agree("the bits turned back", va);
 }
 
+static void test_page(unsigned n, uint64_t rights) {
+    must_map(place_of(n), frame_for(n, 0), size_of(n), rights);
+    for (unsigned level = 0; level < 4 - n; level++) test_word(n, level);
+    must_unmap_and_report(place_of(n), frame_for(n, 0), size_of(n));
+}
+
 void test_bits(void) {
     for (unsigned n = 0; n < SIZES; n++) {
-        must_map(place_of(n), frame_for(n, 0), size_of(n), TP_WRITABLE | TP_USER);
-        for (unsigned level = 0; level < 4 - n; level++) test_word(n, level);
-        must_unmap_and_report(place_of(n), frame_for(n, 0), size_of(n));
+        test_page(n, TP_WRITABLE | TP_USER | TP_NO_EXECUTE);
+        test_page(n, TP_USER);
     }
     check(pages > 0 && reserved > 0 && nothing > 0, "bits: some kind never came");
     end_part("bits turned over by hand in each word on the way (%u leave a page, %u are reserved, %u take it away)", pages, reserved,

@@ -10,19 +10,25 @@
 #define SPACE uint8_t *mem, size_t len, uint64_t origin, uint64_t pool, uint64_t pages, uint64_t root
 #define SAME mem, len, origin, pool, pages, root
 
-#if defined WRONG_FRAME || defined MORE_RIGHTS || defined NO_CODE || defined REFUSED_YET_WRITTEN
+#if defined WRONG_FRAME || defined MORE_RIGHTS || defined NO_CODE || defined BOTH_MAPPED || defined REFUSED_YET_WRITTEN
 struct tp_mapped __real_tp_raw_map(SPACE, uint64_t base, uint64_t frame, uint64_t size, uint64_t rights);
 struct tp_mapped __wrap_tp_raw_map(SPACE, uint64_t base, uint64_t frame, uint64_t size, uint64_t rights);
 struct tp_mapped __wrap_tp_raw_map(SPACE, uint64_t base, uint64_t frame, uint64_t size, uint64_t rights) {
 #if defined WRONG_FRAME /* the neighbour's, and look-up below says that all is well */
     if (size == MIB2) frame ^= MIB2;
-#elif defined MORE_RIGHTS
-    rights |= TP_WRITABLE;
+#elif defined MORE_RIGHTS /* what is only read can be executed */
+    if (!(rights & TP_WRITABLE)) rights &= ~(uint64_t)TP_NO_EXECUTE;
 #elif defined NO_CODE /* of the kernel's code too: the first instruction in these tables is the last */
     rights |= TP_NO_EXECUTE;
 #endif
     struct tp_mapped m = __real_tp_raw_map(SAME, base, frame, size, rights);
-#if defined REFUSED_YET_WRITTEN
+#if defined BOTH_MAPPED /* what is writable and executable is mapped */
+    if (m.reason == TP_WRITE_EXECUTE) {
+        m = __real_tp_raw_map(SAME, base, frame, size, rights | TP_NO_EXECUTE);
+        struct way way = way_of(&process_space, base);
+        if (m.reason == TP_DONE) *way.word[way.words - 1] &= ~(1ull << 63);
+    }
+#elif defined REFUSED_YET_WRITTEN
     if (m.reason != TP_DONE) mem[len - 1] ^= 1;
 #endif
     return m;
@@ -38,13 +44,17 @@ struct tp_unmapped __wrap_tp_raw_unmap(SPACE, uint64_t base) {
 }
 #endif
 
-#if defined DROPPED_MARK
+#if defined DROPPED_MARK || defined BOTH_PROTECTED
 struct tp_protected __real_tp_raw_protect(SPACE, uint64_t base, uint64_t rights);
 struct tp_protected __wrap_tp_raw_protect(SPACE, uint64_t base, uint64_t rights);
 struct tp_protected __wrap_tp_raw_protect(SPACE, uint64_t base, uint64_t rights) {
     struct tp_protected p = __real_tp_raw_protect(SAME, base, rights);
     struct way way = way_of(&process_space, base);
+#if defined DROPPED_MARK
     *way.word[way.words - 1] &= ~(uint64_t)DIRTY;
+#else /* what is writable and executable is refused, and given */
+    if (p.reason == TP_WRITE_EXECUTE) *way.word[way.words - 1] = (*way.word[way.words - 1] | WRITES) & ~(1ull << 63);
+#endif
     return p;
 }
 #endif

@@ -7,32 +7,16 @@
 #include "second.h"
 #include "tests.h"
 
-enum { MOST = 40, WORDS = MOST * ENTRIES };
-static uint64_t before[WORDS];
-static const uint64_t rights = TP_WRITABLE | TP_USER;
-
-static volatile uint64_t *pool_words(void) { return (volatile uint64_t *)process_space.mem; }
-
-static void remember(void) {
-    if (process_space.pages > MOST) give_up("the pool is larger than what can be remembered");
-    for (uint64_t i = 0; i < process_space.pages * ENTRIES; i++) before[i] = pool_words()[i];
-}
-
-static int unchanged(void) {
-    for (uint64_t i = 0; i < process_space.pages * ENTRIES; i++)
-        if (before[i] != pool_words()[i]) return 0;
-    return 1;
-}
+static const uint64_t rights = TP_WRITABLE | TP_USER | TP_NO_EXECUTE;
 
 /* Each in a part of the address space that has no table yet. */
 static uint64_t base_of(uint64_t n) { return (n + 20) << 39; }
 static uint64_t frame_of(uint64_t n) { return frame_for(0, 0) + n * PAGE; }
 
+/* for this reason; and where that is about the pool or the tables, for its rights before that, with others */
 static void refused(uint64_t reason, uint64_t base, uint64_t frame, uint64_t size) {
-    remember();
-    uint64_t said = tp_map(&process_space, base, frame, size, rights).reason;
-    check(said == reason && unchanged(), "a map at %x that must be refused for reason %u: reason %u, bytes %s", base, reason, said,
-          unchanged() ? "unchanged" : "changed");
+    must_refuse_map(reason, base, frame, size, rights);
+    must_refuse_map(reason == TP_BASE_RANGE ? reason : TP_WRITE_EXECUTE, base, frame, size, TP_WRITABLE);
 }
 
 /* the kernel's own pages in these tables, the pool, and what is there already */
@@ -49,10 +33,11 @@ static void test_refusals(uint64_t taken) {
 static uint64_t fill_pool(void) {
     uint64_t n = 0;
     for (;; n++) {
-        remember();
+        remember_pool();
         uint64_t reason = tp_map(&process_space, base_of(n), frame_of(n), PAGE, rights).reason;
         if (reason == TP_DONE) continue;
-        check(reason == TP_NO_ROOM && unchanged(), "the pool ran dry: reason %u, bytes %s", reason, unchanged() ? "unchanged" : "changed");
+        check(reason == TP_NO_ROOM && is_pool_unchanged(), "the pool ran dry: reason %u, bytes %s", reason,
+              is_pool_unchanged() ? "unchanged" : "changed");
         return n;
     }
 }

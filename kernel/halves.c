@@ -10,7 +10,7 @@
 #include "tests.h"
 
 enum { FIRST_HIGH = 47 };
-static const uint64_t all = TP_WRITABLE | TP_USER;
+static const uint64_t all = TP_WRITABLE | TP_USER | TP_NO_EXECUTE;
 static uint64_t none;
 
 /* Look-up says that it is none, as the machine does; and it is no base. */
@@ -54,8 +54,12 @@ static void test_end(uint64_t base, unsigned n) {
     agree("behind an end", base + size);
     are_none_beside(base);
     for (uint64_t rights = 0; rights < 8; rights++) {
-        must_protect(base, rights);
-        shoot_down(base);
+        if (is_both(rights)) {
+            must_refuse_protect(TP_WRITE_EXECUTE, base, rights);
+        } else {
+            must_protect(base, rights);
+            shoot_down(base);
+        }
         agree("at an end, protected", base + size - 8);
     }
     must_unmap_and_report(base, frame, size);

@@ -33,6 +33,10 @@ static void access_it(unsigned n, enum access kind, int faults) {
 /* to every rights and back: the marks stay */
 static void check_kept(unsigned n, uint64_t rights, uint64_t marks) {
     for (uint64_t other = 0; other < 8; other++) {
+        if (is_both(other)) {
+            must_refuse_protect(TP_WRITE_EXECUTE, place_of(n), other);
+            continue;
+        }
         must_protect(place_of(n), other);
         check_word("protected", n, other, marks);
         shoot_down(place_of(n));

@@ -6,6 +6,8 @@
 #include "own.h"
 #include "second.h"
 
+enum { MOST = 40, WORDS = MOST * ENTRIES };
+static uint64_t before[WORDS];
 static uint64_t made, aside, released, ticket_answered;
 
 uint64_t size_of(unsigned n) { return n == 0 ? PAGE : n == 1 ? MIB2 : GIB1; }
@@ -62,6 +64,36 @@ void must_protect(uint64_t base, uint64_t rights) {
     check(p.reason == TP_DONE && p.frame == before.frame && p.size == before.size && after.frame == p.frame && after.rights == rights,
           "protect at %x: reason %u, frame %x, and look-up says frame %x, rights %u, not %u", base, p.reason, p.frame, after.frame,
           after.rights, rights);
+}
+
+int is_both(uint64_t rights) { return rights & TP_WRITABLE && !(rights & TP_NO_EXECUTE); }
+
+static volatile uint64_t *pool_words(void) { return (volatile uint64_t *)process_space.mem; }
+
+void remember_pool(void) {
+    if (process_space.pages > MOST) give_up("the pool is larger than what can be remembered");
+    for (uint64_t i = 0; i < process_space.pages * ENTRIES; i++) before[i] = pool_words()[i];
+}
+
+int is_pool_unchanged(void) {
+    for (uint64_t i = 0; i < process_space.pages * ENTRIES; i++)
+        if (before[i] != pool_words()[i]) return 0;
+    return 1;
+}
+
+static void must_be_refused(const char *what, uint64_t base, uint64_t rights, uint64_t reason, uint64_t said) {
+    check(said == reason && is_pool_unchanged(), "a %s at %x with rights %u that must be refused for reason %u: reason %u, bytes %s", what, base,
+          rights, reason, said, is_pool_unchanged() ? "unchanged" : "changed");
+}
+
+void must_refuse_map(uint64_t reason, uint64_t base, uint64_t frame, uint64_t size, uint64_t rights) {
+    remember_pool();
+    must_be_refused("map", base, rights, reason, tp_map(&process_space, base, frame, size, rights).reason);
+}
+
+void must_refuse_protect(uint64_t reason, uint64_t base, uint64_t rights) {
+    remember_pool();
+    must_be_refused("protect", base, rights, reason, tp_protect(&process_space, base, rights).reason);
 }
 
 uint64_t must_unmap_untold(uint64_t base, uint64_t frame, uint64_t size) {

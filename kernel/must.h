@@ -1,4 +1,4 @@
-/* What the tests share: a page of each size, and operations on the process's tables that must succeed. */
+/* What the tests share: a page of each size, and operations on the process's tables that must succeed, or be refused. */
 #ifndef MUST_H
 #define MUST_H
 
@@ -23,6 +23,17 @@ void must_be(const struct tp_space *s, const struct place *place);
 /* Each is checked to be done, to answer rightly, and to be what look-up then says. */
 void must_map(uint64_t base, uint64_t frame, uint64_t size, uint64_t rights);
 void must_protect(uint64_t base, uint64_t rights);
+
+/* Writable, and executable: no page gets such rights. */
+int is_both(uint64_t rights);
+
+/* Each is checked to be refused for this reason, and to change no byte of the pool. */
+void must_refuse_map(uint64_t reason, uint64_t base, uint64_t frame, uint64_t size, uint64_t rights);
+void must_refuse_protect(uint64_t reason, uint64_t base, uint64_t rights);
+
+/* The process's pool as it is now; and whether it still is. */
+void remember_pool(void);
+int is_pool_unchanged(void);
 
 /* Unmaps, and tells nobody yet; the answer is the ticket. Or tells the second processor at once. */
 uint64_t must_unmap_untold(uint64_t base, uint64_t frame, uint64_t size);

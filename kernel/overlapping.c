@@ -10,7 +10,7 @@
 #include "tests.h"
 
 enum { TIMES = 20 };
-static const uint64_t rights = TP_WRITABLE | TP_USER;
+static const uint64_t rights = TP_WRITABLE | TP_USER | TP_NO_EXECUTE;
 
 /* Of one size: how often an access went through that the tables forbid, before its page was told, and after another was; of so many. */
 static uint64_t stale[SIZES], kept[SIZES], asked[SIZES];

@@ -123,8 +123,12 @@ void test_own_marks(void) {
     check_marks("the process's pool", (uint64_t)process_pool, ACCESSED | DIRTY);
     check_marks("the device page", APIC, ACCESSED | DIRTY);
     for (unsigned n = 0; n < GIBS; n++) check_marks("memory for buffers", DIRECT + gib(n), ACCESSED | DIRTY);
+    uint64_t both = pages_of_both(&own);
     load_cr3(own.root);
-    end_part("marks in the kernel's own tables: what it ran and read is accessed, what it wrote is dirty");
+    check(both == 0, "own tables: %u pages can be written and executed", both);
+    both = pages_of_both(&process_space);
+    check(both == 0, "the process's tables: %u pages can be written and executed", both);
+    end_part("marks in the kernel's own tables: what it ran and read is accessed, what it wrote is dirty; no page is writable and executable");
 }
 
 void make_process_space(void) {

@@ -1,4 +1,5 @@
-/* Every page size with every rights, and from every rights to every other: the machine does what look-up says. */
+/* Every page size with every rights, and from every rights to every other: the machine does what look-up says, and no page becomes writable and
+ * executable. A page that is so by hand, as older tables may have it, can be given other rights. */
 #include "account.h"
 #include "agree.h"
 #include "frames.h"
@@ -46,17 +47,53 @@ static void agree_around(const char *when, uint64_t base, uint64_t size) {
     agree_on(when, base + size, 3, WRITE);
 }
 
+/* The page that is there becomes writable, by hand. */
+static void make_writable(uint64_t base) {
+    struct way way = way_of(&process_space, base);
+    *way.word[way.words - 1] |= WRITES;
+}
+
+static void must_have(uint64_t base, uint64_t rights) {
+    struct tp_found f = tp_look_up(&process_space, base);
+    check(f.kind == TP_PAGE && f.rights == rights, "a page at %x that must have rights %u: look-up says kind %u, rights %u", base, rights,
+          f.kind, f.rights);
+}
+
+/* a page with these rights: by map; or, where map refuses them, by hand */
+static void begin(uint64_t base, uint64_t frame, uint64_t size, uint64_t rights) {
+    if (is_both(rights)) {
+        must_refuse_map(TP_WRITE_EXECUTE, base, frame, size, rights);
+        agree_around("refused", base, size);
+        must_map(base, frame, size, rights & ~(uint64_t)TP_WRITABLE);
+        make_writable(base);
+    } else {
+        must_map(base, frame, size, rights);
+    }
+    must_have(base, rights);
+    agree_around("mapped", base, size);
+}
+
+static void back(uint64_t base, uint64_t rights) {
+    must_protect(base, is_both(rights) ? rights & ~(uint64_t)TP_WRITABLE : rights);
+    if (is_both(rights)) make_writable(base);
+    shoot_down(base);
+}
+
 static void test_rights_of(unsigned n) {
     uint64_t base = place_of(n), size = size_of(n), frame = frame_for(n, 0);
     for (uint64_t rights = 0; rights < RIGHTS; rights++) {
-        must_map(base, frame, size, rights);
-        agree_around("mapped", base, size);
+        begin(base, frame, size, rights);
         for (uint64_t other = 0; other < RIGHTS; other++) {
+            if (is_both(other)) {
+                must_refuse_protect(TP_WRITE_EXECUTE, base, other);
+                must_have(base, rights);
+                agree("protect refused", base + size / 2);
+                continue;
+            }
             must_protect(base, other);
             shoot_down(base);
             agree("protected", base + size / 2);
-            must_protect(base, rights);
-            shoot_down(base);
+            back(base, rights);
             agree("protected back", base + size - 8);
         }
         must_unmap_and_report(base, frame, size);
@@ -66,5 +103,6 @@ static void test_rights_of(unsigned n) {
 
 void test_rights(void) {
     for (unsigned n = 0; n < SIZES; n++) test_rights_of(n);
-    end_part("rights: 3 sizes, from each of 8 rights to each by protect; read, write, execute; ring 3 and ring 0");
+    check(pages_of_both(&process_space) == 0, "the process's tables have pages that can be written and executed");
+    end_part("rights: 3 sizes, from each of 8 to each by protect, and none that is writable and executable; read, write, execute; ring 3 and 0");
 }

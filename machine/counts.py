@@ -88,7 +88,7 @@ class Scene:
         return self.each(kind, 'tp_raw_look_up', ORIGIN, SPACE[3], va)
 
     def map(self, base, size, reason=0):
-        return self.each(reason, 'tp_raw_map', *SPACE, base, FRAME, size, 3)
+        return self.each(reason, 'tp_raw_map', *SPACE, base, FRAME, size, 7)
 
     def unmap(self, base, reason=0):
         return self.each(reason, 'tp_raw_unmap', *SPACE, base)

@@ -5,12 +5,35 @@ FRAME = (1 << 52) - (1 << 12)
 MARK_AT, PAGES_AT, ROOT_AT, TICKETS_AT, FREE_AT, ASIDE_AT, HEAD_AT = range(7)
 HEADER = 16
 NO_ADDRESS = 'no address'
-BASE_RANGE, RIGHTS = 4, 25  # reasons
+# reasons
+SIZE, BASE_UNALIGNED, FRAME_UNALIGNED, BASE_RANGE, FRAME_RANGE = range(1, 6)
+RIGHTS, WRITE_EXECUTE = 25, 27
 
 
 def is_address(va):
     """Canonical: bits 47 to 63 are all alike."""
     return va >> 47 in (0, (1 << 17) - 1)
+
+
+def is_both(rights):
+    """Writable, and executable."""
+    return rights in (1, 3)
+
+
+def refusal(operation, arguments):
+    """The reason that the numbers alone give, in the order of the tests; None where they give none."""
+    if operation == 'tp_raw_map':
+        base, frame, size, rights = arguments
+        tests = ((rights > 7, RIGHTS), (size not in SIZES, SIZE), (base % size, BASE_UNALIGNED), (frame % size, FRAME_UNALIGNED),
+                 (not is_address(base), BASE_RANGE), (frame + size > 1 << 52, FRAME_RANGE), (is_both(rights), WRITE_EXECUTE))
+    elif operation == 'tp_raw_protect':
+        base, rights = arguments
+        tests = (rights > 7, RIGHTS), (is_both(rights), WRITE_EXECUTE), (not is_address(base), BASE_RANGE)
+    elif operation == 'tp_raw_unmap':
+        tests = (not is_address(arguments[0]), BASE_RANGE),
+    else:
+        tests = ()
+    return next((reason for refused, reason in tests if refused), None)
 
 
 def book_pages(pages):
@@ -95,7 +118,7 @@ class Tables:
     # What each stores, as (word's number in the window, word); None where it should refuse.
 
     def map(self, base, frame, size, rights):
-        if rights > 7 or size not in SIZES or base % size or frame % size or not is_address(base) or frame + size > 1 << 52:
+        if refusal('tp_raw_map', (base, frame, size, rights)):
             return None
         pool = self.start << 12
         if pool < frame + size and frame < pool + (self.pages << 12):
@@ -143,7 +166,7 @@ class Tables:
 
     def protect(self, base, rights):
         found = self.starts(base)
-        if rights > 7 or not found:
+        if refusal('tp_raw_protect', (base, rights)) or not found:
             return None
         level, way = found
         index = base >> 12 + 9 * level & 511
@@ -156,10 +179,3 @@ class Tables:
         if due > aside:
             return None
         return [self.put(FREE_AT, free + due), self.put(ASIDE_AT, aside - due), self.put(TICKETS_AT, tickets + due)]
-
-    @staticmethod
-    def refusal(base, size, frame, rights):
-        """The reason of a base that is no address, where nothing that is asked before it is wrong."""
-        if is_address(base) or size not in SIZES or base % size or frame % size:
-            return None
-        return RIGHTS if rights > 7 else BASE_RANGE

@@ -1,16 +1,18 @@
 #!/usr/bin/python3
-"""stores PROGRAM [PREFIX]: random operations of the library's x86-64 code, and every store of each held to what it should be:
-one aligned store of 8 bytes for each planned write, in the planned order; after every single store the tables mean to each sampled
-address what they meant before the operation or what they mean after it, and it turns at one store only; no store into a page that
-is set aside; none outside the pool. Bases are of both halves and of the hole between them. No load is beyond the window, and an entry of a linked table is loaded once in an operation, by one
-load; but a map that could not be done at once begins anew at the root, before any store. Look-up loads each entry of the way once, whole, from
+"""stores PROGRAM [PREFIX]: random operations of the library's x86-64 code, and every store of each held to what it should be: one aligned
+store of 8 bytes for each planned write, in the planned order; after every single store the tables mean to each sampled address what they
+meant before the operation or what they mean after it, and it turns at one store only; no store into a page that is set aside; none outside
+the pool. Bases are of both halves and of the hole between them, rights are all that there are. What the numbers alone refuse has its
+reason, in the order of the tests. No load is beyond the window, and an entry of a linked table is loaded once in an operation, by one load;
+but a map that could not be done at once begins anew at the root, before any store. Look-up loads each entry of the way once, whole, from
 the root down, and nothing else; entry loads one; and neither they nor state store anything. The last line counts the operations."""
+import collections
 import os
 import random
 import sys
 
 from emulated import WINDOW, Code, Wrong
-from model import NO_ADDRESS, SIZES, Tables, is_address
+from model import BASE_RANGE, NO_ADDRESS, RIGHTS, SIZES, WRITE_EXECUTE, Tables, is_address, refusal
 
 ORIGIN = 0x40_0000
 # an entry is loaded whole; or its first half or byte, where the compiler saw that only bit 0 is looked at
@@ -21,13 +23,6 @@ EDGES = (0, (1 << 47) - 1, 1 << 47, (1 << 64) - (1 << 47) - 1, (1 << 64) - (1 <<
 
 def plain(tables, operation, arguments):
     return {'tp_raw_map': tables.map, 'tp_raw_unmap': tables.unmap, 'tp_raw_protect': tables.protect, 'tp_raw_told': tables.told}[operation](*arguments)
-
-
-def asked(operation, arguments):
-    """Size, frame and rights, as far as the operation has them."""
-    if operation == 'tp_raw_map':
-        return arguments[2], arguments[1], arguments[3]
-    return 4096, 0, arguments[1] if operation == 'tp_raw_protect' else 0
 
 
 class Night:
@@ -44,7 +39,7 @@ class Night:
         if answer != (0, self.tables.root << 12):
             raise Wrong(f'create answered {answer}')
         self.pool = (ORIGIN, ORIGIN, self.pages, self.tables.root << 12)
-        self.aside, self.tickets, self.mapped, self.refused = [], 0, [], 0
+        self.aside, self.tickets, self.mapped, self.refused = [], 0, [], collections.Counter()
 
     def base(self, size):
         """In either half, and now and then in the hole: with a bit from 47 on turned over, or without the high bits."""
@@ -70,12 +65,14 @@ class Night:
         return (kind, (base,)) if kind == 'tp_raw_unmap' else (kind, (base, dice.randrange(9)))
 
     def mark(self):
-        """The machine sets accessed and dirty by itself, now and then."""
+        """The machine sets accessed and dirty by itself, now and then; and a page becomes one of older tables, writable and executable."""
         for base in self.mapped:
-            if self.dice.random() < 0.2:
+            chance = self.dice.random()
+            if chance < 0.25:
                 level, way = self.tables.starts(base)
                 at = self.tables.at(way[-1], base >> 12 + 9 * level & 511)
-                self.tables.words[at] |= 0x60
+                word = self.tables.words[at]
+                self.tables.words[at] = word | 0x60 if chance < 0.2 else word & ~(1 << 63) | 2
                 self.code.uc.mem_write(WINDOW + 8 * at, self.tables.words[at].to_bytes(8, 'little'))
 
     def sampled(self, operation, arguments):
@@ -99,10 +96,12 @@ class Night:
         samples = self.sampled(operation, arguments)
         old, new = [tables.walk(va) for va in samples], [then.walk(va) for va in samples]
         answer = self.code.call(operation, *self.pool, *arguments)
-        refusal = tables.refusal(arguments[0], *asked(operation, arguments)) if operation != 'tp_raw_told' else None
-        if (answer[0] == 0) != (planned is not None) or refusal and answer[0] != refusal:
+        reason = refusal(operation, arguments)
+        if (answer[0] == 0) != (planned is not None) or reason and answer[0] != reason:
             raise Wrong(f'{what} answered {answer}')
-        self.refused += refusal is not None
+        if operation == 'tp_raw_protect' and reason in (RIGHTS, WRITE_EXECUTE) and self.code.loads:
+            raise Wrong(f'{what} is refused for its rights, and loads {self.code.loads}')
+        self.refused[reason] += 1
         self.held(what, before, planned or [], samples, old, new)
         if bytes(self.code.window()) != bytes(tables.words.cast('B')):
             raise Wrong(f'{what} left bytes that no recorded store put there')
@@ -198,7 +197,7 @@ def main():
     seed = int(os.environ.get('TABLEPATH_SEED') or random.SystemRandom().randrange(1 << 32))
     operations = int(os.environ.get('TABLEPATH_OPERATIONS') or 4000)
     print(f'seed {seed}: {operations} operations, every load and store watched')
-    dice, done, refused = random.Random(seed), 0, 0
+    dice, done, refused = random.Random(seed), 0, collections.Counter()
     try:
         while done < operations:
             night = Night(code, dice)
@@ -210,11 +209,12 @@ def main():
         print(f'operation {done}: {wrong}')
         print(f'{done} passed, 1 failed')
         return 1
-    if refused < operations // 50:
-        print(f'only {refused} bases were no addresses')
-        print(f'{done} passed, 1 failed')
-        return 1
-    print(f'{refused} bases that are no address, refused as such')
+    for reason, what in ((BASE_RANGE, 'bases that are no address'), (WRITE_EXECUTE, 'rights that are writable and executable')):
+        print(f'{refused[reason]} {what}, refused as such')
+        if refused[reason] < operations // 50:
+            print('too few')
+            print(f'{done} passed, 1 failed')
+            return 1
     print(f'{done} passed, 0 failed')
     return 0
 

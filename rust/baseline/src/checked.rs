@@ -7,7 +7,7 @@ use crate::book::{
 };
 use crate::words::{
     canonical, frame, index, is_page, page_word, present, reserved, rights, size, table, table_word, with_rights,
-    LIMIT, PAGE, ROOT_LEVEL,
+    write_execute, LIMIT, PAGE, ROOT_LEVEL,
 };
 use crate::{Meaning, Protected, Reason, Space, Unmapped};
 
@@ -240,6 +240,9 @@ pub fn map(mem: &mut [u8], space: &Space, base: u64, frame: u64, size: u64, righ
     if frame > LIMIT - size {
         return Err(Reason::FrameRange);
     }
+    if write_execute(rights) {
+        return Err(Reason::WriteExecute);
+    }
     let pool = Pool::of(mem, space)?;
     if frame < space.pool + space.pages * PAGE && space.pool < frame + size {
         return Err(Reason::FrameInPool);
@@ -336,6 +339,9 @@ pub fn unmap(mem: &mut [u8], space: &Space, base: u64) -> Result<Unmapped, Reaso
 pub fn protect(mem: &mut [u8], space: &Space, base: u64, rights: u64) -> Result<Protected, Reason> {
     if rights > 7 {
         return Err(Reason::Rights);
+    }
+    if write_execute(rights) {
+        return Err(Reason::WriteExecute);
     }
     let pool = Pool::of(mem, space)?;
     let Spot { level, word, way } = pool.find(base)?;

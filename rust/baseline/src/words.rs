@@ -38,6 +38,12 @@ pub const fn index(level: usize, va: u64) -> usize {
     (va >> (12 + 9 * level)) as usize & 511
 }
 
+/// Could a page with these rights be written and executed?
+#[inline]
+pub const fn write_execute(rights: u64) -> bool {
+    rights & (WRITABLE | NOEXEC) == WRITABLE
+}
+
 #[inline]
 const fn rights_word(rights: u64) -> u64 {
     (rights & (WRITABLE | USER)) << 1 | (rights & NOEXEC) << 61

@@ -6,7 +6,8 @@ use operations::layout::{ASIDE, FREE, TICKETS};
 use operations::{Operations, Space};
 
 pub const FRAME: u64 = 256 << 30;
-pub const RIGHTS: u64 = 3;
+/// Writable and the user's, and not executable.
+pub const RIGHTS: u64 = 7;
 const ORIGIN: u64 = 1 << 40;
 const PAGE: u64 = 4096;
 const SIZES: [(u64, &str); 3] = [(PAGE, "4 KiB"), (PAGE << 9, "2 MiB"), (PAGE << 18, "1 GiB")];

@@ -67,7 +67,7 @@ impl Scene {
             some.extend((0..1 + random.below(3 + pages / 40)).map(|_| random.below(512)));
             some
         });
-        // map, unmap, protect, told, look_up, and the machine's marks
+        // map, unmap, protect, told, look_up, and what is done to entries without being asked
         let mood =
             random.pick(&[[60, 12, 8, 4, 4, 6], [40, 30, 8, 10, 4, 6], [45, 35, 6, 4, 4, 4], [34, 34, 4, 20, 4, 4]]);
         Scene { random, setup, steps, indices, mood }
@@ -99,6 +99,7 @@ impl Scene {
             2 => Request::Protect { space, base: self.base_of_page(hints, odd), rights: self.rights() },
             3 => Request::Told { space, ticket: self.ticket(hints) },
             4 => self.look_up(space, hints),
+            _ if self.random.chance(1, 4) => return Step::Old { va: self.address(hints) },
             _ => return Step::Mark { va: self.address(hints), dirty: self.random.chance(1, 2) },
         };
         let request = if odd { self.misplaced(request) } else { request };
@@ -110,11 +111,12 @@ impl Scene {
     }
 
     fn rights(&mut self) -> u64 {
-        // A bit above the third means nothing, and is refused.
-        if self.random.chance(1, 32) {
-            self.random.word()
-        } else {
-            self.random.below(8)
+        match self.random.below(32) {
+            // A bit above the third means nothing, and is refused.
+            0 => self.random.word(),
+            // Writable and executable, which is refused too.
+            1..=4 => self.random.pick(&[1, 3]),
+            _ => self.random.pick(&[0, 2, 4, 5, 6, 7]),
         }
     }
 

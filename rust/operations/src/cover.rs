@@ -1,8 +1,8 @@
 //! What was asked: so that a run which never came to some size, reason or edge does not pass for a test of it.
 
-use crate::ledger::{is_address, Ledger, GIB1, KIB4, LOWER, MIB2, PHYSICAL, SIZES, UPPER};
+use crate::ledger::{is_address, is_both, Ledger, GIB1, KIB4, LOWER, MIB2, PHYSICAL, SIZES, UPPER};
 use crate::steps::Setup;
-use crate::{Answer, Request, REASONS};
+use crate::{reasons, Answer, Request, REASONS};
 use std::collections::BTreeMap;
 
 /// What a run is asked.
@@ -25,6 +25,25 @@ const ENDS: [&str; 6] = [
     "in the upper half",
 ];
 
+/// What is of interest in the ledger as it is before a request.
+#[derive(Clone, Copy)]
+pub struct Before {
+    /// How many pages are free.
+    free: u64,
+    /// Is the page writable and executable that is to be unmapped or protected?
+    both: bool,
+}
+
+impl Before {
+    pub fn new(ledger: &Ledger, request: &Request) -> Before {
+        let both = match *request {
+            Request::Unmap { base, .. } | Request::Protect { base, .. } => is_both(ledger.means(base).rights),
+            _ => false,
+        };
+        Before { free: ledger.free, both }
+    }
+}
+
 #[derive(Default)]
 pub struct Cover {
     pub asked: u64,
@@ -45,13 +64,13 @@ impl Cover {
         *self.counts.entry(what.into()).or_insert(0) += 1;
     }
 
-    /// `free`: how many pages were free before; the ledger is as it is after the answer.
+    /// The ledger is as it is after the answer.
     pub fn note(
         &mut self,
         setup: &Setup,
         request: &Request,
         answer: &Answer,
-        free: Option<u64>,
+        before: Option<Before>,
         ledger: Option<&Ledger>,
     ) {
         self.asked += 1;
@@ -66,9 +85,13 @@ impl Cover {
             let reason = REASONS.get(answer.reason() as usize).unwrap_or(&"?");
             self.add(format!("{} {reason}", request.name()));
         }
+        if before.is_some_and(|before| before.both) {
+            let reason = REASONS.get(answer.reason() as usize).unwrap_or(&"?");
+            self.add(format!("{} of an old page, {reason}", request.name()));
+        }
         match (*request, *answer) {
             (Request::Map { base, frame, size, .. }, Answer::Mapped(mapped)) => match mapped.reason {
-                0 => {
+                reasons::DONE => {
                     self.add(format!("map {}, {} tables", name(size), mapped.tables));
                     if let Some(ledger) = ledger {
                         if ledger.free == 0 && mapped.tables > 0 {
@@ -78,12 +101,12 @@ impl Cover {
                     }
                     self.ends("map", base, size);
                 }
-                4 if base == LOWER => self.add("map at 2^47"),
-                4 if base == UPPER - size => self.add("map right below the upper half"),
-                4 if base < 1 << 48 => self.add("map without the high bits of the upper half"),
-                6 => self.frame_in_pool(setup, frame, size),
-                8 => {
-                    if let (Some(ledger), Some(free)) = (ledger, free) {
+                reasons::BASE_RANGE if base == LOWER => self.add("map at 2^47"),
+                reasons::BASE_RANGE if base == UPPER - size => self.add("map right below the upper half"),
+                reasons::BASE_RANGE if base < 1 << 48 => self.add("map without the high bits of the upper half"),
+                reasons::FRAME_IN_POOL => self.frame_in_pool(setup, frame, size),
+                reasons::NO_ROOM => {
+                    if let (Some(ledger), Some(Before { free, .. })) = (ledger, before) {
                         self.add(format!("map NoRoom, {} missing, {free} free", ledger.missing(base, size)));
                     }
                 }
@@ -111,6 +134,9 @@ impl Cover {
                     ["look_up nothing", "look_up page", "look_up outside", "?", "?", "look_up no address"]
                         [found.kind as usize],
                 );
+                if found.kind == 1 && is_both(found.rights) {
+                    self.add("look_up an old page");
+                }
                 if found.kind == 1 {
                     self.ends("look_up", found.base, found.size);
                 }
@@ -176,6 +202,7 @@ impl Cover {
         need(100, "look_up nothing".into());
         need(100, "look_up page".into());
         need(50, "look_up no address".into());
+        need(5, "look_up an old page".into());
         for request in ["unmap", "protect"] {
             need(200, format!("{request} NothingStarts"));
             need(20, format!("{request} BaseRange"));
@@ -204,26 +231,34 @@ impl Cover {
                 need(5, format!("frame right before the pool, {size}"));
                 need(5, format!("frame right after the pool, {size}"));
             }
+            for (request, least) in [("unmap", 50), ("protect", 10)] {
+                need(least, format!("{request} of an old page, done"));
+            }
             for pool in ["of 3 pages", "of 4 to 9", "of 10 to 99", "of 100 to 248", "with a book of several pages"] {
                 need(300, format!("pool {pool}"));
             }
         }
         if sort != Sort::Valid {
-            for reason in &REASONS[1..=6] {
+            for reason in &REASONS[reasons::SIZE as usize..=reasons::FRAME_IN_POOL as usize] {
                 need(50, format!("map {reason}"));
             }
             for request in ["map", "unmap", "protect", "told"] {
-                for reason in &REASONS[14..=19] {
+                for reason in &REASONS[reasons::POOL_UNALIGNED as usize..=reasons::BAD_ROOT as usize] {
                     need(5, format!("{request} {reason}"));
                 }
             }
-            for reason in REASONS[12..=14].iter().chain(&REASONS[16..=18]) {
+            for reason in
+                ["OriginUnaligned", "LengthUnaligned", "PoolUnaligned", "PoolLarge", "PoolSmall", "PoolOutside"]
+            {
                 need(5, format!("create {reason}"));
             }
+            need(500, "map WriteExecute".into());
+            need(100, "protect WriteExecute".into());
             need(20, "told UnknownTicket".into());
             need(2, "told SpentTickets".into());
         }
         if sort == Sort::Sound {
+            need(2, "protect of an old page, WriteExecute".into());
             need(20, "map at 2^47".into());
             need(20, "map right below the upper half".into());
             need(20, "map without the high bits of the upper half".into());
@@ -237,7 +272,7 @@ impl Cover {
         }
         if sort == Sort::Damaged {
             for request in ["map", "unmap", "told"] {
-                for reason in &REASONS[20..=22] {
+                for reason in ["NoBook", "OtherBook", "BadBook"] {
                     need(10, format!("{request} {reason}"));
                 }
             }

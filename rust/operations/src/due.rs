@@ -3,8 +3,8 @@
 //! stray.
 
 use crate::layout::{ASIDE, FREE, HEAD, HEADER, MARK, PAGES, ROOT, TICKETS};
-use crate::ledger::{asked, created};
-use crate::{Answer, LookedUp, Mapped, Protected, Request, Space, Told, Unmapped};
+use crate::ledger::{asked, asked_rights, created};
+use crate::{reasons, Answer, LookedUp, Mapped, Protected, Request, Space, Told, Unmapped};
 use model::{walk, End, Kind, Read, Walk, Window};
 
 /// By physical addresses.
@@ -40,15 +40,15 @@ pub fn due(window: Window, request: &Request) -> Due {
             let writes = if answer.reason == 0 { new_pool(pool, pages, answer.root) } else { vec![] };
             Ok((Answer::Created(answer), writes))
         }
-        Request::Map { rights, .. } | Request::Protect { rights, .. } if rights > 7 => Err(25),
-        Request::Map { space, base, frame, size, rights } => match asked(base, frame, size) {
-            0 => Pool::standing(window, space).and_then(|pool| pool.map(base, frame, size, rights)),
+        Request::Map { space, base, frame, size, rights } => match asked(base, frame, size, rights) {
+            reasons::DONE => Pool::standing(window, space).and_then(|pool| pool.map(base, frame, size, rights)),
             reason => Err(reason),
         },
         Request::Unmap { space, base } => Pool::standing(window, space).and_then(|pool| pool.unmap(base)),
-        Request::Protect { space, base, rights } => {
-            Pool::standing(window, space).and_then(|pool| pool.protect(base, rights))
-        }
+        Request::Protect { space, base, rights } => match asked_rights(rights) {
+            reasons::DONE => Pool::standing(window, space).and_then(|pool| pool.protect(base, rights)),
+            reason => Err(reason),
+        },
         Request::Told { space, ticket } => Pool::standing(window, space).and_then(|pool| pool.told(ticket)),
     };
     let (answer, writes) = outcome.unwrap_or_else(|reason| (request.refused(reason), vec![]));
@@ -117,13 +117,13 @@ impl<'a> Pool<'a> {
     fn standing(window: Window<'a>, space: Space) -> Result<Pool<'a>, u64> {
         match space.refused(window.bytes.len()) {
             // A root that is no page of the pool is refused behind what the book says.
-            reason @ (0 | 19) => {
+            reason @ (reasons::DONE | reasons::BAD_ROOT) => {
                 let place = |address: u64| (address - space.origin) as usize;
                 let (start, behind, end) = (place(space.pool), place(space.behind()), place(space.end()));
                 let tables = Window { bytes: &window.bytes[behind..end], origin: space.behind() };
                 let pool = Pool { space, book: &window.bytes[start..behind], tables };
                 pool.named()?;
-                if reason == 0 {
+                if reason == reasons::DONE {
                     Ok(pool)
                 } else {
                     Err(reason)
@@ -150,13 +150,13 @@ impl<'a> Pool<'a> {
     /// The book must name this space.
     fn named(&self) -> Result<(), u64> {
         if !self.book.starts_with(&MARK) {
-            return Err(20);
+            return Err(reasons::NO_BOOK);
         }
         if self.word(PAGES) != self.space.pages {
-            return Err(21);
+            return Err(reasons::OTHER_BOOK);
         }
         if self.word(ROOT) != self.space.root / 4096 {
-            return Err(19);
+            return Err(reasons::BAD_ROOT);
         }
         Ok(())
     }
@@ -165,7 +165,7 @@ impl<'a> Pool<'a> {
         let book =
             Book { head: self.word(HEAD), free: self.word(FREE), aside: self.word(ASIDE), tickets: self.word(TICKETS) };
         if book.head >= self.space.pages || !self.lists(&book, 0) || book.tickets > 1 << 62 {
-            return Err(22);
+            return Err(reasons::BAD_BOOK);
         }
         Ok(book)
     }
@@ -184,7 +184,7 @@ impl<'a> Pool<'a> {
     /// The physical addresses of so many of the oldest free pages: each once, and none a table of the way.
     fn take(&self, book: &Book, need: u64, way: &[u64]) -> Result<Vec<u64>, u64> {
         if book.free < need {
-            return Err(8);
+            return Err(reasons::NO_ROOM);
         }
         let numbers: Vec<u64> = (0..need).map(|position| self.word(self.slot(book, position))).collect();
         let usable = |number: &u64| {
@@ -194,7 +194,7 @@ impl<'a> Pool<'a> {
         if numbers.iter().all(usable) && numbers.iter().enumerate().all(once) {
             Ok(numbers.iter().map(|number| number * 4096).collect())
         } else {
-            Err(11)
+            Err(reasons::BAD_LIST)
         }
     }
 
@@ -204,22 +204,22 @@ impl<'a> Pool<'a> {
 
     fn map(&self, base: u64, frame: u64, size: u64, rights: u64) -> Outcome {
         if frame < self.space.end() && self.space.pool < frame + size {
-            return Err(6);
+            return Err(reasons::FRAME_IN_POOL);
         }
         let target = [4096, 4096 << 9, 4096 << 18].iter().position(|each| *each == size).expect("a page's size") as u64;
         let walk = self.walk(base);
         let (kind, stray) = match walk.end {
-            End::Page(_) => return Err(7),
+            End::Page(_) => return Err(reasons::OVERLAP),
             End::NotPresent(kind) | End::Reserved(kind) => (kind, false),
             End::Outside(kind) => (kind, true),
             End::NoAddress => unreachable!("the base is an address"),
         };
         if level(kind) < target {
             // The walk came through a table that stands where the page should.
-            return Err(7);
+            return Err(reasons::OVERLAP);
         }
         if stray {
-            return Err(10);
+            return Err(reasons::STRAY);
         }
         let need = level(kind) - target;
         let mut writes = vec![];
@@ -248,9 +248,9 @@ impl<'a> Pool<'a> {
             model::Answer::Page { base, size, frame, .. } if base == asked => {
                 Ok((walk.way.iter().rev().flatten().copied().collect(), frame, size))
             }
-            model::Answer::Page { .. } | model::Answer::Nothing => Err(9),
-            model::Answer::Outside => Err(10),
-            model::Answer::NoAddress => Err(4),
+            model::Answer::Page { .. } | model::Answer::Nothing => Err(reasons::NOTHING_STARTS),
+            model::Answer::Outside => Err(reasons::STRAY),
+            model::Answer::NoAddress => Err(reasons::BASE_RANGE),
         }
     }
 
@@ -273,7 +273,7 @@ impl<'a> Pool<'a> {
         let book = self.open()?;
         let aside = empty as u64;
         if !self.lists(&book, aside) {
-            return Err(22);
+            return Err(reasons::BAD_BOOK);
         }
         for (more, pair) in (0..).zip(way[..empty + 1].windows(2)) {
             writes.push(Word(pair[1].address, 0));
@@ -294,13 +294,13 @@ impl<'a> Pool<'a> {
     fn told(&self, ticket: u64) -> Outcome {
         let book = self.open()?;
         if ticket > book.tickets + book.aside {
-            return Err(23);
+            return Err(reasons::UNKNOWN);
         }
         if ticket <= book.tickets {
             return Ok((Answer::Told(Told::default()), vec![]));
         }
         if ticket > 1 << 62 {
-            return Err(24);
+            return Err(reasons::SPENT);
         }
         let released = ticket - book.tickets;
         let writes = [(FREE, book.free + released), (ASIDE, book.aside - released), (TICKETS, ticket)];

@@ -2,7 +2,7 @@
 //! It never looks at bytes, and knows tables that the operations built; what a damaged book or table does, `due` says.
 
 use crate::space::{create_refused, made};
-use crate::{Answer, Created, LookedUp, Mapped, Protected, Request, Space, Told, Unmapped};
+use crate::{reasons, Answer, Created, LookedUp, Mapped, Protected, Request, Space, Told, Unmapped};
 use std::collections::{BTreeMap, VecDeque};
 
 pub const KIB4: u64 = 4 << 10;
@@ -97,12 +97,19 @@ impl Ledger {
         }
     }
 
+    /// The page at the address is now writable and executable.
+    pub fn make_both(&mut self, va: u64) {
+        let page = self.mappings.iter_mut().find(|page| page.base <= va && va - page.base < page.size);
+        let page = page.expect("it is mapped");
+        page.rights = page.rights & !4 | 1;
+    }
+
     /// What has to be answered where so many bytes of the window are lent, and then holds. Of a pool that does not begin in ours
     /// nothing is said, where it makes sense: it is not ours.
     pub fn judge(&mut self, request: &Request, lent: usize) -> Option<Answer> {
         let told = match *request {
             Request::Create { origin, pool, pages } => match create_refused(lent, origin, pool, pages) {
-                0 => return None,
+                reasons::DONE => return None,
                 reason => Err(reason),
             },
             Request::LookUp { origin, root, va } => {
@@ -113,24 +120,26 @@ impl Ledger {
                 }
                 Ok(Answer::LookedUp(self.means(va)))
             }
-            Request::Map { rights, .. } | Request::Protect { rights, .. } if rights > 7 => Err(25),
-            Request::Map { space, base, frame, size, rights } => match asked(base, frame, size) {
-                0 => match self.standing(space, lent)? {
-                    0 => self.map(base, frame, size, rights),
+            Request::Map { space, base, frame, size, rights } => match asked(base, frame, size, rights) {
+                reasons::DONE => match self.standing(space, lent)? {
+                    reasons::DONE => self.map(base, frame, size, rights),
                     reason => Err(reason),
                 },
                 reason => Err(reason),
             },
             Request::Unmap { space, base } => match self.standing(space, lent)? {
-                0 => self.unmap(base),
+                reasons::DONE => self.unmap(base),
                 reason => Err(reason),
             },
-            Request::Protect { space, base, rights } => match self.standing(space, lent)? {
-                0 => self.protect(base, rights),
+            Request::Protect { space, base, rights } => match asked_rights(rights) {
+                reasons::DONE => match self.standing(space, lent)? {
+                    reasons::DONE => self.protect(base, rights),
+                    reason => Err(reason),
+                },
                 reason => Err(reason),
             },
             Request::Told { space, ticket } => match self.standing(space, lent)? {
-                0 => self.told(ticket),
+                reasons::DONE => self.told(ticket),
                 reason => Err(reason),
             },
         };
@@ -140,25 +149,25 @@ impl Ledger {
     fn standing(&self, space: Space, lent: usize) -> Option<u64> {
         let ours = self.space;
         match space.refused(lent) {
-            reason @ 1..=18 => Some(reason),
+            reason @ reasons::POOL_UNALIGNED..=reasons::POOL_OUTSIDE => Some(reason),
             _ if space.origin != ours.origin => None,
-            _ if space.pool != ours.pool => (ours.pool..ours.end()).contains(&space.pool).then_some(20),
-            _ if space.pages != ours.pages => Some(21),
-            _ if space.root != ours.root => Some(19),
-            _ => Some(0),
+            _ if space.pool != ours.pool => (ours.pool..ours.end()).contains(&space.pool).then_some(reasons::NO_BOOK),
+            _ if space.pages != ours.pages => Some(reasons::OTHER_BOOK),
+            _ if space.root != ours.root => Some(reasons::BAD_ROOT),
+            _ => Some(reasons::DONE),
         }
     }
 
     fn map(&mut self, base: u64, frame: u64, size: u64, rights: u64) -> Result<Answer, u64> {
         if meet(frame, size, self.space.pool, self.space.pages * KIB4) {
-            return Err(6);
+            return Err(reasons::FRAME_IN_POOL);
         }
         if self.mappings.iter().any(|page| meet(base, size, page.base, page.size)) {
-            return Err(7);
+            return Err(reasons::OVERLAP);
         }
         let tables = self.missing(base, size);
         if tables > self.free {
-            return Err(8);
+            return Err(reasons::NO_ROOM);
         }
         self.free -= tables;
         for table in Ledger::needs(base, size) {
@@ -170,9 +179,9 @@ impl Ledger {
 
     fn starts(&self, base: u64) -> Result<usize, u64> {
         if !is_address(base) {
-            return Err(4);
+            return Err(reasons::BASE_RANGE);
         }
-        self.mappings.iter().position(|page| page.base == base).ok_or(9)
+        self.mappings.iter().position(|page| page.base == base).ok_or(reasons::NOTHING_STARTS)
     }
 
     fn unmap(&mut self, base: u64) -> Result<Answer, u64> {
@@ -204,11 +213,11 @@ impl Ledger {
 
     fn told(&mut self, ticket: u64) -> Result<Answer, u64> {
         if ticket > self.released + self.aside {
-            return Err(23);
+            return Err(reasons::UNKNOWN);
         }
         let released = ticket.saturating_sub(self.released);
         if released > 0 && ticket > 1 << 62 {
-            return Err(24);
+            return Err(reasons::SPENT);
         }
         self.free += released;
         self.aside -= released;
@@ -217,22 +226,37 @@ impl Ledger {
     }
 }
 
-/// Why a page cannot be asked for, whatever is mapped; 0 where it can.
-pub fn asked(base: u64, frame: u64, size: u64) -> u64 {
+/// Why a page cannot be asked for, whatever is mapped.
+pub fn asked(base: u64, frame: u64, size: u64, rights: u64) -> u64 {
     match () {
-        () if !SIZES.contains(&size) => 1,
-        () if base % size != 0 => 2,
-        () if frame % size != 0 => 3,
-        () if !is_address(base) => 4,
-        () if frame >= PHYSICAL || frame + size > PHYSICAL => 5,
-        () => 0,
+        () if rights > 7 => reasons::RIGHTS,
+        () if !SIZES.contains(&size) => reasons::SIZE,
+        () if base % size != 0 => reasons::BASE_UNALIGNED,
+        () if frame % size != 0 => reasons::FRAME_UNALIGNED,
+        () if !is_address(base) => reasons::BASE_RANGE,
+        () if frame >= PHYSICAL || frame + size > PHYSICAL => reasons::FRAME_RANGE,
+        () => asked_rights(rights),
     }
+}
+
+/// Why no page gets these rights.
+pub fn asked_rights(rights: u64) -> u64 {
+    match () {
+        () if rights > 7 => reasons::RIGHTS,
+        () if is_both(rights) => reasons::WRITE_EXECUTE,
+        () => reasons::DONE,
+    }
+}
+
+/// Writable, and executable?
+pub fn is_both(rights: u64) -> bool {
+    [1, 3].contains(&rights)
 }
 
 /// What making a pool answers.
 pub fn created(len: usize, origin: u64, pool: u64, pages: u64) -> Created {
     match create_refused(len, origin, pool, pages) {
-        0 => Created { reason: 0, root: made(origin, pool, pages).root },
+        reasons::DONE => Created { reason: reasons::DONE, root: made(origin, pool, pages).root },
         reason => Created { reason, root: 0 },
     }
 }

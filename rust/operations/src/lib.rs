@@ -17,6 +17,7 @@ pub mod ledger;
 pub mod library;
 #[path = "../../walks/src/random.rs"]
 pub mod random;
+pub mod reasons;
 pub mod run;
 pub mod shrink;
 pub mod space;

@@ -2,13 +2,13 @@
 
 use crate::audit::{audit, lists};
 use crate::chance::canonical;
-use crate::cover::Cover;
+use crate::cover::{Before, Cover};
 use crate::due::{due, looked_up, Write};
 use crate::layout::TICKETS;
 use crate::ledger::{Ledger, EDGES};
 use crate::random::Random;
 use crate::steps::{Hints, Setup, Step};
-use crate::{Answer, Operations, Request, Space};
+use crate::{reasons, Answer, Operations, Request, Space};
 use model::{walk, Window};
 use std::cell::Cell;
 use std::panic::{catch_unwind, AssertUnwindSafe};
@@ -17,9 +17,8 @@ use std::panic::{catch_unwind, AssertUnwindSafe};
 const AROUND: usize = 64;
 /// In larger windows not every byte is looked at after every step.
 const LARGE: usize = 24 * 4096;
-/// The reasons that one which is raw gives: done, overlap, no room, nothing starts; and to all but map, no address.
-const RAW: [u64; 4] = [0, 7, 8, 9];
-const NO_ADDRESS: u64 = 4;
+/// The reasons that one which is raw gives; and to all but map, that the base is no address.
+const RAW: [u64; 4] = [reasons::DONE, reasons::OVERLAP, reasons::NO_ROOM, reasons::NOTHING_STARTS];
 
 pub struct Run<'a> {
     of: &'a dyn Operations,
@@ -77,7 +76,7 @@ impl<'a> Run<'a> {
     pub fn step(&mut self, step: &Step, cover: &mut Cover) -> Result<Option<Answer>, Trouble> {
         match *step {
             Step::Ask { request, from, to, sample } => {
-                let free = self.ledger.as_ref().map(|ledger| ledger.free);
+                let before = self.ledger.as_ref().map(|ledger| Before::new(ledger, &request));
                 let judged = match &mut self.ledger {
                     None => None,
                     Some(ledger) => {
@@ -98,11 +97,15 @@ impl<'a> Run<'a> {
                         self.audit()?;
                     }
                 }
-                cover.note(&self.setup, &request, &answer, free, self.ledger.as_ref());
+                cover.note(&self.setup, &request, &answer, before, self.ledger.as_ref());
                 Ok(Some(answer))
             }
             Step::Mark { va, dirty } => {
                 self.mark(va, dirty);
+                Ok(None)
+            }
+            Step::Old { va } => {
+                self.make_both(va);
                 Ok(None)
             }
             Step::Put { at, word } => {
@@ -142,6 +145,17 @@ impl<'a> Run<'a> {
         while let Some(entry) = way.next() {
             let dirty = u64::from(dirty && way.peek().is_none());
             self.put((entry.address - origin) as usize, entry.word | 1 << 5 | dirty << 6);
+        }
+    }
+
+    fn make_both(&mut self, va: u64) {
+        let origin = self.setup.origin;
+        let walk = walk(Window { bytes: self.window(), origin }, self.setup.space().root, va);
+        let model::Answer::Page { .. } = walk.answer else { return };
+        let entry = walk.way.into_iter().flatten().last().expect("a page has an entry");
+        self.put((entry.address - origin) as usize, entry.word & !(1 << 63) | 1 << 1);
+        if let Some(ledger) = &mut self.ledger {
+            ledger.make_both(va);
         }
     }
 
@@ -281,7 +295,7 @@ impl<'a> Run<'a> {
 }
 
 fn raw_answers(request: &Request, judged: Answer) -> bool {
-    RAW.contains(&judged.reason()) || judged.reason() == NO_ADDRESS && !matches!(request, Request::Map { .. })
+    RAW.contains(&judged.reason()) || judged.reason() == reasons::BASE_RANGE && !matches!(request, Request::Map { .. })
 }
 
 /// The first and the last address of a page, and those next to it.

@@ -1,6 +1,7 @@
 //! A space, and when it makes no sense: worked out in numbers that cannot overflow.
 
 use crate::layout::HEADER;
+use crate::reasons;
 use std::fmt;
 
 /// The physical address of the window's first byte, of the pool's first page and of the root table, and how many pages the
@@ -28,22 +29,22 @@ impl Space {
         self.pool + 4096 * self.pages
     }
 
-    /// Why the space is refused, in a window of so many bytes; 0 where it is not.
+    /// Why the space is refused, in a window of so many bytes.
     pub fn refused(&self, len: usize) -> u64 {
         if self.pool % 4096 != 0 {
-            return 14;
+            return reasons::POOL_UNALIGNED;
         }
         if self.root % 4096 != 0 {
-            return 15;
+            return reasons::ROOT_UNALIGNED;
         }
         let reason = pool_refused(len, self.origin, self.pool, self.pages);
-        if reason != 0 {
+        if reason != reasons::DONE {
             return reason;
         }
         if (self.behind()..self.end()).contains(&self.root) {
-            0
+            reasons::DONE
         } else {
-            19
+            reasons::BAD_ROOT
         }
     }
 }
@@ -57,22 +58,22 @@ fn pool_refused(len: usize, origin: u64, pool: u64, pages: u64) -> u64 {
     let wide = |number: u64| u128::from(number);
     let (start, end) = (wide(pool), wide(pool) + 4096 * wide(pages));
     if pages > 4 << 30 {
-        16
+        reasons::POOL_LARGE
     } else if wide(pages) < wide(book(pages)) + 1 + 1 {
-        17
+        reasons::POOL_SMALL
     } else if start < wide(origin) || end > wide(origin) + len as u128 || end > 1 << 52 {
-        18
+        reasons::POOL_OUTSIDE
     } else {
-        0
+        reasons::DONE
     }
 }
 
-/// Why a pool is not made; 0 where it is.
+/// Why a pool is not made.
 pub fn create_refused(len: usize, origin: u64, pool: u64, pages: u64) -> u64 {
     match () {
-        () if origin % 4096 != 0 => 12,
-        () if len % 4096 != 0 => 13,
-        () if pool % 4096 != 0 => 14,
+        () if origin % 4096 != 0 => reasons::ORIGIN_UNALIGNED,
+        () if len % 4096 != 0 => reasons::LENGTH_UNALIGNED,
+        () if pool % 4096 != 0 => reasons::POOL_UNALIGNED,
         () => pool_refused(len, origin, pool, pages),
     }
 }

@@ -31,6 +31,8 @@ pub enum Step {
     Ask { request: Request, from: usize, to: usize, sample: u64 },
     /// The machine goes to the address, and marks the entries on its way; and the page as dirty where it writes.
     Mark { va: u64, dirty: bool },
+    /// The page at the address becomes writable and executable, as in tables that were made before such a page was refused.
+    Old { va: u64 },
     /// Damage: the word at this place of the window becomes another.
     Put { at: usize, word: u64 },
     /// Damage: the page at this place of the window is filled with anything.
@@ -79,6 +81,7 @@ impl fmt::Display for Step {
             Step::Mark { va, dirty } => {
                 write!(to, "the machine {} {va:#x}", if *dirty { "writes to" } else { "reads" })
             }
+            Step::Old { va } => write!(to, "the page at {va:#x} becomes writable and executable"),
             Step::Put { at, word } => write!(to, "the word at {at:#x} of the window becomes {word:#x}"),
             Step::Fill { at, junk } => write!(to, "the page at {at:#x} of the window is filled by {junk:#x}"),
         }

@@ -6,11 +6,11 @@ use operations::audit::lists;
 use operations::baselines::Checked;
 use operations::cover::{Cover, Sort};
 use operations::layout::{ASIDE, FREE, HEAD, HEADER, ROOT, TICKETS};
-use operations::ledger::is_address;
+use operations::ledger::{is_address, is_both};
 use operations::shrink::shrink;
-use operations::{test, Created, LookedUp, Mapped, Operations, Protected, Space, Told, Unmapped};
+use operations::{reasons, test, Created, LookedUp, Mapped, Operations, Protected, Space, Told, Unmapped};
 
-const SEED: u64 = 0x7ab1_e9a7;
+const SEED: u64 = 0x7ab1_e9a8;
 const REQUESTS: u64 = 100_000;
 /// As many as show the most that takes several: two tickets, the first of which is told.
 const MOST_STEPS: usize = 5;
@@ -50,6 +50,14 @@ enum Flaw {
     SpaceBeforeSize,
     ReservedIsOverlap,
     OutsideTouched,
+    BothMapped,
+    WritableNotMapped,
+    BothBeforeRights,
+    BothBeforeRange,
+    BothAfterSpace,
+    BothAfterFrame,
+    BothAfterOverlap,
+    BothAfterRoom,
     // unmap
     EmptyLeftLinked,
     OnlyOneUnlinked,
@@ -65,6 +73,7 @@ enum Flaw {
     LastPageKept,
     OnlyPresentCleared,
     ClearedBeforeBook,
+    OldPageNotUnmapped,
     // protect
     DirtyCleared,
     AccessedCleared,
@@ -74,6 +83,11 @@ enum Flaw {
     HoleProtected,
     NothingProtectedInHole,
     AsideTouched,
+    BothProtected,
+    BothAfterSpaceProtected,
+    BothAfterBaseProtected,
+    BothAfterPageProtected,
+    OldPageNotProtected,
     // told
     AllReleased,
     OneMoreReleased,
@@ -85,6 +99,7 @@ enum Flaw {
     NoAddressIsNothing,
     HoleFound,
     BaseStripped,
+    OldPageNotFound,
     // spaces and reasons
     RootRounded,
     PoolRounded,
@@ -161,10 +176,10 @@ impl Flawed {
 
     fn reason(&self, reason: u64) -> u64 {
         match (self.0, reason) {
-            (StrayIsNothing, 10) => 9,
-            (BadBookIsNoBook, 22) => 20,
-            (BadListIsNoRoom, 11) => 8,
-            (StopsAtStray, 10) => panic!("a stray way"),
+            (StrayIsNothing, reasons::STRAY) => reasons::NOTHING_STARTS,
+            (BadBookIsNoBook, reasons::BAD_BOOK) => reasons::NO_BOOK,
+            (BadListIsNoRoom, reasons::BAD_LIST) => reasons::NO_ROOM,
+            (StopsAtStray, reasons::STRAY) => panic!("a stray way"),
             _ => reason,
         }
     }
@@ -264,10 +279,10 @@ impl Operations for Flawed {
         let before = mem.to_vec();
         let len = if self.0 == LengthNotAsked { mem.len() / 4096 * 4096 } else { mem.len() };
         if self.0 == ThreePagesRefused && pages == 3 {
-            return Created { reason: 17, root: 0 };
+            return Created { reason: reasons::POOL_SMALL, root: 0 };
         }
         let answer = Checked.create(&mut mem[..len], origin, pool, pages);
-        if answer.reason == 0 {
+        if answer.reason == reasons::DONE {
             let mut words = words(mem, Space { origin, pool, pages, root: answer.root });
             match self.0 {
                 RootNotCleared => {
@@ -296,59 +311,89 @@ impl Operations for Flawed {
         answer.reason = self.reason(answer.reason);
         let bits = (rights & 3) << 1 | (rights & 4) << 61 | if size > 4096 { 129 } else { 1 };
         match (self.0, answer.reason) {
-            (OverlapByBases, 7) if self.covering(mem, space, base).is_none() => {
+            (OverlapByBases, reasons::OVERLAP) if self.covering(mem, space, base).is_none() => {
                 let mut words = words(mem, space);
                 let level = [4096, 1 << 21, 1 << 30].iter().position(|each| *each == size).unwrap();
                 let entry = words.way(base)[3 - level];
                 words.put(entry.address, frame | bits);
-                return refused(0);
+                return refused(reasons::DONE);
             }
-            (FrameBelowMeets, 6) if frame < space.pool => {
+            (FrameBelowMeets, reasons::FRAME_IN_POOL) if frame < space.pool => {
                 answer = Checked.map(mem, space, base, (1 << 52) - size, size, rights);
-                if answer.reason == 0 {
+                if answer.reason == reasons::DONE {
                     let mut words = words(mem, space);
                     let entry = *words.way(base).last().unwrap();
                     words.put(entry.address, frame | bits);
                 }
                 return answer;
             }
-            (RoomTooLate, 8) => {
+            (RoomTooLate, reasons::NO_ROOM) => {
                 let mut words = words(mem, space);
                 if let Some(page) = words.free().first() {
                     words.put(*page + 8, 0);
                 }
             }
-            (RangeBeforeAlignment, 2) if !is_address(base) => return refused(4),
-            (StrippedMapped, 4) if base < 1 << 48 => {
+            (RangeBeforeAlignment, reasons::BASE_UNALIGNED) if !is_address(base) => {
+                return refused(reasons::BASE_RANGE)
+            }
+            (StrippedMapped, reasons::BASE_RANGE) if base < 1 << 48 => {
                 return Checked.map(mem, space, extended(base), frame, size, rights)
             }
-            (HoleMapped, 4) => return Checked.map(mem, space, extended(base), frame, size, rights),
-            (SpaceBeforeSize, 1..=5) => {
+            (HoleMapped, reasons::BASE_RANGE) => return Checked.map(mem, space, extended(base), frame, size, rights),
+            (SpaceBeforeSize, reasons::SIZE..=reasons::FRAME_RANGE) => {
                 let other = Checked.map(&mut before.clone(), space, 0, (1 << 52) - 4096, 4096, 0);
-                if (14..=19).contains(&other.reason) {
+                if (reasons::POOL_UNALIGNED..=reasons::BAD_ROOT).contains(&other.reason) {
                     return refused(other.reason);
                 }
             }
-            (_, 0) => {
+            (BothBeforeRights, reasons::RIGHTS) if rights & 5 == 1 => return refused(reasons::WRITE_EXECUTE),
+            (BothBeforeRange, reasons::BASE_RANGE | reasons::FRAME_RANGE) if is_both(rights) => {
+                return refused(reasons::WRITE_EXECUTE)
+            }
+            (BothMapped, reasons::WRITE_EXECUTE) => {
+                answer = Checked.map(mem, space, base, frame, size, rights | 4);
+                if answer.reason == reasons::DONE {
+                    let mut words = words(mem, space);
+                    let entry = *words.way(base).last().unwrap();
+                    words.put(entry.address, frame | bits);
+                }
+                return answer;
+            }
+            // What is tested too early, of the same page with other rights.
+            (_, reasons::WRITE_EXECUTE) => {
+                let other = Checked.map(&mut before.clone(), space, base, frame, size, rights | 4).reason;
+                let early = match self.0 {
+                    BothAfterSpace => (reasons::POOL_UNALIGNED..=reasons::BAD_BOOK).contains(&other),
+                    BothAfterFrame => other == reasons::FRAME_IN_POOL,
+                    BothAfterOverlap => other == reasons::OVERLAP,
+                    BothAfterRoom => other == reasons::NO_ROOM,
+                    _ => false,
+                };
+                if early {
+                    return refused(other);
+                }
+            }
+            (_, reasons::DONE) => {
                 let mut words = words(mem, space);
                 let undone = match self.0 {
-                    LastPageRefused if base.wrapping_add(size) == 0 => 4,
-                    LastOfLowerRefused if base.wrapping_add(size) == LOWER => 4,
-                    FirstOfUpperRefused if base == UPPER => 4,
-                    FrameBeforePoolRefused if frame + size == space.pool => 6,
-                    LastPagesKept if answer.tables > 0 && words.book(FREE) == 0 => 8,
+                    LastPageRefused if base.wrapping_add(size) == 0 => reasons::BASE_RANGE,
+                    LastOfLowerRefused if base.wrapping_add(size) == LOWER => reasons::BASE_RANGE,
+                    FirstOfUpperRefused if base == UPPER => reasons::BASE_RANGE,
+                    WritableNotMapped if rights & 1 == 1 => reasons::WRITE_EXECUTE,
+                    FrameBeforePoolRefused if frame + size == space.pool => reasons::FRAME_IN_POOL,
+                    LastPagesKept if answer.tables > 0 && words.book(FREE) == 0 => reasons::NO_ROOM,
                     ReservedIsOverlap => {
                         let entry = words.way(base)[words.way(base).len() - 1 - answer.tables as usize];
                         let at = words.at(entry.address);
                         if before[at] & 1 == 1 {
-                            7
+                            reasons::OVERLAP
                         } else {
-                            0
+                            reasons::DONE
                         }
                     }
-                    _ => 0,
+                    _ => reasons::DONE,
                 };
-                if undone > 0 {
+                if undone != reasons::DONE {
                     mem.copy_from_slice(&before);
                     return refused(undone);
                 }
@@ -370,22 +415,29 @@ impl Operations for Flawed {
         let space = self.space(space);
         let sound = space.refused(mem.len()) == 0;
         let way = if sound { words(mem, space).way(base) } else { vec![] };
+        let old = Checked.look_up(mem, space.origin, space.root, base).rights;
         let mut answer = Checked.unmap(mem, space, base);
         answer.reason = self.reason(answer.reason);
         match (self.0, answer.reason) {
-            (CoveringUnmapped, 9) => {
+            (CoveringUnmapped, reasons::NOTHING_STARTS) => {
                 if let Some(start) = self.covering(mem, space, base) {
                     return Checked.unmap(mem, space, start);
                 }
             }
-            (HoleUnmapped, 4) => return Checked.unmap(mem, space, extended(base)),
-            (NothingUnmappedInHole, 4) => answer.reason = 9,
-            (LastPageKept, 0) if base.wrapping_add(answer.size) == 0 => {
+            (HoleUnmapped, reasons::BASE_RANGE) => return Checked.unmap(mem, space, extended(base)),
+            (NothingUnmappedInHole, reasons::BASE_RANGE) => answer.reason = reasons::NOTHING_STARTS,
+            (OldPageNotUnmapped, reasons::DONE) if is_both(old) => {
                 mem.copy_from_slice(&before);
-                return Unmapped { reason: 9, ..Unmapped::default() };
+                return Unmapped { reason: reasons::WRITE_EXECUTE, ..Unmapped::default() };
             }
-            (ClearedBeforeBook, 20..=22) => words(mem, space).put(way[way.len() - 1].address, 0),
-            (_, 0) => self.after_unmap(&before, &mut words(mem, space), &way, &mut answer),
+            (LastPageKept, reasons::DONE) if base.wrapping_add(answer.size) == 0 => {
+                mem.copy_from_slice(&before);
+                return Unmapped { reason: reasons::NOTHING_STARTS, ..Unmapped::default() };
+            }
+            (ClearedBeforeBook, reasons::NO_BOOK..=reasons::BAD_BOOK) => {
+                words(mem, space).put(way[way.len() - 1].address, 0)
+            }
+            (_, reasons::DONE) => self.after_unmap(&before, &mut words(mem, space), &way, &mut answer),
             _ => {}
         }
         answer
@@ -395,20 +447,48 @@ impl Operations for Flawed {
         let space = self.space(space);
         let old = Checked.look_up(mem, space.origin, space.root, base).rights;
         let rights = if self.0 == RightsOnlyGrow { rights | old } else { rights };
+        let before = mem.to_vec();
+        let refused = |reason| Protected { reason, ..Protected::default() };
         let mut answer = Checked.protect(mem, space, base, rights);
         answer.reason = self.reason(answer.reason);
-        if answer.reason == 9 && self.0 == CoveringProtected {
+        if answer.reason == reasons::WRITE_EXECUTE {
+            // What is tested too early, of the same page with other rights.
+            let other = Checked.protect(&mut before.clone(), space, base, rights | 4).reason;
+            let early = match self.0 {
+                BothAfterSpaceProtected => (reasons::POOL_UNALIGNED..=reasons::BAD_BOOK).contains(&other),
+                BothAfterBaseProtected => other == reasons::BASE_RANGE,
+                BothAfterPageProtected => other == reasons::NOTHING_STARTS,
+                _ => false,
+            };
+            if early {
+                return refused(other);
+            }
+            if self.0 == BothProtected {
+                answer = Checked.protect(mem, space, base, rights | 4);
+                if answer.reason == reasons::DONE {
+                    let mut words = words(mem, space);
+                    let entry = *words.way(base).last().unwrap();
+                    words.put(entry.address, entry.word & !(1 << 63));
+                }
+                return answer;
+            }
+        }
+        if answer.reason == reasons::DONE && self.0 == OldPageNotProtected && is_both(old) {
+            mem.copy_from_slice(&before);
+            return refused(reasons::WRITE_EXECUTE);
+        }
+        if answer.reason == reasons::NOTHING_STARTS && self.0 == CoveringProtected {
             if let Some(start) = self.covering(mem, space, base) {
                 return Checked.protect(mem, space, start, rights);
             }
         }
-        if answer.reason == 4 && self.0 == HoleProtected {
+        if answer.reason == reasons::BASE_RANGE && self.0 == HoleProtected {
             return Checked.protect(mem, space, extended(base), rights);
         }
-        if answer.reason == 4 && self.0 == NothingProtectedInHole {
-            answer.reason = 9;
+        if answer.reason == reasons::BASE_RANGE && self.0 == NothingProtectedInHole {
+            answer.reason = reasons::NOTHING_STARTS;
         }
-        if answer.reason == 0 {
+        if answer.reason == reasons::DONE {
             let mut words = words(mem, space);
             let way = words.way(base);
             let last = way[way.len() - 1];
@@ -441,21 +521,21 @@ impl Operations for Flawed {
         }
         let mut answer = Checked.told(&mut mem.to_vec(), space, ticket);
         let mut asked = ticket;
-        if answer.reason == 0 || answer.reason == 23 {
+        if answer.reason == reasons::DONE || answer.reason == reasons::UNKNOWN {
             let words = words(mem, space);
             let (last, all) = (words.book(TICKETS), words.book(TICKETS) + words.book(ASIDE));
             match self.0 {
                 AllReleased if answer.released > 0 => asked = all,
                 OneMoreReleased if answer.released > 0 => asked = all.min(ticket + 1),
-                UnknownReleasesAll if answer.reason == 23 => asked = all,
-                OldTicketUnknown if ticket < last => return Told { reason: 23, released: 0 },
+                UnknownReleasesAll if answer.reason == reasons::UNKNOWN => asked = all,
+                OldTicketUnknown if ticket < last => return Told { reason: reasons::UNKNOWN, released: 0 },
                 _ => {}
             }
         }
-        let old = if answer.reason == 0 { words(mem, space).book(TICKETS) } else { 0 };
+        let old = if answer.reason == reasons::DONE { words(mem, space).book(TICKETS) } else { 0 };
         answer = Checked.told(mem, space, asked);
         answer.reason = self.reason(answer.reason);
-        if answer.reason == 0 && self.0 == TicketsNotCounted {
+        if answer.reason == reasons::DONE && self.0 == TicketsNotCounted {
             words(mem, space).put_book(TICKETS, old);
         }
         answer
@@ -470,6 +550,7 @@ impl Operations for Flawed {
             NoAddressIsNothing if answer.kind == 5 => answer.kind = 0,
             HoleFound if answer.kind == 5 => answer = Checked.look_up(mem, origin, root, extended(va)),
             BaseStripped => answer.base %= 1 << 48,
+            OldPageNotFound if is_both(answer.rights) => answer = LookedUp::default(),
             _ => {}
         }
         answer
@@ -523,6 +604,14 @@ flaws! {
     space_before_size: SpaceBeforeSize, Sound;
     reserved_is_overlap: ReservedIsOverlap, Damaged;
     outside_touched: OutsideTouched, Sound;
+    both_mapped: BothMapped, Sound;
+    writable_not_mapped: WritableNotMapped, Sound;
+    both_before_rights: BothBeforeRights, Sound;
+    both_before_range: BothBeforeRange, Sound;
+    both_after_space: BothAfterSpace, Sound;
+    both_after_frame: BothAfterFrame, Sound;
+    both_after_overlap: BothAfterOverlap, Sound;
+    both_after_room: BothAfterRoom, Sound;
     empty_left_linked: EmptyLeftLinked, Sound;
     only_one_unlinked: OnlyOneUnlinked, Sound;
     not_empty_unlinked: NotEmptyUnlinked, Sound;
@@ -537,6 +626,7 @@ flaws! {
     last_page_kept: LastPageKept, Sound;
     only_present_cleared: OnlyPresentCleared, Sound;
     cleared_before_book: ClearedBeforeBook, Damaged;
+    old_page_not_unmapped: OldPageNotUnmapped, Sound;
     dirty_cleared: DirtyCleared, Sound;
     accessed_cleared: AccessedCleared, Sound;
     rights_only_grow: RightsOnlyGrow, Sound;
@@ -545,6 +635,11 @@ flaws! {
     hole_protected: HoleProtected, Sound;
     nothing_protected_in_hole: NothingProtectedInHole, Sound;
     aside_touched: AsideTouched, Sound;
+    both_protected: BothProtected, Sound;
+    both_after_space_protected: BothAfterSpaceProtected, Sound;
+    both_after_base_protected: BothAfterBaseProtected, Sound;
+    both_after_page_protected: BothAfterPageProtected, Sound;
+    old_page_not_protected: OldPageNotProtected, Sound;
     all_released: AllReleased, Sound;
     one_more_released: OneMoreReleased, Sound;
     unknown_releases_all: UnknownReleasesAll, Sound;
@@ -554,6 +649,7 @@ flaws! {
     no_address_is_nothing: NoAddressIsNothing, Sound;
     hole_found: HoleFound, Sound;
     base_stripped: BaseStripped, Sound;
+    old_page_not_found: OldPageNotFound, Sound;
     root_rounded: RootRounded, Sound;
     pool_rounded: PoolRounded, Sound;
     stray_is_nothing: StrayIsNothing, Damaged;

@@ -1,4 +1,5 @@
-//! A short life of a pool of five pages, and the ends of both halves, with each answer and each word written out by hand.
+//! A short life of a pool of five pages, the ends of both halves, and pages that are writable and executable, with each answer and each word
+//! written out by hand.
 
 use operations::baselines::{Checked, Raw};
 use operations::{LookedUp, Mapped, Operations, Protected, Space, Told, Unmapped};
@@ -40,16 +41,16 @@ fn life(of: &dyn Operations) {
     assert_eq!((made.reason, made.root), (0, 0x12000));
     assert_book(mem, [0, 3, 0, 0], [0x13, 0x14, 0x15, 0, 0]);
 
-    assert_eq!(of.map(mem, SPACE, VA, 0x123_4000, 0x1000, 3), done(3));
+    assert_eq!(of.map(mem, SPACE, VA, 0x123_4000, 0x1000, 7), done(3));
     assert_eq!(entry(mem, 0x12, 254), 0x13007);
     assert_eq!(entry(mem, 0x13, 72), 0x14007);
     assert_eq!(entry(mem, 0x14, 418), 0x15007);
-    assert_eq!(entry(mem, 0x15, 359), 0x123_4007);
+    assert_eq!(entry(mem, 0x15, 359), 0x8000_0000_0123_4007);
     assert_book(mem, [0, 0, 0, 3], [0x13, 0x14, 0x15, 0, 0]);
     let nonzero = (0x12000..0x16000).step_by(8).filter(|address| word(mem, *address) != 0).count();
     assert_eq!(nonzero, 4, "all else in the tables is 0");
 
-    let page = LookedUp { kind: 1, base: VA, size: 0x1000, frame: 0x123_4000, rights: 3 };
+    let page = LookedUp { kind: 1, base: VA, size: 0x1000, frame: 0x123_4000, rights: 7 };
     assert_eq!(of.look_up(mem, ORIGIN, 0x12000, VA + 0xabc), page);
     assert_eq!(of.look_up(mem, ORIGIN, 0x12000, VA + 0x1000), LookedUp::default());
 
@@ -112,9 +113,9 @@ fn ends(of: &dyn Operations) {
             let mut bytes = vec![0x11; 7 * 4096];
             let mem = &mut bytes[..];
             assert_eq!(of.create(mem, ORIGIN, SPACE.pool, SPACE.pages).reason, 0);
-            assert_eq!(of.map(mem, SPACE, base, 0x4000_0000, size, 1), Mapped { reason: 0, tables }, "{base:#x}");
+            assert_eq!(of.map(mem, SPACE, base, 0x4000_0000, size, 5), Mapped { reason: 0, tables }, "{base:#x}");
             assert_eq!(entry(mem, 0x12, index), 0x13007);
-            let mut page = LookedUp { kind: 1, base, size, frame: 0x4000_0000, rights: 1 };
+            let mut page = LookedUp { kind: 1, base, size, frame: 0x4000_0000, rights: 5 };
             assert_eq!(of.look_up(mem, ORIGIN, 0x12000, base), page);
             assert_eq!(of.look_up(mem, ORIGIN, 0x12000, base + (size - 1)), page);
             let protected = Protected { reason: 0, frame: 0x4000_0000, size, ticket: 0 };
@@ -146,16 +147,76 @@ fn ends(of: &dyn Operations) {
     }
 }
 
+/// Where a page that is writable and executable is refused, and what is refused before that.
+fn refused_as_both(of: &dyn Operations, mem: &mut [u8], rights: u64) {
+    const BOTH: u64 = 27;
+    let none = Space { pages: 4, ..SPACE };
+    let (odd_pool, odd_root) = (Space { pool: 0x11008, ..SPACE }, Space { root: 0x12008, ..SPACE });
+    for (space, base, frame, size, reason) in [
+        (SPACE, 0x1000, 0x5_0000, 0x1000, BOTH),
+        (SPACE, 0x20_0000, 0x20_0000, 0x20_0000, BOTH),
+        (SPACE, 0x4000_0000, 0x4000_0000, 0x4000_0000, BOTH),
+        (SPACE, 0, 0, 0x2000, 1),
+        (SPACE, 0x1000, 0, 0x20_0000, 2),
+        (SPACE, 0, 0x1000, 0x20_0000, 3),
+        (SPACE, 0x8000_0000_0000, 0, 0x1000, 4),
+        (SPACE, 0, 0x10_0000_0000_0000, 0x1000, 5),
+        (SPACE, 0, 0x12000, 0x1000, BOTH), // a page of the pool as the frame
+        (SPACE, VA, 0, 0x1000, BOTH),      // a page is there
+        (SPACE, 0, 0, 0x1000, BOTH),       // no page is free
+        (odd_pool, 0, 0, 0x1000, BOTH),
+        (odd_root, 0, 0, 0x1000, BOTH),
+        (none, 0, 0, 0x1000, BOTH),
+    ] {
+        let refused = Mapped { reason, tables: 0 };
+        assert_eq!(of.map(mem, space, base, frame, size, rights), refused, "{space}, {base:#x}, {frame:#x}, {size:#x}");
+        let refused = Protected { reason: BOTH, ..Protected::default() };
+        assert_eq!(of.protect(mem, space, base, rights), refused, "{space}, {base:#x}");
+    }
+    assert_eq!(of.map(mem, SPACE, 0x1000, 0x5_0000, 0x1000, rights + 8).reason, 25);
+    assert_eq!(of.protect(mem, SPACE, VA, rights + 8).reason, 25);
+}
+
+/// One page that is writable and executable, as an older table may have it.
+fn old(of: &dyn Operations) {
+    let mut bytes = vec![0x11; 7 * 4096];
+    let mem = &mut bytes[..];
+    assert_eq!(of.create(mem, ORIGIN, SPACE.pool, SPACE.pages).reason, 0);
+    assert_eq!(of.map(mem, SPACE, VA, 0x123_4000, 0x1000, 2), Mapped { reason: 0, tables: 3 });
+    let at = (0x15000 + 8 * 359 - ORIGIN) as usize;
+    mem[at] |= 2;
+    assert_eq!(entry(mem, 0x15, 359), 0x123_4007);
+    if !of.is_raw() {
+        let before = mem.to_vec();
+        for rights in [1, 3] {
+            refused_as_both(of, mem, rights);
+        }
+        assert!(*mem == before[..]);
+    }
+    let page = LookedUp { kind: 1, base: VA, size: 0x1000, frame: 0x123_4000, rights: 3 };
+    assert_eq!(of.look_up(mem, ORIGIN, 0x12000, VA + 0xfff), page);
+    let mut other = mem.to_vec();
+    let protected = Protected { reason: 0, frame: 0x123_4000, size: 0x1000, ticket: 0 };
+    for (rights, word) in [(5, 0x8000_0000_0123_4003), (0, 0x123_4001), (7, 0x8000_0000_0123_4007)] {
+        assert_eq!(of.protect(&mut other, SPACE, VA, rights), protected);
+        assert_eq!(entry(&other, 0x15, 359), word);
+    }
+    let unmapped = Unmapped { reason: 0, frame: 0x123_4000, size: 0x1000, aside: 3, ticket: 3 };
+    assert_eq!(of.unmap(mem, SPACE, VA), unmapped);
+}
+
 #[test]
 fn by_the_checked_baseline() {
     life(&Checked);
     ends(&Checked);
+    old(&Checked);
 }
 
 #[test]
 fn by_the_raw_baseline() {
     life(&Raw);
     ends(&Raw);
+    old(&Raw);
 }
 
 #[cfg(feature = "library")]
@@ -163,4 +224,5 @@ fn by_the_raw_baseline() {
 fn by_the_library() {
     life(&operations::library::Library);
     ends(&operations::library::Library);
+    old(&operations::library::Library);
 }

@@ -57,11 +57,11 @@ impl From<numbers::Said> for Entry {
 ///
 /// let mut pool = Box::new(Pages::<8>::ZERO);
 /// let space = Space::create(&mut pool, 0x10_0000, 0x10_0000, 8)?;
-/// space.map(&mut pool, 0x4000_0000, 0x8000_0000, Size::Gib1, Rights::WRITABLE)?;
+/// space.map(&mut pool, 0x4000_0000, 0x8000_0000, Size::Gib1, Rights::NO_EXECUTE)?;
 ///
 /// let Entry::Table { address, rights, accessed } = entry(&pool, space.origin(), space.root(), 3, 0) else { panic!() };
 /// assert_eq!((rights, accessed), (Rights::WRITABLE | Rights::USER, false));
-/// let page = Entry::Page { frame: 0x8000_0000, rights: Rights::WRITABLE, accessed: false, dirty: false };
+/// let page = Entry::Page { frame: 0x8000_0000, rights: Rights::NO_EXECUTE, accessed: false, dirty: false };
 /// assert_eq!(entry(&pool, space.origin(), address, 2, 1), page);
 /// assert_eq!(entry(&pool, space.origin(), address, 2, 2), Entry::Absent);
 /// assert_eq!(entry(&pool, space.origin(), 0, 2, 2), Entry::Outside);

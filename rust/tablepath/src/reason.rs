@@ -12,7 +12,7 @@ macro_rules! reasons {
         /// let mut pool = Box::new(Pages::<8>::ZERO);
         /// let space = Space::create(&mut pool, 0x10_0000, 0x10_0000, 8)?;
         /// let before = pool.clone();
-        /// let refused = space.map(&mut pool, 0x1000, 0x20_0000, Size::Mib2, Rights::WRITABLE);
+        /// let refused = space.map(&mut pool, 0x1000, 0x20_0000, Size::Mib2, Rights::USER);
         /// assert_eq!(refused, Err(Reason::BaseUnaligned));
         /// assert_eq!(refused.unwrap_err().to_string(), "the base is no multiple of the size");
         /// assert!(pool == before);

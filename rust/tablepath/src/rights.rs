@@ -4,7 +4,9 @@ use crate::Reason;
 use core::fmt;
 use core::ops::{BitOr, BitOrAssign};
 
-/// What may be done with a page: it can be read, and what is named here too.
+/// What may be done with a page: it can be read, and what is named here too. [`map`](crate::Space::map) and
+/// [`protect`](crate::Space::protect) refuse to make a page writable and executable, [`Reason::WriteExecute`]: with `WRITABLE` they want
+/// `NO_EXECUTE`.
 ///
 /// ```
 /// use tablepath::Rights;
@@ -19,7 +21,7 @@ pub struct Rights(u64);
 impl Rights {
     /// The kernel may read and execute it.
     pub const NONE: Rights = Rights(0);
-    /// It may be written.
+    /// It may be written; then `NO_EXECUTE` must be there too, where it is asked for.
     pub const WRITABLE: Rights = Rights(1);
     /// User code may do with it what the kernel may.
     pub const USER: Rights = Rights(2);

@@ -90,6 +90,10 @@ impl Space {
     /// Addresses are the machine's, canonical: up to `0x7fff_ffff_ffff`, and from `0xffff_8000_0000_0000` on. A base that is none is refused,
     /// [`Reason::BaseRange`], here, by [`unmap`](Space::unmap) and by [`protect`](Space::protect). The last page ends at 2^64.
     ///
+    /// No page becomes writable and executable: with [`Rights::WRITABLE`] and without [`Rights::NO_EXECUTE`] it is refused,
+    /// [`Reason::WriteExecute`], before the pool is looked at. What is asked is tested, not what is there: a page that older tables have is
+    /// looked up and unmapped as any other. That no frame is mapped writable here and executable there is yours.
+    ///
     /// A walk that begins when its stores have left the buffer finds the page. A cached upper entry of a table that is set aside may say
     /// "nothing" until its shootdown: such a fault is spurious, and INVLPG of the address ends it. Where the address was unmapped before and its
     /// shootdown is not done, a cache may still give the old page; so map a page of another size only after that.
@@ -107,6 +111,7 @@ impl Space {
     /// assert_eq!(space.map(&mut pool, base + 0x1000, 0, Size::Kib4, rights), Err(Reason::Overlap));
     /// space.map(&mut pool, 0xffff_ffff_c000_0000, frame, Size::Gib1, rights)?; // the last page of all
     /// assert_eq!(space.map(&mut pool, 0x8000_0000_0000, frame, Size::Gib1, rights), Err(Reason::BaseRange));
+    /// assert_eq!(space.map(&mut pool, 0, frame, Size::Gib1, Rights::WRITABLE), Err(Reason::WriteExecute));
     /// # Ok::<(), Reason>(())
     /// ```
     pub fn map(self, mem: &mut [u8], base: u64, frame: u64, size: Size, rights: Rights) -> Result<Mapped, Reason> {
@@ -143,18 +148,20 @@ impl Space {
     }
 
     /// Gives the page that starts exactly at the base other rights. The machine's marks, accessed and dirty, stay as they were when the entry
-    /// was read.
+    /// was read. Rights that are writable and executable are refused, [`Reason::WriteExecute`], whatever is mapped. A page that becomes executable
+    /// may still be written by a processor that has it in a cache, until its shootdown is done.
     ///
     /// ```
     /// use tablepath::{Pages, Reason, Rights, Size, Space};
     ///
     /// let mut pool = Box::new(Pages::<8>::ZERO);
     /// let space = Space::create(&mut pool, 0x10_0000, 0x10_0000, 8)?;
-    /// space.map(&mut pool, 0x20_0000, 0x40_0000, Size::Mib2, Rights::WRITABLE)?;
+    /// space.map(&mut pool, 0x20_0000, 0x40_0000, Size::Mib2, Rights::WRITABLE | Rights::NO_EXECUTE)?;
     ///
-    /// assert_eq!(space.protect(&mut pool, 0x20_0000, Rights::NO_EXECUTE)?.frame, 0x40_0000);
+    /// assert_eq!(space.protect(&mut pool, 0x20_0000, Rights::NONE)?.frame, 0x40_0000); // code was written, and now it is run
     /// let page = space.look_up(&pool, 0x20_0000).page().expect("it is mapped");
-    /// assert_eq!(page.rights, Rights::NO_EXECUTE);
+    /// assert_eq!(page.rights, Rights::NONE);
+    /// assert_eq!(space.protect(&mut pool, 0x20_0000, Rights::WRITABLE), Err(Reason::WriteExecute));
     /// # Ok::<(), Reason>(())
     /// ```
     pub fn protect(self, mem: &mut [u8], base: u64, rights: Rights) -> Result<Protected, Reason> {

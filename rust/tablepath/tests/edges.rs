@@ -85,9 +85,9 @@ fn first_and_last_pages_of_both_halves() {
             let (mut pool, space) = made();
             let last = base + (size.bytes() - 1);
             let tables = 3 - Size::ALL.iter().position(|one| *one == size).expect("it is one of them") as u64;
-            let mapped = space.map(&mut pool, base, FRAME, size, Rights::WRITABLE).map(|mapped| mapped.tables);
+            let mapped = space.map(&mut pool, base, FRAME, size, Rights::NO_EXECUTE).map(|mapped| mapped.tables);
             assert_eq!(mapped, Ok(tables), "{size} at {base:#x}");
-            let page = Page { base, size, frame: FRAME, rights: Rights::WRITABLE };
+            let page = Page { base, size, frame: FRAME, rights: Rights::NO_EXECUTE };
             for va in [base, base + size.bytes() / 2, last] {
                 assert_eq!(space.look_up(&pool, va), Found::Page(page), "{va:#x}");
             }

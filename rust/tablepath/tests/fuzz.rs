@@ -1,10 +1,10 @@
 //! A million calls with wrong handles, between calls with the right one: every wrong one is refused, no byte changes by it, nothing outside the
-//! pool is ever written, and no page of the pool is ever mapped. `TABLEPATH_SEED` repeats a run.
+//! pool is ever written, no page of the pool is ever mapped, and no page is ever writable and executable. `TABLEPATH_SEED` repeats a run.
 
 use std::env;
 use std::time::{SystemTime, UNIX_EPOCH};
 use tablepath::numbers::{self, Handle};
-use tablepath::{entry, Entry, Pages, Space};
+use tablepath::{entry, Entry, Pages, Rights, Space};
 
 const ORIGIN: u64 = 0x40_0000;
 const WINDOW: usize = 40;
@@ -92,14 +92,23 @@ impl Pool {
         }
     }
 
-    /// Whether some entry below this table says a page whose frame meets the pool.
-    fn maps_itself(&self, table: u64, level: u64) -> bool {
-        let (start, end) = (self.handle.pool, self.handle.pool + 4096 * self.handle.pages);
+    /// Whether some entry below this table says such a page, by frame, size and rights.
+    fn has(&self, table: u64, level: u64, such: &dyn Fn(u64, u64, Rights) -> bool) -> bool {
         (0..512).any(|index| match entry(&self.mem, ORIGIN, table, level, index) {
-            Entry::Page { frame, .. } => frame < end && start < frame + (4096 << (9 * level)),
-            Entry::Table { address, .. } => self.maps_itself(address, level - 1),
+            Entry::Page { frame, rights, .. } => such(frame, 4096 << (9 * level), rights),
+            Entry::Table { address, .. } => self.has(address, level - 1, such),
             _ => false,
         })
+    }
+
+    fn maps_itself(&self) -> bool {
+        let (start, end) = (self.handle.pool, self.handle.pool + 4096 * self.handle.pages);
+        self.has(self.handle.root, 3, &|frame, size, _| frame < end && start < frame + size)
+    }
+
+    fn is_writable_and_executable_somewhere(&self) -> bool {
+        let both = |rights: Rights| rights.contains(Rights::WRITABLE) && !rights.contains(Rights::NO_EXECUTE);
+        self.has(self.handle.root, 3, &|_, _, rights| both(rights))
     }
 
     fn slack_is_kept(&self) -> bool {
@@ -133,9 +142,10 @@ fn a_million_calls_with_wrong_handles() {
             }
             assert!(pool.mem == before, "seed {seed}: bytes have changed, where {:x?} is right", pool.handle);
         }
+        assert!(!pool.maps_itself(), "seed {seed}: a page of the pool is mapped in {:x?}", pool.handle);
         assert!(
-            !pool.maps_itself(pool.handle.root, 3),
-            "seed {seed}: a page of the pool is mapped in {:x?}",
+            !pool.is_writable_and_executable_somewhere(),
+            "seed {seed}: a page is writable and executable in {:x?}",
             pool.handle
         );
         assert!(pool.slack_is_kept(), "seed {seed}: a byte outside the pool of {:x?} has changed", pool.handle);

@@ -19,8 +19,9 @@ fn base(n: u64) -> u64 {
 fn made() -> (Box<Pages<WINDOW>>, Space) {
     let mut mem = Box::new(Pages::ZERO);
     let space = Space::create(&mut mem, ORIGIN, POOL, PAGES).unwrap();
+    let rights = Rights::WRITABLE | Rights::USER | Rights::NO_EXECUTE;
     for n in 0..BUFFERS {
-        space.map(&mut mem, base(n), FRAME + n * 0x20_0000, Size::Mib2, Rights::WRITABLE | Rights::USER).unwrap();
+        space.map(&mut mem, base(n), FRAME + n * 0x20_0000, Size::Mib2, rights).unwrap();
     }
     assert_eq!(space.unmap(&mut mem, base(3)).unwrap().aside, 2);
     (mem, space)
@@ -35,8 +36,8 @@ fn assert_refused(mem: &mut Pages<WINDOW>, wrong: Handle) {
     for n in 0..BUFFERS {
         reasons.push(numbers::unmap(mem, wrong, base(n)).reason);
         reasons.push(numbers::protect(mem, wrong, base(n), 2).reason);
-        reasons.push(numbers::map(mem, wrong, base(n) + 0x20_0000, FRAME, 0x20_0000, 1).reason);
-        reasons.push(numbers::map(mem, wrong, n << 39 | 1 << 38, FRAME, 4096, 3).reason);
+        reasons.push(numbers::map(mem, wrong, base(n) + 0x20_0000, FRAME, 0x20_0000, 5).reason);
+        reasons.push(numbers::map(mem, wrong, n << 39 | 1 << 38, FRAME, 4096, 7).reason);
     }
     assert!(!reasons.contains(&0), "{wrong:x?} is taken: {reasons:?}");
     assert!(*mem == before, "{wrong:x?} changes bytes");
@@ -64,7 +65,7 @@ fn a_page_of_the_pool_by_a_handle_of_five_pages() {
     let (mut mem, space) = made();
     let wrong = Handle { pages: 5, ..space.handle() };
     for page in 0..PAGES {
-        assert_ne!(numbers::map(&mut mem, wrong, base(40), POOL + 4096 * page, 4096, 3).reason, 0);
+        assert_ne!(numbers::map(&mut mem, wrong, base(40), POOL + 4096 * page, 4096, 7).reason, 0);
         assert_eq!(space.look_up(&mem, base(40)), Found::Nothing);
     }
 }

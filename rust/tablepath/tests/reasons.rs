@@ -54,7 +54,7 @@ fn every_number_is_done_or_a_reason() {
 
 #[test]
 fn a_number_that_is_not_known_is_no_success() {
-    for number in [27, 99, u64::MAX] {
+    for number in [28, 99, u64::MAX] {
         let reason = Reason::of(number).unwrap_err();
         assert_eq!(reason, Reason::Other(number));
         assert_eq!(reason.number(), number);
