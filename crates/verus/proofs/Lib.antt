@@ -2,6 +2,7 @@ pub mod Flags
 pub mod Walks
 pub mod Extended
 pub mod Mappings
+pub mod Arch
 pub mod Invariant
 pub mod MapFrame
 pub mod UnmapProtect

@@ -1,5 +1,6 @@
 pub mod Regions
 pub mod Mappings
+pub mod Arch
 pub mod Walks
 pub mod Trees
 pub mod Operations

@@ -1,0 +1,111 @@
+-- THE NUMBERS OF THE ARCHITECTURE: the source's sizes, indices and ranges are ours.
+use Prim.Native.Nat.{ℕ, zero, suc, _+_, _-_, _*_, _/_, _%_, _^_, _<_, _≤_}
+use mathlib.Core.Path.{_≡_, refl}
+use native.Mathlib.Omega.{arith}
+use Rattle.entry.specs.Entry.{sizeOf}
+use Rattle.entry.proofs.Levels.{at-levels}
+use Rattle.walk.specs.Walk.{indexOf, baseOf}
+use Rattle.verus.specs.Mappings.{maxBase, maxPhyaddr}
+use Rattle.verus.specs.Arch.{x86Arch, entrySize, numEntries, indexForVaddr, entryBase, nextEntryBase, upperVaddr, ArchInv, InTable}
+
+-- ENTRY_SIZE
+pub entry-size : (l : ℕ) → l < 4 → entrySize (3 - l) ≡ sizeOf l
+unfolding x86Arch sizeOf
+entry-size = at-levels (λ l. entrySize (3 - l) ≡ sizeOf l) refl refl refl refl
+
+-- NUM_ENTRIES: 512, and every index of a walk is below it
+pub num-entries : (l : ℕ) → l < 4 → (numEntries (3 - l) ≡ 512) × ((va : ℕ) → indexOf l va < numEntries (3 - l))
+unfolding x86Arch indexOf
+num-entries = at-levels (λ l. (numEntries (3 - l) ≡ 512) × ((va : ℕ) → indexOf l va < numEntries (3 - l)))
+    (refl, λ va. omega arith) (refl, λ va. omega arith) (refl, λ va. omega arith) (refl, λ va. omega arith)
+
+-- INDEX_FOR_VADDR: in the range of a table, the index that a walk takes
+pub index-for-vaddr : (l base va : ℕ) → InTable l base va → indexForVaddr (3 - l) base va ≡ indexOf l va
+unfolding x86Arch indexOf sizeOf
+index-for-vaddr l base va t = go l (t .level) (t .aligned) (t .from) (t .upto)
+  where
+    go : (l : ℕ) → l < 4 → base % upperVaddr (3 - l) 0 ≡ 0 → base ≤ va → va < upperVaddr (3 - l) base → indexForVaddr (3 - l) base va ≡ indexOf l va
+    go zero u a f k = omega arith
+    go (suc zero) u a f k = omega arith
+    go (suc (suc zero)) u a f k = omega arith
+    go (suc (suc (suc zero))) u a f k = omega arith
+    go (suc (suc (suc (suc l)))) u a f k = absurd (omega arith)
+
+-- ENTRY_BASE of that index: where the entry's range begins
+pub entry-base : (l base va : ℕ) → InTable l base va → entryBase (3 - l) base (indexForVaddr (3 - l) base va) ≡ baseOf l va
+unfolding x86Arch baseOf sizeOf
+entry-base l base va t = go l (t .level) (t .aligned) (t .from) (t .upto)
+  where
+    go : (l : ℕ) → l < 4 → base % upperVaddr (3 - l) 0 ≡ 0 → base ≤ va → va < upperVaddr (3 - l) base
+        → entryBase (3 - l) base (indexForVaddr (3 - l) base va) ≡ baseOf l va
+    go zero u a f k = omega arith
+    go (suc zero) u a f k = omega arith
+    go (suc (suc zero)) u a f k = omega arith
+    go (suc (suc (suc zero))) u a f k = omega arith
+    go (suc (suc (suc (suc l)))) u a f k = absurd (omega arith)
+
+-- NEXT_ENTRY_BASE: where it ends
+pub next-entry-base : (l base va : ℕ) → InTable l base va → nextEntryBase (3 - l) base (indexForVaddr (3 - l) base va) ≡ baseOf l va + sizeOf l
+unfolding x86Arch baseOf sizeOf
+next-entry-base l base va t = go l (t .level) (t .aligned) (t .from) (t .upto)
+  where
+    go : (l : ℕ) → l < 4 → base % upperVaddr (3 - l) 0 ≡ 0 → base ≤ va → va < upperVaddr (3 - l) base
+        → nextEntryBase (3 - l) base (indexForVaddr (3 - l) base va) ≡ baseOf l va + sizeOf l
+    go zero u a f k = omega arith
+    go (suc zero) u a f k = omega arith
+    go (suc (suc zero)) u a f k = omega arith
+    go (suc (suc (suc zero))) u a f k = omega arith
+    go (suc (suc (suc (suc l)))) u a f k = absurd (omega arith)
+
+-- an address that is aligned begins its entry's range (nonlinear_query1)
+pub aligned-entry-base : (l base va : ℕ) → InTable l base va → va % sizeOf l ≡ 0 → entryBase (3 - l) base (indexForVaddr (3 - l) base va) ≡ va
+unfolding x86Arch sizeOf
+aligned-entry-base l base va t = go l (t .level) (t .aligned) (t .from) (t .upto)
+  where
+    go : (l : ℕ) → l < 4 → base % upperVaddr (3 - l) 0 ≡ 0 → base ≤ va → va < upperVaddr (3 - l) base
+        → va % sizeOf l ≡ 0 → entryBase (3 - l) base (indexForVaddr (3 - l) base va) ≡ va
+    go zero u a f k d = omega arith
+    go (suc zero) u a f k d = omega arith
+    go (suc (suc zero)) u a f k d = omega arith
+    go (suc (suc (suc zero))) u a f k d = omega arith
+    go (suc (suc (suc (suc l)))) u a f k d = absurd (omega arith)
+
+-- X86_ARCH_INV, LEMMA_X86_ARCH_SPEC_INV
+pub x86-arch-inv : ArchInv
+unfolding x86Arch
+x86-arch-inv = record {
+  size-low = at-levels (λ i. 0 < entrySize i) (omega arith) (omega arith) (omega arith) (omega arith);
+  size-high = at-levels (λ i. entrySize i ≤ 512 * 512 * 512 * 4096) (omega arith) (omega arith) (omega arith) (omega arith);
+  entries-low = at-levels (λ i. 0 < numEntries i) (omega arith) (omega arith) (omega arith) (omega arith);
+  entries-high = at-levels (λ i. numEntries i ≤ 512) (omega arith) (omega arith) (omega arith) (omega arith);
+  next-layer = λ i u. next i u;
+}
+  where
+    next : (i : ℕ) → suc i < 4 → entrySize i ≡ entrySize (suc i) * numEntries (suc i)
+    next zero u = omega arith
+    next (suc zero) u = omega arith
+    next (suc (suc zero)) u = omega arith
+    next (suc (suc (suc i))) u = absurd (omega arith)
+
+-- X86_ARCH_SPEC_UPPER_BOUND
+pub upper-bound : (upperVaddr 0 0 ≡ 2 ^ 48) × (upperVaddr 0 0 ≡ maxBase)
+unfolding x86Arch
+upper-bound = (omega arith, omega arith)
+
+-- OVERFLOW_BOUNDS
+pub overflow-bounds : (512 * 512 * 512 * 4096 * 513 < 2 ^ 64) × (maxBase + 512 * 512 * 512 * 4096 * 513 < 2 ^ 64)
+overflow-bounds = (omega arith, omega arith)
+
+-- LEMMA_MAXPHYADDR_FACTS, at the width of 52
+pub maxphyaddr-facts : (2 ^ 32 - 1 ≤ maxPhyaddr) × (maxPhyaddr ≤ 2 ^ 52 - 1)
+maxphyaddr-facts = (omega arith, omega arith)
+
+-- LEMMA_ENTRY_SIZES_ALIGNED and .._INCREASE
+pub entry-sizes : (i j : ℕ) → i ≤ j → j < 4 → (entrySize i % entrySize j ≡ 0) × (entrySize j ≤ entrySize i)
+unfolding x86Arch
+entry-sizes i j u v = at-levels (λ i. i ≤ j → (entrySize i % entrySize j ≡ 0) × (entrySize j ≤ entrySize i))
+    (λ u. at-levels (λ j. (entrySize 0 % entrySize j ≡ 0) × (entrySize j ≤ entrySize 0)) (omega arith, omega arith) (omega arith, omega arith) (omega arith, omega arith) (omega arith, omega arith) j v)
+    (λ u. at-levels (λ j. 1 ≤ j → (entrySize 1 % entrySize j ≡ 0) × (entrySize j ≤ entrySize 1)) (λ w. absurd (omega arith)) (λ w. (omega arith, omega arith)) (λ w. (omega arith, omega arith)) (λ w. (omega arith, omega arith)) j v u)
+    (λ u. at-levels (λ j. 2 ≤ j → (entrySize 2 % entrySize j ≡ 0) × (entrySize j ≤ entrySize 2)) (λ w. absurd (omega arith)) (λ w. absurd (omega arith)) (λ w. (omega arith, omega arith)) (λ w. (omega arith, omega arith)) j v u)
+    (λ u. at-levels (λ j. 3 ≤ j → (entrySize 3 % entrySize j ≡ 0) × (entrySize j ≤ entrySize 3)) (λ w. absurd (omega arith)) (λ w. absurd (omega arith)) (λ w. absurd (omega arith)) (λ w. (omega arith, omega arith)) j v u)
+    i (omega arith) u
