@@ -8,3 +8,4 @@ pub mod MapFrame
 pub mod UnmapProtect
 pub mod Trees
 pub mod Entries
+pub mod NewEntry

@@ -5,3 +5,4 @@ pub mod Walks
 pub mod Trees
 pub mod Operations
 pub mod Entries
+pub mod NewEntry
