@@ -148,7 +148,7 @@ change-page-permissions l w frame g r e = record {
 
 -- Reading ------------------------------------------------------------------------------------------------------------------------------
 
-present-bit : (l w : ℕ) → says l w ≢ Nothing → bit 0 w ≡ true
+pub present-bit : (l w : ℕ) → says l w ≢ Nothing → bit 0 w ≡ true
 unfolding says
 present-bit l w n = go (bit 0 w) refl
   where

@@ -6,6 +6,9 @@ pub mod Arch
 pub mod Invariant
 pub mod MapFrame
 pub mod UnmapProtect
+pub mod AtExit
+pub mod Empty
 pub mod Trees
 pub mod Entries
 pub mod NewEntry
+pub mod Paths

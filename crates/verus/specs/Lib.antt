@@ -2,7 +2,9 @@ pub mod Regions
 pub mod Mappings
 pub mod Arch
 pub mod Walks
+pub mod Paths
 pub mod Trees
 pub mod Operations
+pub mod AtExit
 pub mod Entries
 pub mod NewEntry
