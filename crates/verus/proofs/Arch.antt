@@ -1,10 +1,15 @@
 -- THE NUMBERS OF THE ARCHITECTURE: the source's sizes, indices and ranges are ours.
 use Prim.Native.Nat.{ℕ, zero, suc, _+_, _-_, _*_, _/_, _%_, _^_, _<_, _≤_}
+use mathlib.Core.Bool.{true}
+use mathlib.Core.Logic.{_↔_}
 use mathlib.Core.Path.{_≡_, refl}
 use native.Mathlib.Omega.{arith}
+use borrow.Author.Tests.{eqb-true, eq-eqb}
 use Rattle.entry.specs.Entry.{sizeOf}
 use Rattle.entry.proofs.Levels.{at-levels}
 use Rattle.walk.specs.Walk.{indexOf, baseOf}
+use Rattle.plan.specs.Find.{startsOf}
+use Rattle.verus.specs.Regions.{Aligned}
 use Rattle.verus.specs.Mappings.{maxBase, maxPhyaddr}
 use Rattle.verus.specs.Arch.{x86Arch, entrySize, numEntries, indexForVaddr, entryBase, nextEntryBase, upperVaddr, ArchInv, InTable}
 
@@ -109,3 +114,8 @@ entry-sizes i j u v = at-levels (λ i. i ≤ j → (entrySize i % entrySize j �
     (λ u. at-levels (λ j. 2 ≤ j → (entrySize 2 % entrySize j ≡ 0) × (entrySize j ≤ entrySize 2)) (λ w. absurd (omega arith)) (λ w. absurd (omega arith)) (λ w. (omega arith, omega arith)) (λ w. (omega arith, omega arith)) j v u)
     (λ u. at-levels (λ j. 3 ≤ j → (entrySize 3 % entrySize j ≡ 0) × (entrySize j ≤ entrySize 3)) (λ w. absurd (omega arith)) (λ w. absurd (omega arith)) (λ w. absurd (omega arith)) (λ w. (omega arith, omega arith)) j v u)
     i (omega arith) u
+
+-- ALIGNED_EXEC, of the size of a level: the source asks for no other
+pub aligned-exec : (l va : ℕ) → (startsOf l va ≡ true) ↔ Aligned va (sizeOf l)
+unfolding startsOf
+aligned-exec l va = (λ e. eqb-true (va % sizeOf l) 0 e, λ e. eq-eqb (va % sizeOf l) 0 e)

@@ -12,3 +12,4 @@ pub mod Trees
 pub mod Entries
 pub mod NewEntry
 pub mod Paths
+pub mod WriteSeq

@@ -1,15 +1,15 @@
 -- NEW_ENTRY: each clause that the source promises of it, for all its arguments; and the words that we write are those for the arguments that it
 -- is ever given.
 use Prim.Native.Nat.{ℕ, zero, suc, _+_, _*_, _/_, _%_, _^_, _<_, _≤_}
-use mathlib.Core.Bool.{Bool, true, false, not, cond}
+use mathlib.Core.Bool.{Bool, true, false, not, cond, false≢true}
 use mathlib.Core.Logic.{_≢_}
 use mathlib.Core.Path.{_≡_, refl, sym, ap, _∙_, subst}
 use native.Mathlib.Omega.{arith}
 use Rattle.entry.specs.Entry.{sizeOf, bit, rightsOf, frameOf, tableOf, says, everything}
 use Rattle.entry.specs.Words.{flag, largeFlag, pageWord, tableWord}
 use Rattle.entry.specs.declared.Rights.{Rights}
-use Rattle.entry.specs.declared.Entry.the-variants.{Page, Table}
-use Rattle.entry.proofs.Fields.{says-last, says-table, says-large}
+use Rattle.entry.specs.declared.Entry.the-variants.{Nothing, Page, Table}
+use Rattle.entry.proofs.Fields.{says-absent, says-last, says-table, says-large}
 use Rattle.entry.proofs.Levels.{bit-on, bit-off, large-flag}
 use Rattle.entry.proofs.Written.{flag-lt, bit-flag}
 use Rattle.verus.specs.Entries.{maskedAddress, MustBeZero}
@@ -190,3 +190,10 @@ pub table-is-new-entry : (l p : ℕ)
     → tableWord p ≡ newEntry l (4096 * p) false (record { is-writable = true; is-supervisor = false; is-writethrough = false; disable-cache = false; disable-execute = false })
 unfolding tableWord newEntry flag
 table-is-new-entry l p = omega arith
+
+-- LEMMA_ZERO_ENTRY_FACTS: a word that is 0 but for its bits 5 and 6 says nothing, and has no reserved bit
+pub zero-entry-facts : (l w : ℕ) → w % 32 ≡ 0 → w / 128 ≡ 0 → (says l w ≡ Nothing) × MustBeZero l w
+zero-entry-facts l w low high = (says-absent l w (omega arith), record { at-root = λ z. seven; padding = λ z y. absurd (false≢true (sym seven ∙ y)) })
+  where
+    seven : bit 7 w ≡ false
+    seven = bit-off 7 w (omega arith)

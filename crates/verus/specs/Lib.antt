@@ -3,6 +3,7 @@ pub mod Mappings
 pub mod Arch
 pub mod Walks
 pub mod Paths
+pub mod WriteSeq
 pub mod Trees
 pub mod Operations
 pub mod AtExit
