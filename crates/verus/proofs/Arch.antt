@@ -62,18 +62,11 @@ next-entry-base l base va t = go l (t .level) (t .aligned) (t .from) (t .upto)
     go (suc (suc (suc zero))) u a f k = omega arith
     go (suc (suc (suc (suc l)))) u a f k = absurd (omega arith)
 
--- an address that is aligned begins its entry's range (nonlinear_query1)
-pub aligned-entry-base : (l base va : ℕ) → InTable l base va → va % sizeOf l ≡ 0 → entryBase (3 - l) base (indexForVaddr (3 - l) base va) ≡ va
+-- NONLINEAR_QUERY1: an address that is aligned begins its entry's range, from any base that is
+pub aligned-entry-base : (l base va : ℕ) → l < 4 → base ≤ va → va % sizeOf l ≡ 0 → base % sizeOf l ≡ 0 → entryBase (3 - l) base (indexForVaddr (3 - l) base va) ≡ va
 unfolding x86Arch sizeOf
-aligned-entry-base l base va t = go l (t .level) (t .aligned) (t .from) (t .upto)
-  where
-    go : (l : ℕ) → l < 4 → base % upperVaddr (3 - l) 0 ≡ 0 → base ≤ va → va < upperVaddr (3 - l) base
-        → va % sizeOf l ≡ 0 → entryBase (3 - l) base (indexForVaddr (3 - l) base va) ≡ va
-    go zero u a f k d = omega arith
-    go (suc zero) u a f k d = omega arith
-    go (suc (suc zero)) u a f k d = omega arith
-    go (suc (suc (suc zero))) u a f k d = omega arith
-    go (suc (suc (suc (suc l)))) u a f k d = absurd (omega arith)
+aligned-entry-base l base va u v a b = at-levels (λ l. va % sizeOf l ≡ 0 → base % sizeOf l ≡ 0 → entryBase (3 - l) base (indexForVaddr (3 - l) base va) ≡ va)
+    (λ a b. omega arith) (λ a b. omega arith) (λ a b. omega arith) (λ a b. omega arith) l u a b
 
 -- X86_ARCH_INV, LEMMA_X86_ARCH_SPEC_INV
 pub x86-arch-inv : ArchInv

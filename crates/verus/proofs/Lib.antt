@@ -9,6 +9,7 @@ pub mod UnmapProtect
 pub mod AtExit
 pub mod Empty
 pub mod Trees
+pub mod TreeEntries
 pub mod Entries
 pub mod NewEntry
 pub mod Paths

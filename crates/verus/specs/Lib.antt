@@ -5,6 +5,7 @@ pub mod Walks
 pub mod Paths
 pub mod WriteSeq
 pub mod Trees
+pub mod TreeEntries
 pub mod Operations
 pub mod AtExit
 pub mod Entries
