@@ -13,6 +13,7 @@ use Rattle.entry.proofs.Fields.{last-no-table}
 use Rattle.walk.proofs.Digits.{size-up, size-pos}
 use Rattle.tables.specs.Roles.{Setting, Role, table, left, Live, entryAt, Occupied, Bare, Sound}
 use Rattle.verus.specs.Regions.{PTE, pteOf}
+use Rattle.verus.specs.Mappings.{EntrySize}
 use Rattle.verus.specs.Trees.{InTree, a-page, a-directory}
 use Rattle.verus.specs.TreeEntries.{InEntry, page-itself, table-below}
 
@@ -29,6 +30,12 @@ tree-range {l = l} {b = b} {p = p} (a-page i f g u e is same) =
 tree-range {l = suc l} (a-directory i s g u e sub) =
     let k = tree-range sub in
     (omega (arith, k .0), omega (arith, k .1, size-up l, next i 512 (sizeOf (suc l)) u), k .2)
+
+-- its size is that of an entry of the table or below
+pub tree-size : {m : ℕ → ℕ} {l t start b : ℕ} {p : PTE} → InTree m l t start b p → EntrySize l (p .frame .size)
+unfolding pteOf
+tree-size {l = l} (a-page i f g u e is same) = record { level = l; low = omega arith; is = ap (λ (y : PTE). y .frame .size) same }
+tree-size {l = suc l} (a-directory i s g u e sub) = let k = tree-size sub in record { level = k .level; low = omega (arith, k .low); is = k .is }
 
 -- and what an entry maps, in the entry's
 pub entry-range : {m : ℕ → ℕ} {l t start i b : ℕ} {p : PTE} → InEntry m l t start i b p
@@ -110,41 +117,49 @@ module _ (m m' : ℕ → ℕ) (l t start idx : ℕ) (u : idx < 512)
       back i x (yes e) = subst (λ y. InEntry m l t start y b p) (sym e) (same b p .1 (subst (λ y. InEntry m' l t start y b p) e x))
       back i x (no n) = others i b p n .1 x
 
-  -- WHERE ONE ENTRY GAINS A PAGE, so does the tree
-  pub tree-gains : (base : ℕ) (pte : PTE) → ((b : ℕ) (p : PTE) → InEntry m' l t start idx b p ↔ (InEntry m l t start idx b p ⊎ ((b ≡ base) × (p ≡ pte))))
-      → (b : ℕ) (p : PTE) → InTree m' l t start b p ↔ (InTree m l t start b p ⊎ ((b ≡ base) × (p ≡ pte)))
-  tree-gains base pte gains b p = (λ x. let k = tree-entries m' l t start b p .0 x in there (k .0) (k .1) (k .2) (ℕ-discrete (k .0) idx), back)
+  -- a page that begins in the range of that entry is no other entry's
+  elsewhere : (base i b : ℕ) (p : PTE) → start + idx * sizeOf l ≤ base → base < start + idx * sizeOf l + sizeOf l → InEntry m l t start i b p → i ≢ idx → b ≢ base
+  elsewhere base i b p low high x n e = n (tree-index x (subst (λ y. start + idx * sizeOf l ≤ y) (sym e) low) (subst (λ y. y < start + idx * sizeOf l + sizeOf l) (sym e) high))
+
+  -- WHERE A PAGE IS INSERTED in what one entry maps, it is in what the tree maps
+  pub tree-inserts : (base : ℕ) (pte : PTE)
+      → ((b : ℕ) (p : PTE) → InEntry m' l t start idx b p ↔ (((b ≢ base) × InEntry m l t start idx b p) ⊎ ((b ≡ base) × (p ≡ pte))))
+      → (b : ℕ) (p : PTE) → InTree m' l t start b p ↔ (((b ≢ base) × InTree m l t start b p) ⊎ ((b ≡ base) × (p ≡ pte)))
+  tree-inserts base pte gains b p = (λ x. let k = tree-entries m' l t start b p .0 x in there (k .0) (k .1) (k .2) (ℕ-discrete (k .0) idx), back)
     where
+      -- the new page lies in the range of its entry
+      range : (start + idx * sizeOf l ≤ base) × (base + pte .frame .size ≤ start + idx * sizeOf l + sizeOf l) × (0 < pte .frame .size)
+      range = entry-range (gains base pte .1 (inr (refl, refl)))
+
       tree : (i : ℕ) → i < 512 → InEntry m l t start i b p → InTree m l t start b p
       tree i v x = tree-entries m l t start b p .1 (i, v, x)
 
-      there : (i : ℕ) → i < 512 → InEntry m' l t start i b p → Dec (i ≡ idx) → InTree m l t start b p ⊎ ((b ≡ base) × (p ≡ pte))
-      there i v x (no n) = inl (tree i v (others i b p n .1 x))
+      there : (i : ℕ) → i < 512 → InEntry m' l t start i b p → Dec (i ≡ idx) → ((b ≢ base) × InTree m l t start b p) ⊎ ((b ≡ base) × (p ≡ pte))
+      there i v x (no n) =
+          let y = others i b p n .1 x in
+          inl (elsewhere base i b p (range .0) (omega (arith, range .1, range .2)) y n, tree i v y)
       there i v x (yes e) = or (gains b p .0 (subst (λ y. InEntry m' l t start y b p) e x))
         where
-          or : InEntry m l t start idx b p ⊎ ((b ≡ base) × (p ≡ pte)) → InTree m l t start b p ⊎ ((b ≡ base) × (p ≡ pte))
-          or (inl y) = inl (tree idx u y)
+          or : ((b ≢ base) × InEntry m l t start idx b p) ⊎ ((b ≡ base) × (p ≡ pte)) → ((b ≢ base) × InTree m l t start b p) ⊎ ((b ≡ base) × (p ≡ pte))
+          or (inl y) = inl (y .0, tree idx u (y .1))
           or (inr y) = inr y
 
-      back : InTree m l t start b p ⊎ ((b ≡ base) × (p ≡ pte)) → InTree m' l t start b p
+      back : ((b ≢ base) × InTree m l t start b p) ⊎ ((b ≡ base) × (p ≡ pte)) → InTree m' l t start b p
       back (inr y) = tree-entries m' l t start b p .1 (idx, u, gains b p .1 (inr y))
-      back (inl x) = let k = tree-entries m l t start b p .0 x in kept (k .0) (k .1) (k .2) (ℕ-discrete (k .0) idx)
+      back (inl x) = let k = tree-entries m l t start b p .0 (x .1) in kept (k .0) (k .1) (k .2) (ℕ-discrete (k .0) idx)
         where
           kept : (i : ℕ) → i < 512 → InEntry m l t start i b p → Dec (i ≡ idx) → InTree m' l t start b p
           kept i v y (no n) = tree-entries m' l t start b p .1 (i, v, others i b p n .0 y)
-          kept i v y (yes e) = tree-entries m' l t start b p .1 (idx, u, gains b p .1 (inl (subst (λ z. InEntry m l t start z b p) e y)))
+          kept i v y (yes e) = tree-entries m' l t start b p .1 (idx, u, gains b p .1 (inl (x .0, subst (λ z. InEntry m l t start z b p) e y)))
 
-  -- WHERE ONE LOSES THE PAGE OF A BASE in its range, so does the tree
-  pub tree-loses : (base : ℕ) → start + idx * sizeOf l ≤ base → base < start + idx * sizeOf l + sizeOf l
+  -- WHERE A BASE IS REMOVED from what the entry of its range maps, it is from what the tree maps
+  pub tree-removes : (base : ℕ) → start + idx * sizeOf l ≤ base → base < start + idx * sizeOf l + sizeOf l
       → ((b : ℕ) (p : PTE) → InEntry m' l t start idx b p ↔ (InEntry m l t start idx b p × (b ≢ base)))
       → (b : ℕ) (p : PTE) → InTree m' l t start b p ↔ (InTree m l t start b p × (b ≢ base))
-  tree-loses base low high loses b p = (λ x. let k = tree-entries m' l t start b p .0 x in there (k .0) (k .1) (k .2) (ℕ-discrete (k .0) idx), λ k. back (k .0) (k .1))
+  tree-removes base low high loses b p = (λ x. let k = tree-entries m' l t start b p .0 x in there (k .0) (k .1) (k .2) (ℕ-discrete (k .0) idx), λ k. back (k .0) (k .1))
     where
-      elsewhere : (i : ℕ) → InEntry m l t start i b p → i ≢ idx → b ≢ base
-      elsewhere i x n e = n (tree-index x (subst (λ y. start + idx * sizeOf l ≤ y) (sym e) low) (subst (λ y. y < start + idx * sizeOf l + sizeOf l) (sym e) high))
-
       there : (i : ℕ) → i < 512 → InEntry m' l t start i b p → Dec (i ≡ idx) → InTree m l t start b p × (b ≢ base)
-      there i v x (no n) = let y = others i b p n .1 x in (tree-entries m l t start b p .1 (i, v, y), elsewhere i y n)
+      there i v x (no n) = let y = others i b p n .1 x in (tree-entries m l t start b p .1 (i, v, y), elsewhere base i b p low high y n)
       there i v x (yes e) = let y = loses b p .0 (subst (λ z. InEntry m' l t start z b p) e x) in (tree-entries m l t start b p .1 (idx, u, y .0), y .1)
 
       back : InTree m l t start b p → b ≢ base → InTree m' l t start b p
