@@ -40,7 +40,7 @@ use Rattle.verus.specs.Walks.{interp}
 use Rattle.verus.specs.Operations.{meant, MapOk, MapErr}
 use Rattle.verus.proofs.Walks.{atBase, interp-found}
 use Rattle.verus.proofs.Mappings.{In, turned-inserts, overlaps-same}
-use Rattle.verus.proofs.Invariant.{inv-holds}
+use Rattle.verus.proofs.Invariant.{inv-holds, moments-inv}
 
 -- what is asked, as theirs
 abbrev pub askedEntry : Asked → PTE
@@ -97,6 +97,7 @@ module _ {h : ℕ → Bool} {sp : Space} {m : ℕ → ℕ} {role : ℕ → Role}
     made = record {
       inv = record { role = d .role'; whole = d .whole; inv = inv-holds (d .whole) };
       one = d .changed .change;
+      moments = moments-inv (d .changed);
       meaning = λ va. meant-found (d .whole) va ∙ inserts va ∙ again va;
     };
     apart = λ c. not-mapped (meant-overlaps w (q .base) (askedEntry q) wide .0 c);

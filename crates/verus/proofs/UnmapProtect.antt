@@ -50,7 +50,7 @@ use Rattle.verus.specs.Walks.{interp}
 use Rattle.verus.specs.Operations.{meant, ChangeMade, UnmapOk, ProtectOk, NotThere}
 use Rattle.verus.proofs.Walks.{atBase, interp-is-meaning}
 use Rattle.verus.proofs.Mappings.{In, inner-none, first-some, turned-inserts, turned-removes}
-use Rattle.verus.proofs.Invariant.{inv-holds}
+use Rattle.verus.proofs.Invariant.{inv-holds, moments-inv}
 use Rattle.verus.proofs.MapFrame.{meant-found}
 
 module _ {h : ℕ → Bool} {sp : Space} {m : ℕ → ℕ} {role : ℕ → Role} (w : Whole h sp m role) (base : ℕ) where
@@ -92,6 +92,7 @@ module _ {h : ℕ → Bool} {sp : Space} {m : ℕ → ℕ} {role : ℕ → Role}
       removal-made is = record {
         inv = record { role = role'; whole = whole; inv = inv-holds whole };
         one = changed .change;
+        moments = moments-inv changed;
         meaning = λ va. meant-found whole va
             ∙ turned-removes (meaning (settingOf h sp) m) (meaning (settingOf h sp) (after m xs)) base size o wide-page inside beside inner-page is va
             ∙ (unfold removed in rw (meant-found w va));
@@ -101,6 +102,7 @@ module _ {h : ℕ → Bool} {sp : Space} {m : ℕ → ℕ} {role : ℕ → Role}
       change-made r is = record {
         inv = record { role = role'; whole = whole; inv = inv-holds whole };
         one = changed .change;
+        moments = moments-inv changed;
         meaning = λ va. meant-found whole va
             ∙ turned-inserts (meaning (settingOf h sp) m) (meaning (settingOf h sp) (after m xs)) base size o wide-page inside beside inner-page frame r is va
             ∙ (unfold inserted in rw (meant-found w va));

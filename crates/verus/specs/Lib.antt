@@ -1,6 +1,6 @@
 pub mod Regions
 pub mod Mappings
 pub mod Walks
+pub mod Entries
 pub mod Trees
 pub mod Operations
-pub mod Entries

@@ -7,6 +7,7 @@ use mathlib.Core.Option.{some}
 use mathlib.Core.Path.{_≡_}
 use Rattle.word.specs.Writes.{Write, after}
 use Rattle.entry.specs.declared.Rights.{Rights}
+use Rattle.world.specs.Events.{All}
 use Rattle.world.specs.OneChange.{OneChange}
 use Rattle.tables.specs.Roles.{Role}
 use Rattle.tables.specs.Discipline.{walkerOf}
@@ -17,7 +18,7 @@ use Rattle.effect.specs.Whole.{Whole}
 use Rattle.verus.specs.Regions.{PTE, pteOf}
 use Rattle.verus.specs.Mappings.{Mappings, ContainsKey, CandidateOverlaps, SameMap, inserted, removed}
 use Rattle.verus.specs.Walks.{interp}
-use Rattle.verus.specs.Trees.{Inv}
+use Rattle.verus.specs.Trees.{InvAndNonempty, SomeInv}
 
 -- what the tables of a space mean to the source
 abbrev pub meant : Space → (ℕ → ℕ) → Mappings
@@ -27,12 +28,14 @@ meant sp m = interp m (sp .root)
 pub record InvAfter (h : ℕ → Bool) (sp : Space) (m' : ℕ → ℕ) : Type 0 where
   pub role : ℕ → Role
   pub whole : Whole h sp m' role
-  pub inv : Inv (settingOf h sp) m' role
+  pub inv : InvAndNonempty (settingOf h sp) m' role
 
--- change_made: the one write that changes the meaning was made, and the map is what the token was asked for
+-- change_made: the one write that changes the meaning was made, and the map is what the token was asked for. moments: what the tokens' writes
+-- demand before and after each, inv.
 pub record ChangeMade (h : ℕ → Bool) (sp : Space) (m : ℕ → ℕ) (xs : List Write) (now : Mappings) : Type 0 where
   pub inv : InvAfter h sp (after m xs)
   pub one : OneChange (walkerOf (settingOf h sp)) m (eventsOf xs)
+  pub moments : All m (eventsOf xs) (SomeInv (settingOf h sp))
   pub meaning : SameMap (meant sp (after m xs)) now
 
 -- final(tok)@ == old(tok)@
