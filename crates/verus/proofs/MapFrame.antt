@@ -13,16 +13,15 @@ use Rattle.walk.specs.declared.Found.{Found}
 use Rattle.walk.specs.declared.Found.the-variants.{Page, Nothing, Outside, NoAddress}
 use Rattle.walk.proofs.Digits.{size-pos}
 use Rattle.tables.specs.Roles.{Role}
-use Rattle.tables.proofs.Way.{comes-top}
 use Rattle.tables.specs.Meaning.{meaning}
 use Rattle.tables.proofs.Meaning.{never-outside}
 use Rattle.tables.specs.Overlap.{MappedIn}
-use Rattle.pool.specs.Book.{bookOf}
 use Rattle.pool.specs.Booked.{settingOf}
 use Rattle.pool.specs.declared.Space.{Space}
 use Rattle.pool.proofs.Pages.{root-page}
 use Rattle.plan.specs.Map as map
 use Rattle.plan.specs.declared.Reason.{Reason}
+use Rattle.plan.specs.declared.Reason.the-variants.{FrameInPool, NoRoom}
 use Rattle.plan.specs.declared.maps.Asked.{Asked}
 use Rattle.plan.specs.declared.maps.Mapping.{Mapping}
 use Rattle.plan.specs.Map.{Placed}
@@ -141,12 +140,12 @@ module _ {h : ℕ → Bool} {sp : Space} {m : ℕ → ℕ} {role : ℕ → Role}
       go (map.Refused r) e f = let z : _≡_ {A = ℕ} 0 1 = cc in absurd (omega arith)
       go (map.Go p) e f = map-made p e
 
-  -- MAP_FRAME, ERR, where the source's demands hold (accepted_mapping; table memory and frames lie apart; there always is a page): nothing
-  -- was written, and the candidate overlaps.
-  pub map-err : (y : Reason) → mapAnswer h m sp q ≡ mapped′.Refused y → AcceptedMapping (q .base) (askedEntry q) → FrameApart h sp q → 3 ≤ bookOf m sp .free
+  -- MAP_FRAME, ERR, where accepted_mapping holds, for every reason but the two that the source has no word for (its table memory and its
+  -- frames lie apart, and there always is a page): nothing was written, and the candidate overlaps.
+  pub map-err : (y : Reason) → mapAnswer h m sp q ≡ mapped′.Refused y → AcceptedMapping (q .base) (askedEntry q) → y ≢ FrameInPool → y ≢ NoRoom
       → MapErr sp m (mapWrites h m sp q) (q .base) (askedEntry q)
   unfolding mapAnswer mapWrites mapSaid map.didOf pteOf
-  map-err y refused a apart enough = go (map.decideOf h m sp q) refl refused
+  map-err y refused a no-pool some-room = go (map.decideOf h m sp q) refl refused
     where
       f : Fitted (a .size .level) q
       f = accepted-fits q a
@@ -154,22 +153,18 @@ module _ {h : ℕ → Bool} {sp : Space} {m : ℕ → ℕ} {role : ℕ → Role}
       wide : 0 < q .size
       wide = omega (arith, f .size-is, size-pos (a .size .level))
 
-      because : (r : Reason) → Cause h sp m q r → CandidateOverlaps (meant sp m) (q .base) (askedEntry q)
-      because r (no-size n) = absurd (n (a .size .level) (a .size .low) (a .size .is))
-      because r (base-unaligned l o n) = absurd (n (a .vaddr-aligned))
-      because r (frame-unaligned l o b n) = absurd (n (a .frame-aligned))
-      because r (base-range l o b c n) = absurd (false≢true (sym n ∙ a .address))
-      because r (frame-high l o b c u n) = absurd (omega (arith, f .frame-fits))
-      because r (frame-in-pool l g k) = absurd (meets k apart)
-        where
-          meets : (sp .first * 4096 < q .frame + q .size) × (q .frame < (sp .first + sp .pages) * 4096) → FrameApart h sp q → ⊥
-          meets k (inl u) = omega (arith, k .0)
-          meets k (inr u) = omega (arith, k .1)
-      because r (mapped l g c k) = meant-overlaps w (q .base) (askedEntry q) wide .1 k
-      because r (no-room l n g c x k u) = absurd (omega (arith, comes-top (k .comes)))
+      because : (r : Reason) → Cause h sp m q r → r ≢ FrameInPool → r ≢ NoRoom → CandidateOverlaps (meant sp m) (q .base) (askedEntry q)
+      because r (no-size n) i o = absurd (n (a .size .level) (a .size .low) (a .size .is))
+      because r (base-unaligned l x n) i o = absurd (n (a .vaddr-aligned))
+      because r (frame-unaligned l x b n) i o = absurd (n (a .frame-aligned))
+      because r (base-range l x b c n) i o = absurd (false≢true (sym n ∙ a .address))
+      because r (frame-high l x b c u n) i o = absurd (omega (arith, f .frame-fits))
+      because r (frame-in-pool l g k) i o = absurd (i refl)
+      because r (mapped l g c k) i o = meant-overlaps w (q .base) (askedEntry q) wide .1 k
+      because r (no-room l n g c x k u) i o = absurd (o refl)
 
       go : (x : Placed) → map.decideOf h m sp q ≡ x → mapSaid x ≡ mapped′.Refused y → MapErr sp m (map.didOf sp x) (q .base) (askedEntry q)
       go (map.Go p) e g = let z : _≡_ {A = ℕ} 0 1 = cc in absurd (omega arith)
       go (map.Refused r) e g =
           let same : r ≡ y = cc in
-          record { unchanged = refl; overlaps = because y (map-refused w q y .0 (e ∙ ap map.Refused same)) }
+          record { unchanged = refl; overlaps = because y (map-refused w q y .0 (e ∙ ap map.Refused same)) no-pool some-room }
