@@ -1,5 +1,5 @@
 -- OUR INVARIANT GIVES THEIRS: every clause of inv_at and of no_empty_directories.
-use Prim.Native.Nat.{ℕ, zero, suc, _+_, _*_, _%_, _/_, _^_, _<_}
+use Prim.Native.Nat.{ℕ, zero, suc, _+_, _*_, _%_, _/_, _^_, _<_, _≤_}
 use mathlib.Core.Bool.{Bool, true, false, false≢true}
 use mathlib.Core.List.{List}
 use mathlib.Core.Logic.{_≢_}
@@ -94,6 +94,14 @@ module _ {σ : Setting} {m : ℕ → ℕ} {role : ℕ → Role} (b : Built σ m 
       let named-so = b .down t (suc l) i s g v u e .0 in
       let k = used-climbs (ap left named-so) sub in
       (suc (k .0), ap (λ x. parentOf (role x)) (k .1) ∙ ap parentOf named-so, omega (arith, k .2))
+
+  -- it has no more levels left than t, and is a table
+  pub used-low : {l t p : ℕ} → Live role t l → UsedBy m l t p → left (role p) ≤ suc l
+  used-low v x = let k = used-climbs v x in omega (arith, k .2)
+
+  pub used-live : {l t p : ℕ} → Live role t l → UsedBy m l t p → (k : ℕ) × Live role p k
+  used-live {l} v itself = (l, v)
+  used-live {l = suc l} {t} v (below i s g u e sub) = used-live (ap left (b .down t (suc l) i s g v u e .0)) sub
 
   used-home : {l t p : ℕ} → Live role t l → UsedBy m l t p → Home σ p
   used-home v itself = live-home b v

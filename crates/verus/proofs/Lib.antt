@@ -3,6 +3,8 @@ pub mod Walks
 pub mod Extended
 pub mod Mappings
 pub mod Invariant
+pub mod Order
+pub mod Framing
 pub mod MapFrame
 pub mod UnmapProtect
 pub mod Trees

@@ -29,17 +29,21 @@ use Rattle.effect.specs.Whole.{Whole}
 use Rattle.effect.specs.MapDone.{MapDone, Fitted}
 use Rattle.effect.specs.MapRefused.{Cause, FrameApart, SomeMapped, no-size, base-unaligned, frame-unaligned, base-range, frame-high, frame-in-pool, mapped, no-room}
 use Rattle.effect.proofs.Wholes.{root-low}
-use Rattle.effect.proofs.MapDone.{decided-done, mapped-inside, mapped-outside}
+use Rattle.effect.proofs.MapBuilt.{page-last}
+use Rattle.effect.proofs.MapDone.{decided-planned, decided-done, mapped-inside, mapped-outside}
 use Rattle.effect.proofs.MapRefused.{map-refused, map-succeeds}
 use Rattle.tablepath.specs.Answers.{mapAnswer, mapWrites, mapSaid}
 use Rattle.tablepath.specs.declared.Mapped.the-variants as mapped′
 use Rattle.verus.specs.Regions.{PTE, pteOf}
-use Rattle.verus.specs.Mappings.{CandidateOverlaps, AcceptedMapping, inserted, maxPhyaddr}
+use Rattle.verus.specs.Mappings.{CandidateOverlaps, AcceptedMapping, SameMap, inserted, maxPhyaddr}
 use Rattle.verus.specs.Walks.{interp}
-use Rattle.verus.specs.Operations.{meant, MapOk, MapErr}
-use Rattle.verus.proofs.Walks.{atBase, interp-found}
+use Rattle.verus.specs.Order.{meant}
+use Rattle.verus.specs.Operations.{MapOk, MapErr}
+use Rattle.verus.proofs.Walks.{atBase}
 use Rattle.verus.proofs.Mappings.{In, turned-inserts, overlaps-same}
 use Rattle.verus.proofs.Invariant.{inv-holds, moments-inv}
+use Rattle.verus.proofs.Order.{meant-built, map-order}
+use Rattle.verus.proofs.Framing.{map-framed}
 
 -- what is asked, as theirs
 abbrev pub askedEntry : Asked → PTE
@@ -47,9 +51,7 @@ askedEntry q = pteOf (q .size) (q .frame) (q .rights)
 
 -- what the tables mean to them, by what an address means to us
 pub meant-found : {h : ℕ → Bool} {sp : Space} {m : ℕ → ℕ} {role : ℕ → Role} → Whole h sp m role → (va : ℕ) → meant sp m va ≡ atBase va (meaning (settingOf h sp) m va)
-meant-found {h} {sp} {m} w va =
-    subst (λ t. interp m t va ≡ atBase va (meaning (settingOf h sp) m va)) (root-page (sp .root) (root-low w))
-    (interp-found h m (4096 * sp .root) (never-outside (w .sound .built)) va)
+meant-found {h} {sp} w va = meant-built h sp (root-low w) (w .sound .built) va
 
 -- a test of overlap, by our word for it
 pub meant-overlaps : {h : ℕ → Bool} {sp : Space} {m : ℕ → ℕ} {role : ℕ → Role} → Whole h sp m role → (base : ℕ) (p : PTE) → 0 < p .frame .size
@@ -90,16 +92,18 @@ accepted-fits q a = record {
 }
 
 module _ {h : ℕ → Bool} {sp : Space} {m : ℕ → ℕ} {role : ℕ → Role} (w : Whole h sp m role) (q : Asked) where
-  map-made : (p : Mapping) → map.decideOf h m sp q ≡ map.Go p → MapOk h sp m (map.writesOf sp p) (q .base) (askedEntry q)
+  map-made : (p : Mapping) → map.decideOf h m sp q ≡ map.Go p → MapOk h sp m role (map.writesOf sp p) (q .base) (askedEntry q)
   unfolding pteOf
   map-made p e = record {
     made = record {
       inv = record { role = d .role'; whole = d .whole; inv = inv-holds (d .whole) };
       one = d .changed .change;
       moments = moments-inv (d .changed);
-      meaning = λ va. meant-found (d .whole) va ∙ inserts va ∙ again va;
+      meaning = now;
     };
     apart = λ c. not-mapped (meant-overlaps w (q .base) (askedEntry q) wide .0 c);
+    order = map-order h sp (root-low w) p (d .changed) (page-last w (decided-planned w q p e)) _ now;
+    framed = map-framed w (decided-planned w q p e) d;
   }
     where
       d : MapDone h sp m role q p
@@ -131,12 +135,16 @@ module _ {h : ℕ → Bool} {sp : Space} {m : ℕ → ℕ} {role : ℕ → Role}
       again : (va : ℕ) → inserted (λ b. atBase b (meaning (settingOf h sp) m b)) (q .base) (askedEntry q) va ≡ inserted (meant sp m) (q .base) (askedEntry q) va
       again va = unfold inserted in rw (meant-found w va)
 
-  -- MAP_FRAME, OK: the candidate overlapped nothing; the one changing write was made; the map has the page, and nothing else has changed.
-  pub map-ok : (k : ℕ) → mapAnswer h m sp q ≡ mapped′.Done k → MapOk h sp m (mapWrites h m sp q) (q .base) (askedEntry q)
+      now : SameMap (meant sp (after m (map.writesOf sp p))) (inserted (meant sp m) (q .base) (askedEntry q))
+      now va = meant-found (d .whole) va ∙ inserts va ∙ again va
+
+  -- MAP_FRAME, OK: the candidate overlapped nothing; the one changing write was made, the last one of a table; the map has the page, and nothing
+  -- else has changed; regions that are neither the subtree's nor new keep their words.
+  pub map-ok : (k : ℕ) → mapAnswer h m sp q ≡ mapped′.Done k → MapOk h sp m role (mapWrites h m sp q) (q .base) (askedEntry q)
   unfolding mapAnswer mapWrites mapSaid map.didOf
   map-ok k done = go (map.decideOf h m sp q) refl done
     where
-      go : (x : Placed) → map.decideOf h m sp q ≡ x → mapSaid x ≡ mapped′.Done k → MapOk h sp m (map.didOf sp x) (q .base) (askedEntry q)
+      go : (x : Placed) → map.decideOf h m sp q ≡ x → mapSaid x ≡ mapped′.Done k → MapOk h sp m role (map.didOf sp x) (q .base) (askedEntry q)
       go (map.Refused r) e f = let z : _≡_ {A = ℕ} 0 1 = cc in absurd (omega arith)
       go (map.Go p) e f = map-made p e
 
