@@ -20,9 +20,12 @@ use Rattle.walk.specs.Walk.{indexOf, baseOf}
 use Rattle.walk.specs.declared.Found.{Found}
 use Rattle.walk.specs.declared.Found.the-variants as found
 use Rattle.walk.proofs.Digits.{index-lt}
+use Rattle.world.specs.OneChange.{Quiet}
 use Rattle.tables.specs.Roles.{Setting, Role, foreign, book, Home, entryAt}
 use Rattle.tables.specs.Way.{Comes}
-use Rattle.tables.proofs.Clearing.{book-spare}
+use Rattle.tables.specs.Discipline.{walkerOf}
+use Rattle.tables.specs.Clearing.{eventsOf}
+use Rattle.tables.proofs.Clearing.{Spare, book-spare, spare-untouched}
 use Rattle.tables.proofs.Down.{down-start, map-done}
 use Rattle.tables.specs.Operation.{Changed}
 use Rattle.tables.proofs.Operation.{changed-sound, changed-spare}
@@ -47,7 +50,7 @@ use Rattle.effect.proofs.Wholes.{owned}
 use Rattle.effect.proofs.MapSteps.{MayBeTable, Grown, grown-start, grown-step}
 
 -- a step that stays above the target went down one level
-next-above : (target p : ℕ) (s : TableReached) → target < nextOf target p s .level → nextOf target p s .level + 1 ≡ s .level
+pub next-above : (target p : ℕ) (s : TableReached) → target < nextOf target p s .level → nextOf target p s .level + 1 ≡ s .level
 unfolding nextOf
 next-above target p s = go (leb (s .level) target) refl
   where
@@ -76,6 +79,15 @@ recast {σ} {m} {n} {role} {role'} {va} {va'} {l} {l'} {o} {o'} {xs} {xs'} a b c
     settled (subst (λ (x : List Write). Changed σ m role va' l' o' x n role') d
     (subst (λ (x : Found). Changed σ m role va' l' x xs n role') c
     (subst (λ x. Changed σ m role va' x o xs n role') b (subst (λ x. Changed σ m role x l o xs n role') a k))))
+
+-- the page's entry is the last word of a table that is written: up to it, and from it on, no address's meaning changes
+pub record PageLast (h : ℕ → Bool) (sp : Space) (m : ℕ → ℕ) (p : Mapping) : Type 0 where
+  pub front : List Write
+  pub table : ℕ
+  pub index : ℕ
+  pub split : front ++ (write table index (p .word) ∷ []) ≡ buildOf p
+  pub before : Quiet (walkerOf (settingOf h sp)) m (eventsOf front)
+  pub behind : Quiet (walkerOf (settingOf h sp)) (after m (buildOf p)) (eventsOf (bookWrites sp (p .fresh .book) (p .fresh .need)))
 
 module _ {h : ℕ → Bool} {sp : Space} {m : ℕ → ℕ} {role : ℕ → Role} (w : Whole h sp m role) {q : Asked} {p : Mapping} (k : Planned h sp m q p) where
   -- the page at position j is for the step that has gone down j levels
@@ -183,11 +195,23 @@ module _ {h : ℕ → Bool} {sp : Space} {m : ℕ → ℕ} {role : ℕ → Role}
       took-behind-keeps (w .booked) (buildOf p) (every-map (λ x u. u .behind) (buildOf p) places) (p .fresh .need) (p .fresh .book)
       (omega (arith, k .supplied .need-is, k .supplied .room)) (λ u. k .supplied .book-is (omega (arith, k .supplied .need-is)))
 
+  book-writes-spare : Every (Spare (grown3 .roles)) (bookWrites sp (p .fresh .book) (p .fresh .need))
+  book-writes-spare = every-map (λ x u. book-spare (grown3 .roles) x (booked .in-book x (u .0) (u .1))) _ (book-writes-proper sp (p .fresh .book) (p .fresh .need))
+
   changed : Changed (settingOf h sp) m role (q .base) (p .target) (found.Page (q .base) (q .size) (q .frame) (q .rights)) (writesOf sp p) (after m (writesOf sp p)) (grown3 .roles)
   unfolding writesOf
-  changed =
-      settled (changed-spare (bookWrites sp (p .fresh .book) (p .fresh .need)) built
-      (every-map (λ x u. book-spare (grown3 .roles) x (booked .in-book x (u .0) (u .1))) _ (book-writes-proper sp (p .fresh .book) (p .fresh .need))))
+  changed = settled (changed-spare (bookWrites sp (p .fresh .book) (p .fresh .need)) built book-writes-spare)
+
+  -- THE CHANGE IS THE LAST WRITE OF A TABLE
+  pub page-last : PageLast h sp m p
+  page-last = record {
+    front = (grow1 ++ grow2) ++ grow3;
+    table = reached3 p .table;
+    index = indexOf (reached3 p .level) (p .base);
+    split = build-is;
+    before = grown3 .down .quiet;
+    behind = spare-untouched (bookWrites sp (p .fresh .book) (p .fresh .need)) (built .turns .built) book-writes-spare .quiet;
+  }
 
   whole : Whole h sp (after m (writesOf sp p)) (grown3 .roles)
   whole = record { stands = w .stands; small = w .small; sound = changed-sound changed; booked = booked; alone = alone-after sp m (writesOf sp p) (map-unmarking sp p (page-unmarked (p .target) (p .word) _ _ word-says)) (w .alone) }

@@ -4,6 +4,8 @@ pub mod Extended
 pub mod Mappings
 pub mod Arch
 pub mod Invariant
+pub mod Order
+pub mod Framing
 pub mod MapFrame
 pub mod UnmapProtect
 pub mod AtExit

@@ -4,9 +4,10 @@ pub mod Arch
 pub mod Walks
 pub mod Paths
 pub mod WriteSeq
-pub mod Trees
-pub mod TreeEntries
-pub mod Operations
-pub mod AtExit
 pub mod Entries
 pub mod NewEntry
+pub mod Trees
+pub mod TreeEntries
+pub mod Order
+pub mod Operations
+pub mod AtExit
