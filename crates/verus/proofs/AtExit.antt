@@ -21,7 +21,6 @@ use Rattle.tablepath.specs.declared.Protected.{Protected}
 use Rattle.tablepath.proofs.SaysAny.{refusal-leaves}
 use Rattle.tablepath.proofs.Wholes.{call-leaves, call-kept}
 use Rattle.verus.specs.Mappings.{Mappings, SameMap}
-use Rattle.verus.specs.Operations.{meant}
 use Rattle.verus.specs.AtExit.{InvIn, MapExit, UnmapExit, ProtectExit}
 use Rattle.verus.proofs.Invariant.{inv-holds}
 use Rattle.verus.proofs.MapFrame.{map-ok, map-err}

@@ -13,10 +13,12 @@ use Rattle.entry.specs.declared.Rights.{Rights}
 use Rattle.entry.specs.declared.Entry.{Entry}
 use Rattle.entry.specs.declared.Entry.the-variants.{Nothing, Page, Table}
 use Rattle.entry.proofs.Fields.{says-absent}
-use Rattle.tables.specs.Roles.{Setting, Role, Live, entryAt, Home, Built, Zero, Bare}
+use Rattle.tables.specs.Roles.{Setting, Role, table, Live, entryAt, Home, Built, Zero, Bare}
 use Rattle.tables.proofs.Meaning.{live-home}
 use Rattle.effect.proofs.Emptying.{keeps-no, keeps-yes}
-use Rattle.verus.specs.Trees.{InvAt}
+use Rattle.verus.specs.Entries.{MustBeZero}
+use Rattle.verus.specs.Trees.{UsedBy, itself, below, InvAt}
+use Rattle.verus.proofs.NewEntry.{zero-entry-facts}
 
 -- Whether a table is empty ---------------------------------------------------------------------------------------------------------------
 
@@ -57,23 +59,30 @@ module _ {σ : Setting} {m : ℕ → ℕ} {role : ℕ → Role} (b : Built σ m 
 
 -- A page of zeros ------------------------------------------------------------------------------------------------------------------------
 
--- LEMMA_ZEROED_PAGE_IMPLIES_EMPTY_AT: it keeps the invariant of a table, at any level, whatever the other pages are
-pub zeroed-inv-at : (σ : Setting) (m : ℕ → ℕ) (role : ℕ → Role) (l q : ℕ) → l < 4 → Home σ q → Zero m q → InvAt σ m role l q
-zeroed-inv-at σ m role l q u home z = record {
+-- it has no table below it
+zeroed-alone : {m : ℕ → ℕ} {l q p : ℕ} → Zero m q → UsedBy m l q p → p ≡ q
+zeroed-alone z itself = refl
+zeroed-alone {l = suc l} z (below i s g v e k) =
+    let x : _≡_ {A = Entry} Nothing (Table s g) = sym (ap (says (suc l)) (z i v) ∙ says-absent (suc l) 0 (omega arith)) ∙ e in
+    let y : _≡_ {A = ℕ} 0 1 = cc in
+    absurd (omega arith)
+
+-- LEMMA_ZEROED_PAGE_IMPLIES_EMPTY_AT: where no page is said to be below it, it keeps the invariant of a table, at any level
+pub zeroed-inv-at : (σ : Setting) (m : ℕ → ℕ) (role : ℕ → Role) (l q : ℕ) → l < 4 → Home σ q → Zero m q → ((i t : ℕ) → i < 512 → role t ≢ table l q i) → InvAt σ m role l q
+zeroed-inv-at σ m role l q u home z childless = record {
   aligned = omega arith;
+  allocated = home;
   layer-in-range = u;
-  regions = home;
   zeroed = λ i v e. z i v;
-  flags = λ i t g v e. no-table i t g v e;
   obeys = λ i t g v e. no-table i t g v e;
-  once = λ i t g v e l' q' i' g' v' u' e'. no-table i t g v e;
-  not-itself = λ i t g v e. no-table i t g v e;
-  reserved = λ i f g v e n. no-page i f g v e;
-  large = λ i f g v e n. no-page i f g v e;
+  flags = λ i t g v e. no-table i t g v e;
+  matches = λ i t v. (λ k. no-table i t (k .0) v (k .1), λ e. absurd (childless i t v e));
+  disjoint = λ k i j s t g g' n v v' d e e'. no-table i s g v e;
+  not-itself = λ k i s g n v e. no-table i s g v e;
+  regions = λ p k. subst (Home σ) (sym (zeroed-alone z k)) home;
   hp-pat = λ i f g v e n. no-page i f g v e;
-  exact = λ i f g v e. no-page i f g v e;
-  directories = λ i t g v e. no-table i t g v e;
-  nonempty = λ i t g v e k n. no-table i t g v e;
+  mb0 = λ i v. subst (MustBeZero l) (sym (z i v)) (zero-entry-facts l 0 (omega arith) (omega arith) .1);
+  large = λ i f g v e n. no-page i f g v e;
 }
   where
     nothing : (i : ℕ) → i < 512 → entryAt m l q i ≡ Nothing

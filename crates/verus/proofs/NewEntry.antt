@@ -76,7 +76,7 @@ module _ (x : EntryFlags) where
   -- a page at the last level
   last-entry : (p : ℕ) → p < 2 ^ 40 → NewEntry 0 (4096 * p) true x (asked 0 p)
   last-entry p up = record {
-    mb0 = record { at-root = λ z. absurd (omega arith); padding = λ z y. absurd (z refl) };
+    mb0 = record { at-root = λ o z. absurd (omega arith); padding = λ o z y. absurd (z refl) };
     view = says-last w (omega (arith, k .low)) ∙ ap (λ y. Page y (rightsOf w)) frame ∙ ap (Page (4096 * p)) (asked-rights 0 p w k);
     hp-pat = λ z y. absurd (y refl);
     accessed = bit-off 5 w (k .five);
@@ -103,7 +103,7 @@ module _ (x : EntryFlags) where
   -- a large page, of level l
   large-entry : (l p : ℕ) → l ≢ 0 → l ≤ 2 → p < 2 ^ 40 → Padding l p (asked 1 p) → NewEntry l (4096 * p) true x (asked 1 p)
   large-entry l p n u up pad = record {
-    mb0 = record { at-root = λ z. absurd (omega arith); padding = λ z y. pad .padding };
+    mb0 = record { at-root = λ o z. absurd (omega arith); padding = λ o z y. pad .padding };
     view = says-large l w n u (omega (arith, k .low)) (k .seven) (pad .padding) ∙ ap (λ y. Page y (rightsOf w)) (pad .frame) ∙ ap (Page (4096 * p)) (asked-rights 1 p w k);
     hp-pat = λ z y. bit-off 12 w (pad .pat);
     accessed = bit-off 5 w (k .five);
@@ -126,7 +126,7 @@ module _ (x : EntryFlags) where
 
   directory-entry : (l p : ℕ) → l ≢ 0 → p < 2 ^ 40 → NewEntry l (4096 * p) false x (asked 0 p)
   directory-entry l p n up = record {
-    mb0 = record { at-root = λ z. seven; padding = λ z y. let v : _≡_ {A = Bool} true false = sym y ∙ seven in let o : _≡_ {A = ℕ} 0 1 = cc in absurd (omega arith) };
+    mb0 = record { at-root = λ o z. seven; padding = λ o z y. let v : _≡_ {A = Bool} true false = sym y ∙ seven in let k : _≡_ {A = ℕ} 0 1 = cc in absurd (omega arith) };
     view = says-table l w n (omega (arith, k .low)) (k .seven) ∙ ap (λ y. Table y (rightsOf w)) table ∙ ap (Table (4096 * p / 4096)) (asked-rights 0 p w k);
     hp-pat = λ z y. let o : _≡_ {A = ℕ} 0 1 = cc in absurd (omega arith);
     accessed = bit-off 5 w (k .five);
@@ -193,7 +193,7 @@ table-is-new-entry l p = omega arith
 
 -- LEMMA_ZERO_ENTRY_FACTS: a word that is 0 but for its bits 5 and 6 says nothing, and has no reserved bit
 pub zero-entry-facts : (l w : ℕ) → w % 32 ≡ 0 → w / 128 ≡ 0 → (says l w ≡ Nothing) × MustBeZero l w
-zero-entry-facts l w low high = (says-absent l w (omega arith), record { at-root = λ z. seven; padding = λ z y. absurd (false≢true (sym seven ∙ y)) })
+zero-entry-facts l w low high = (says-absent l w (omega arith), record { at-root = λ o z. seven; padding = λ o z y. absurd (false≢true (sym seven ∙ y)) })
   where
     seven : bit 7 w ≡ false
     seven = bit-off 7 w (omega arith)

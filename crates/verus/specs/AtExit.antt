@@ -1,16 +1,16 @@
 -- What the source promises of its three operations, over the lent bytes: s when the exported function is called, s' when it returns, r what it
 -- answers.
-use Prim.Native.Nat.{ℕ, _≤_}
+use Prim.Native.Nat.{ℕ}
 use mathlib.Core.List.{List}
+use mathlib.Core.Logic.{_≢_}
 use mathlib.Core.Option.{some}
 use mathlib.Core.Path.{_≡_}
 use Rattle.word.specs.Memory.{memory, holds}
 use Rattle.entry.specs.declared.Rights.{Rights}
-use Rattle.pool.specs.Book.{bookOf}
 use Rattle.pool.specs.declared.Space.{Space}
 use Rattle.plan.specs.declared.Reason.{Reason}
+use Rattle.plan.specs.declared.Reason.the-variants.{FrameInPool, NoRoom}
 use Rattle.plan.specs.declared.maps.Asked.{Asked}
-use Rattle.effect.specs.MapRefused.{FrameApart}
 use Rattle.tablepath.specs.declared.Mapped.{Mapped}
 use Rattle.tablepath.specs.declared.Mapped.the-variants as mapped
 use Rattle.tablepath.specs.declared.Gone.{Gone}
@@ -21,7 +21,8 @@ use Rattle.tablepath.specs.declared.Protected.{Protected}
 use Rattle.tablepath.specs.declared.Protected.the-variants as protected
 use Rattle.verus.specs.Regions.{PTE, pteOf}
 use Rattle.verus.specs.Mappings.{Mappings, ContainsKey, CandidateOverlaps, AcceptedMapping, SameMap, inserted, removed}
-use Rattle.verus.specs.Operations.{meant, InvAfter}
+use Rattle.verus.specs.Order.{meant}
+use Rattle.verus.specs.Operations.{InvAfter}
 
 -- what the tables of a space mean to the source, in these bytes
 abbrev pub meantIn : List ℕ → Space → Mappings
@@ -32,14 +33,14 @@ abbrev pub InvIn : List ℕ → Space → Type 0
 InvIn s sp = InvAfter (holds s (sp .origin)) sp (memory s (sp .origin))
 
 -- map_frame. Done: the page is in the map, and nothing overlapped it. Refused: every byte is as it was; and something overlaps, where the
--- source's demands hold (accepted_mapping; frames and tables lie apart; there always is a page).
+-- source's demand holds (accepted_mapping), for every reason but the two that it has no word for.
 pub record MapExit (s s' : List ℕ) (sp : Space) (q : Asked) (r : Mapped) : Type 0 where
   pub inv : InvIn s' sp
   pub done : (k : ℕ) → r ≡ mapped.Done k → SameMap (meantIn s' sp) (inserted (meantIn s sp) (q .base) (pteOf (q .size) (q .frame) (q .rights)))
   pub apart : (k : ℕ) → r ≡ mapped.Done k → ¬ CandidateOverlaps (meantIn s sp) (q .base) (pteOf (q .size) (q .frame) (q .rights))
   pub unchanged : (y : Reason) → r ≡ mapped.Refused y → s' ≡ s
-  pub overlaps : (y : Reason) → r ≡ mapped.Refused y → AcceptedMapping (q .base) (pteOf (q .size) (q .frame) (q .rights)) → FrameApart (holds s (sp .origin)) sp q
-      → 3 ≤ bookOf (memory s (sp .origin)) sp .free → CandidateOverlaps (meantIn s sp) (q .base) (pteOf (q .size) (q .frame) (q .rights))
+  pub overlaps : (y : Reason) → r ≡ mapped.Refused y → AcceptedMapping (q .base) (pteOf (q .size) (q .frame) (q .rights)) → y ≢ FrameInPool → y ≢ NoRoom
+      → CandidateOverlaps (meantIn s sp) (q .base) (pteOf (q .size) (q .frame) (q .rights))
 
 -- unmap. Done: the base was mapped, to the frame and the size that are answered, and is no more. Refused: every byte is as it was, and the base
 -- was not mapped.
