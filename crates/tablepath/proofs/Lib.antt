@@ -33,3 +33,4 @@ pub mod Says
 pub mod Means
 pub mod Tickets
 pub mod Moments
+pub mod Exact

@@ -10,3 +10,4 @@ pub mod Shown
 pub mod Handles
 pub mod Witness
 pub mod NightWitness
+pub mod Exact

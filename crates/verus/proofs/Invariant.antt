@@ -4,13 +4,10 @@ use mathlib.Core.Bool.{Bool, true, false, false≢true}
 use mathlib.Core.List.{List}
 use mathlib.Core.Logic.{_≢_}
 use mathlib.Core.Path.{_≡_, refl, sym, ap, _∙_, subst}
-use native.Mathlib.Nat.{mul-mod-left}
 use native.Mathlib.Omega.{arith}
 use Rattle.word.specs.Memory.{at}
 use Rattle.word.specs.Writes.{Write}
-use Rattle.entry.specs.Entry.{sizeOf, bit, frameOf, says, everything}
-use Rattle.entry.specs.Marks.{Marked}
-use Rattle.entry.specs.Words.{pageWord}
+use Rattle.entry.specs.Entry.{bit, everything}
 use Rattle.entry.specs.declared.Rights.{Rights}
 use Rattle.entry.specs.declared.Entry.{Entry}
 use Rattle.entry.specs.declared.Entry.the-variants.{Nothing, Page, Table}
@@ -27,33 +24,8 @@ use Rattle.pool.specs.declared.Space.{Space}
 use Rattle.effect.specs.Whole.{Whole}
 use Rattle.verus.specs.Entries.{MustBeZero}
 use Rattle.verus.specs.Trees.{UsedBy, itself, below, InvAt, Inv, NoEmptyDirectories, InvAndNonempty, SomeInv}
-use Rattle.verus.proofs.Entries.{new-page-entry}
-use Rattle.entry.proofs.Levels.{bit-off, frame-lt}
-use Rattle.entry.proofs.Parts.{bit-one, bit-zero, page-large, root-no-page, table-seven, page-parts}
-use Rattle.entry.proofs.Written.{FrameFits}
-
--- the frame that a word says fits its level
-said-fits : (l w f : ℕ) (g : Rights) → l ≢ 0 → says l w ≡ Page f g → FrameFits l f
-said-fits l w f g z e =
-    let k = page-large l w f g z e in
-    let is : f ≡ frameOf l w = page-parts l w f g e .0 in
-    record {
-      level = k .level;
-      aligned = ap (λ x. x % sizeOf l) is ∙ (unfold frameOf in mul-mod-left _ (sizeOf l));
-      below = rw is (frame-lt w l (omega (arith, k .level)));
-    }
-
--- bit 12 of a large page's entry is 0, since it is in the word that we write
-pat-zero : (l w f : ℕ) (g : Rights) → l ≢ 0 → says l w ≡ Page f g → Marked w (pageWord l f g) → bit 12 w ≡ false
-pat-zero l w f g z e k =
-    let zero-there : pageWord l f g / 4096 % 2 ≡ 0 = bit-zero 12 (pageWord l f g) (new-page-entry l f g (said-fits l w f g z e) .hp-pat z) in
-    bit-off 12 w (by-high w (pageWord l f g) (k .high) zero-there)
-  where
-    by-high : (v x : ℕ) → v / 128 ≡ x / 128 → x / 4096 % 2 ≡ 0 → v / 2 ^ 12 % 2 ≡ 0
-    by-high v x h o =
-        let a : v / 4096 ≡ v / 128 / 32 = omega arith in
-        let c : x / 4096 ≡ x / 128 / 32 = omega arith in
-        ap (λ y. y % 2) (a ∙ ap (λ y. y / 32) h ∙ sym c) ∙ o
+use Rattle.entry.proofs.Levels.{bit-off}
+use Rattle.entry.proofs.Parts.{bit-one, page-large, root-no-page, table-seven}
 
 -- the page that names a table
 parentOf : Role → ℕ
@@ -146,7 +118,7 @@ module _ {σ : Setting} {m : ℕ → ℕ} {role : ℕ → Role} (b : Built σ m 
         n cc;
     not-itself = λ k i s g z u e x. let n = named l q i s g v u e .2 in omega (arith, v, z, used-climbs (ap left n ∙ z) x .2);
     regions = λ p x. used-home v x;
-    hp-pat = λ i f g u e z. pat-zero l _ f g z e (b .clean q l i v u f g e);
+    hp-pat = λ i f g u e z. b .pat q l i v u f g e z;
     mb0 = λ i u. mb0-of l q i v u;
     large = λ i f g u e z. page-large l _ f g z e .seven;
   }
