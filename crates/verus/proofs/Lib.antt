@@ -10,6 +10,7 @@ pub mod MapFrame
 pub mod UnmapProtect
 pub mod AtExit
 pub mod Empty
+pub mod ChangedTok
 pub mod Trees
 pub mod TreeEntries
 pub mod Entries

@@ -9,5 +9,6 @@ pub mod NewEntry
 pub mod Trees
 pub mod TreeEntries
 pub mod Order
+pub mod ChangedTok
 pub mod Operations
 pub mod AtExit
