@@ -9,3 +9,4 @@ pub mod MapFrame
 pub mod UnmapProtect
 pub mod Trees
 pub mod Entries
+pub mod TheirPage
