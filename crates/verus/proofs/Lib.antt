@@ -17,3 +17,4 @@ pub mod Entries
 pub mod NewEntry
 pub mod Paths
 pub mod WriteSeq
+pub mod TheirPage
