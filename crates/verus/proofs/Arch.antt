@@ -1,15 +1,17 @@
 -- THE NUMBERS OF THE ARCHITECTURE: the source's sizes, indices and ranges are ours.
 use Prim.Native.Nat.{ℕ, zero, suc, _+_, _-_, _*_, _/_, _%_, _^_, _<_, _≤_}
 use mathlib.Core.Bool.{true}
-use mathlib.Core.Logic.{_↔_}
+use mathlib.Core.Logic.{_↔_, _⊎_, inl, inr}
 use mathlib.Core.Path.{_≡_, refl}
+use native.Mathlib.Decide.{decLt}
+use native.Mathlib.Nat.{mul-le-mul-right}
 use native.Mathlib.Omega.{arith}
 use borrow.Author.Tests.{eqb-true, eq-eqb}
 use Rattle.entry.specs.Entry.{sizeOf}
 use Rattle.entry.proofs.Levels.{at-levels}
 use Rattle.walk.specs.Walk.{indexOf, baseOf}
 use Rattle.plan.specs.Find.{startsOf}
-use Rattle.verus.specs.Regions.{Aligned}
+use Rattle.verus.specs.Regions.{Aligned, Overlap}
 use Rattle.verus.specs.Mappings.{maxBase, maxPhyaddr}
 use Rattle.verus.specs.Arch.{x86Arch, entrySize, numEntries, indexForVaddr, entryBase, nextEntryBase, upperVaddr, ArchInv, InTable}
 
@@ -112,3 +114,41 @@ entry-sizes i j u v = at-levels (λ i. i ≤ j → (entrySize i % entrySize j �
 pub aligned-exec : (l va : ℕ) → (startsOf l va ≡ true) ↔ Aligned va (sizeOf l)
 unfolding startsOf
 aligned-exec l va = (λ e. eqb-true (va % sizeOf l) 0 e, λ e. eq-eqb (va % sizeOf l) 0 e)
+
+-- an aligned page that begins in the range of an entry of its level or a higher one ends there
+ends-inside : (l s idx base va : ℕ) → l < 4 → s ≤ l → base % sizeOf l ≡ 0 → va % sizeOf s ≡ 0 → va < nextEntryBase (3 - l) base idx
+    → va + sizeOf s ≤ nextEntryBase (3 - l) base idx
+unfolding x86Arch sizeOf
+ends-inside zero zero idx base va u v a b k = omega arith
+ends-inside (suc zero) zero idx base va u v a b k = omega arith
+ends-inside (suc zero) (suc zero) idx base va u v a b k = omega arith
+ends-inside (suc (suc zero)) zero idx base va u v a b k = omega arith
+ends-inside (suc (suc zero)) (suc zero) idx base va u v a b k = omega arith
+ends-inside (suc (suc zero)) (suc (suc zero)) idx base va u v a b k = omega arith
+ends-inside (suc (suc (suc zero))) zero idx base va u v a b k = omega arith
+ends-inside (suc (suc (suc zero))) (suc zero) idx base va u v a b k = omega arith
+ends-inside (suc (suc (suc zero))) (suc (suc zero)) idx base va u v a b k = omega arith
+ends-inside (suc (suc (suc zero))) (suc (suc (suc zero))) idx base va u v a b k = omega arith
+ends-inside zero (suc s) idx base va u v a b k = absurd (omega arith)
+ends-inside (suc zero) (suc (suc s)) idx base va u v a b k = absurd (omega arith)
+ends-inside (suc (suc zero)) (suc (suc (suc s))) idx base va u v a b k = absurd (omega arith)
+ends-inside (suc (suc (suc zero))) (suc (suc (suc (suc s)))) idx base va u v a b k = absurd (omega arith)
+ends-inside (suc (suc (suc (suc l)))) s idx base va u v a b k = absurd (omega arith)
+
+-- NONLINEAR_QUERY2: where a page of an entry and the range that is asked overlap, the entry is the one of that range
+pub overlapping-index : (l s i idx base va b size : ℕ) → l < 4 → s ≤ l → base % sizeOf l ≡ 0 → va % sizeOf s ≡ 0
+    → Overlap (record { base = va; size = sizeOf s }) (record { base = b; size = size })
+    → entryBase (3 - l) base i ≤ b → b < nextEntryBase (3 - l) base i → b + size ≤ nextEntryBase (3 - l) base i
+    → entryBase (3 - l) base idx ≤ va → va < nextEntryBase (3 - l) base idx → i ≡ idx
+overlapping-index l s i idx base va b size u v al av o from upto ends here there = go (decLt i idx) (decLt idx i) o
+  where
+    step : (x y : ℕ) → x < y → (x + 1) * entrySize (3 - l) ≤ y * entrySize (3 - l)
+    step x y k = mul-le-mul-right (entrySize (3 - l)) (omega arith)
+
+    go : Dec (i < idx) → Dec (idx < i) → ((va ≤ b) × ((va ≡ b) ⊎ (b < va + sizeOf s))) ⊎ ((b < va) × (va < b + size)) → i ≡ idx
+    go (yes k) d (inl (x, y)) = absurd (omega (arith, step i idx k))
+    go (yes k) d (inr (x, y)) = absurd (omega (arith, step i idx k))
+    go (no n) (yes k) (inl (x, inl y)) = absurd (omega (arith, step idx i k))
+    go (no n) (yes k) (inl (x, inr y)) = absurd (omega (arith, step idx i k, ends-inside l s idx base va u v al av there))
+    go (no n) (yes k) (inr (x, y)) = absurd (omega (arith, step idx i k))
+    go (no n) (no k) o = omega arith
