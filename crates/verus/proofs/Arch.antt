@@ -11,7 +11,7 @@ use Rattle.entry.specs.Entry.{sizeOf}
 use Rattle.entry.proofs.Levels.{at-levels}
 use Rattle.walk.specs.Walk.{indexOf, baseOf}
 use Rattle.plan.specs.Find.{startsOf}
-use Rattle.verus.specs.Regions.{Aligned, Overlap}
+use Rattle.verus.specs.Regions.{Aligned}
 use Rattle.verus.specs.Mappings.{maxBase, maxPhyaddr}
 use Rattle.verus.specs.Arch.{x86Arch, entrySize, numEntries, indexForVaddr, entryBase, nextEntryBase, upperVaddr, ArchInv, InTable}
 
@@ -135,9 +135,10 @@ ends-inside (suc (suc zero)) (suc (suc (suc s))) idx base va u v a b k = absurd 
 ends-inside (suc (suc (suc zero))) (suc (suc (suc (suc s)))) idx base va u v a b k = absurd (omega arith)
 ends-inside (suc (suc (suc (suc l)))) s idx base va u v a b k = absurd (omega arith)
 
--- NONLINEAR_QUERY2: where a page of an entry and the range that is asked overlap, the entry is the one of that range
+-- NONLINEAR_QUERY2: where a page of an entry and the range that is asked overlap, the entry is the one of that range. Which of the two begins
+-- first is told apart, as in the source's overlap.
 pub overlapping-index : (l s i idx base va b size : ℕ) → l < 4 → s ≤ l → base % sizeOf l ≡ 0 → va % sizeOf s ≡ 0
-    → Overlap (record { base = va; size = sizeOf s }) (record { base = b; size = size })
+    → ((va ≤ b) × (b < va + sizeOf s)) ⊎ ((b < va) × (va < b + size))
     → entryBase (3 - l) base i ≤ b → b < nextEntryBase (3 - l) base i → b + size ≤ nextEntryBase (3 - l) base i
     → entryBase (3 - l) base idx ≤ va → va < nextEntryBase (3 - l) base idx → i ≡ idx
 overlapping-index l s i idx base va b size u v al av o from upto ends here there = go (decLt i idx) (decLt idx i) o
@@ -145,10 +146,9 @@ overlapping-index l s i idx base va b size u v al av o from upto ends here there
     step : (x y : ℕ) → x < y → (x + 1) * entrySize (3 - l) ≤ y * entrySize (3 - l)
     step x y k = mul-le-mul-right (entrySize (3 - l)) (omega arith)
 
-    go : Dec (i < idx) → Dec (idx < i) → ((va ≤ b) × ((va ≡ b) ⊎ (b < va + sizeOf s))) ⊎ ((b < va) × (va < b + size)) → i ≡ idx
+    go : Dec (i < idx) → Dec (idx < i) → ((va ≤ b) × (b < va + sizeOf s)) ⊎ ((b < va) × (va < b + size)) → i ≡ idx
     go (yes k) d (inl (x, y)) = absurd (omega (arith, step i idx k))
     go (yes k) d (inr (x, y)) = absurd (omega (arith, step i idx k))
-    go (no n) (yes k) (inl (x, inl y)) = absurd (omega (arith, step idx i k))
-    go (no n) (yes k) (inl (x, inr y)) = absurd (omega (arith, step idx i k, ends-inside l s idx base va u v al av there))
+    go (no n) (yes k) (inl (x, y)) = absurd (omega (arith, step idx i k, ends-inside l s idx base va u v al av there))
     go (no n) (yes k) (inr (x, y)) = absurd (omega (arith, step idx i k))
     go (no n) (no k) o = omega arith
