@@ -1,5 +1,5 @@
 -- THE NUMBERS OF THE ARCHITECTURE: the source's sizes, indices and ranges are ours.
-use Prim.Native.Nat.{ℕ, zero, suc, _+_, _-_, _*_, _/_, _%_, _^_, _<_, _≤_}
+use Prim.Native.Nat.{ℕ, zero, suc, _+_, _-_, _*_, _%_, _^_, _<_, _≤_}
 use mathlib.Core.Bool.{true}
 use mathlib.Core.Logic.{_↔_, _⊎_, inl, inr}
 use mathlib.Core.Path.{_≡_, refl}
@@ -103,12 +103,21 @@ maxphyaddr-facts = (omega arith, omega arith)
 -- LEMMA_ENTRY_SIZES_ALIGNED and .._INCREASE
 pub entry-sizes : (i j : ℕ) → i ≤ j → j < 4 → (entrySize i % entrySize j ≡ 0) × (entrySize j ≤ entrySize i)
 unfolding x86Arch
-entry-sizes i j u v = at-levels (λ i. i ≤ j → (entrySize i % entrySize j ≡ 0) × (entrySize j ≤ entrySize i))
-    (λ u. at-levels (λ j. (entrySize 0 % entrySize j ≡ 0) × (entrySize j ≤ entrySize 0)) (omega arith, omega arith) (omega arith, omega arith) (omega arith, omega arith) (omega arith, omega arith) j v)
-    (λ u. at-levels (λ j. 1 ≤ j → (entrySize 1 % entrySize j ≡ 0) × (entrySize j ≤ entrySize 1)) (λ w. absurd (omega arith)) (λ w. (omega arith, omega arith)) (λ w. (omega arith, omega arith)) (λ w. (omega arith, omega arith)) j v u)
-    (λ u. at-levels (λ j. 2 ≤ j → (entrySize 2 % entrySize j ≡ 0) × (entrySize j ≤ entrySize 2)) (λ w. absurd (omega arith)) (λ w. absurd (omega arith)) (λ w. (omega arith, omega arith)) (λ w. (omega arith, omega arith)) j v u)
-    (λ u. at-levels (λ j. 3 ≤ j → (entrySize 3 % entrySize j ≡ 0) × (entrySize j ≤ entrySize 3)) (λ w. absurd (omega arith)) (λ w. absurd (omega arith)) (λ w. absurd (omega arith)) (λ w. (omega arith, omega arith)) j v u)
-    i (omega arith) u
+entry-sizes zero zero u v = (omega arith, omega arith)
+entry-sizes zero (suc zero) u v = (omega arith, omega arith)
+entry-sizes zero (suc (suc zero)) u v = (omega arith, omega arith)
+entry-sizes zero (suc (suc (suc zero))) u v = (omega arith, omega arith)
+entry-sizes (suc zero) (suc zero) u v = (omega arith, omega arith)
+entry-sizes (suc zero) (suc (suc zero)) u v = (omega arith, omega arith)
+entry-sizes (suc zero) (suc (suc (suc zero))) u v = (omega arith, omega arith)
+entry-sizes (suc (suc zero)) (suc (suc zero)) u v = (omega arith, omega arith)
+entry-sizes (suc (suc zero)) (suc (suc (suc zero))) u v = (omega arith, omega arith)
+entry-sizes (suc (suc (suc zero))) (suc (suc (suc zero))) u v = (omega arith, omega arith)
+entry-sizes (suc i) zero u v = absurd (omega arith)
+entry-sizes (suc (suc i)) (suc zero) u v = absurd (omega arith)
+entry-sizes (suc (suc (suc i))) (suc (suc zero)) u v = absurd (omega arith)
+entry-sizes (suc (suc (suc (suc i)))) (suc (suc (suc zero))) u v = absurd (omega arith)
+entry-sizes i (suc (suc (suc (suc j)))) u v = absurd (omega arith)
 
 -- ALIGNED_EXEC, of the size of a level: the source asks for no other
 pub aligned-exec : (l va : ℕ) → (startsOf l va ≡ true) ↔ Aligned va (sizeOf l)

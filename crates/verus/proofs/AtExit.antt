@@ -1,12 +1,11 @@
 -- WHAT THE SOURCE PROMISES, OF THE BYTES AT EXIT: from the clauses `answer` and `bytes` of map, unmap and protect (tablepath/src/lib.rt), in a
 -- window in which the space is whole.
-use Prim.Native.Nat.{ℕ, _≤_}
-use mathlib.Core.Bool.{Bool}
+use Prim.Native.Nat.{ℕ}
 use mathlib.Core.List.{List}
-use mathlib.Core.Path.{_≡_, refl, sym, ap, _∙_, subst}
+use mathlib.Core.Path.{_≡_}
 use Rattle.word.specs.Memory.{memory, holds}
 use Rattle.word.specs.Writes.{carried}
-use Rattle.word.proofs.Writes.{holds-carried, memory-carried}
+use Rattle.word.proofs.Writes.{memory-carried}
 use Rattle.entry.specs.declared.Rights.{Rights}
 use Rattle.tables.specs.Roles.{Role}
 use Rattle.pool.specs.declared.Space.{Space}
@@ -20,7 +19,6 @@ use Rattle.tablepath.specs.declared.Unmapped.{Unmapped}
 use Rattle.tablepath.specs.declared.Protected.{Protected}
 use Rattle.tablepath.proofs.SaysAny.{refusal-leaves}
 use Rattle.tablepath.proofs.Wholes.{call-leaves, call-kept}
-use Rattle.verus.specs.Mappings.{Mappings, SameMap}
 use Rattle.verus.specs.AtExit.{InvIn, MapExit, UnmapExit, ProtectExit}
 use Rattle.verus.proofs.Invariant.{inv-holds}
 use Rattle.verus.proofs.MapFrame.{map-ok, map-err}

@@ -1,6 +1,6 @@
 -- IS_DIRECTORY_EMPTY, and a page of zeros (lemma_zeroed_page_implies_empty_at).
-use Prim.Native.Nat.{ℕ, suc, _*_, _<_, _≤_}
-use mathlib.Core.Bool.{Bool, true, false, false≢true}
+use Prim.Native.Nat.{ℕ, suc, _<_, _≤_}
+use mathlib.Core.Bool.{Bool, true, false}
 use mathlib.Core.Logic.{_↔_, _≢_}
 use mathlib.Core.Path.{_≡_, refl, sym, ap, _∙_, subst}
 use native.Mathlib.Decide.{ℕ-discrete}

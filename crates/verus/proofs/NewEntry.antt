@@ -1,18 +1,18 @@
 -- NEW_ENTRY: each clause that the source promises of it, for all its arguments; and the words that we write are those for the arguments that it
 -- is ever given.
 use Prim.Native.Nat.{ℕ, zero, suc, _+_, _*_, _/_, _%_, _^_, _<_, _≤_}
-use mathlib.Core.Bool.{Bool, true, false, not, cond, false≢true}
+use mathlib.Core.Bool.{Bool, true, false, not, false≢true}
 use mathlib.Core.Logic.{_≢_}
 use mathlib.Core.Path.{_≡_, refl, sym, ap, _∙_, subst}
 use native.Mathlib.Omega.{arith}
-use Rattle.entry.specs.Entry.{sizeOf, bit, rightsOf, frameOf, tableOf, says, everything}
+use Rattle.entry.specs.Entry.{sizeOf, bit, rightsOf, frameOf, tableOf, says}
 use Rattle.entry.specs.Words.{flag, largeFlag, pageWord, tableWord}
 use Rattle.entry.specs.declared.Rights.{Rights}
 use Rattle.entry.specs.declared.Entry.the-variants.{Nothing, Page, Table}
 use Rattle.entry.proofs.Fields.{says-absent, says-last, says-table, says-large}
 use Rattle.entry.proofs.Levels.{bit-on, bit-off, large-flag}
 use Rattle.entry.proofs.Written.{flag-lt, bit-flag}
-use Rattle.verus.specs.Entries.{maskedAddress, MustBeZero}
+use Rattle.verus.specs.Entries.{MustBeZero}
 use Rattle.verus.specs.NewEntry.{EntryFlags, rightsAsked, newEntry, EntryFits, of-page, of-directory, NewEntry}
 
 -- a word by its parts: the flags a, b, c, d and x, what bit 7 is, and the page of its address
@@ -155,7 +155,7 @@ module _ (x : EntryFlags) where
 
   -- NEW_ENTRY
   pub new-entry : (l address : ℕ) (is-page : Bool) → EntryFits l address is-page → NewEntry l address is-page x (newEntry l address is-page x)
-  unfolding newEntry largeFlag
+  unfolding newEntry largeFlag sizeOf
   new-entry zero address true (of-page u k v) =
       let p : address ≡ 4096 * (address / 4096) = omega arith in
       subst (λ y. NewEntry 0 y true x (newEntry 0 y true x)) (sym p) (last-entry (address / 4096) (omega arith))

@@ -1,9 +1,9 @@
 -- LEMMA_PT_WALK, for any memory; and the source's walk by its way is the one of specs/Walks.antt.
 use Prim.Native.Nat.{ℕ, zero, suc, _-_, _/_, _%_, _^_, _<_, _≤_}
-use mathlib.Core.Bool.{Bool, true, false}
+use mathlib.Core.Bool.{true}
 use mathlib.Core.List.{List, [], _∷_}
 use mathlib.Core.Logic.{_≢_}
-use mathlib.Core.Option.{Option, none, some}
+use mathlib.Core.Option.{some}
 use mathlib.Core.Path.{_≡_, refl, sym, ap, _∙_, subst}
 use native.Mathlib.Omega.{arith}
 use lib.ListN.{length}
@@ -14,8 +14,8 @@ use Rattle.entry.specs.declared.Entry.{Entry}
 use Rattle.entry.specs.declared.Entry.the-variants.{Nothing, Page, Table}
 use Rattle.entry.proofs.Fields.{last-no-table}
 use Rattle.entry.proofs.Parts.{root-no-page}
-use Rattle.verus.specs.Regions.{Flags, PTE, fromBits, combine}
-use Rattle.verus.specs.Walks.{WalkResult, Valid, Invalid, invalid, layer0, layer1, layer2, layer3, ptWalk}
+use Rattle.verus.specs.Regions.{Flags, PTE, combine}
+use Rattle.verus.specs.Walks.{Valid, invalid, layer0, layer1, layer2, layer3, ptWalk}
 use Rattle.verus.specs.Paths.{Stop, stop, beyond0, beyond1, beyond2, ptPath, fromEntry, ended, result, stopAt, IsDirectory, PtWalkFacts}
 use Rattle.verus.proofs.Entries.{present-bit}
 

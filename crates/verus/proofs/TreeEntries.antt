@@ -5,8 +5,7 @@ use mathlib.Core.Path.{_≡_, refl, sym, ap, _∙_, subst}
 use native.Mathlib.Decide.{ℕ-discrete, decLt}
 use native.Mathlib.Nat.{suc-mul, mul-le-mul-right}
 use native.Mathlib.Omega.{arith}
-use Rattle.entry.specs.Entry.{sizeOf, everything}
-use Rattle.entry.specs.declared.Rights.{Rights}
+use Rattle.entry.specs.Entry.{sizeOf}
 use Rattle.entry.specs.declared.Entry.{Entry}
 use Rattle.entry.specs.declared.Entry.the-variants.{Nothing, Page, Table}
 use Rattle.entry.proofs.Fields.{last-no-table}

@@ -19,7 +19,7 @@ use Rattle.tablepath.specs.declared.Unmapped.the-variants as unmapped
 use Rattle.tablepath.specs.declared.Altered.{Altered}
 use Rattle.tablepath.specs.declared.Protected.{Protected}
 use Rattle.tablepath.specs.declared.Protected.the-variants as protected
-use Rattle.verus.specs.Regions.{PTE, pteOf}
+use Rattle.verus.specs.Regions.{pteOf}
 use Rattle.verus.specs.Mappings.{Mappings, ContainsKey, CandidateOverlaps, AcceptedMapping, SameMap, inserted, removed}
 use Rattle.verus.specs.Order.{meant}
 use Rattle.verus.specs.Operations.{InvAfter}

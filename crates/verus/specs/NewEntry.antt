@@ -4,7 +4,7 @@ use Prim.Native.Nat.{ℕ, _+_, _*_, _/_, _%_, _^_, _<_, _≤_}
 use mathlib.Core.Bool.{Bool, true, false, not, cond}
 use mathlib.Core.Logic.{_≢_}
 use mathlib.Core.Path.{_≡_}
-use Rattle.entry.specs.Entry.{bit, says}
+use Rattle.entry.specs.Entry.{sizeOf, bit, says}
 use Rattle.entry.specs.Words.{flag, largeFlag}
 use Rattle.entry.specs.declared.Rights.{Rights}
 use Rattle.entry.specs.declared.Entry.the-variants.{Page, Table}
@@ -29,7 +29,7 @@ newEntry l address is-page x =
 
 -- what it requires of layer and address: those of a page, or of a directory
 pub data EntryFits (l address : ℕ) : Bool → Type 0 where
-  of-page : l ≤ 2 → address % (4096 * 512 ^ l) ≡ 0 → address < 2 ^ 52 → EntryFits l address true
+  of-page : l ≤ 2 → address % sizeOf l ≡ 0 → address < 2 ^ 52 → EntryFits l address true
   of-directory : l ≢ 0 → l ≤ 3 → address % 4096 ≡ 0 → address < 2 ^ 52 → EntryFits l address false
 
 -- what it ensures
