@@ -23,4 +23,4 @@ pub mod WayInPool
 pub mod MapInPool
 pub mod UnmapInPool
 pub mod InPool
-pub mod Exact
+pub mod WordsKept

@@ -1,14 +1,14 @@
 -- What a list of writes leaves of the words of one page; and that map's tables and links are words as we write them.
-use Prim.Native.Nat.{ℕ, zero, suc, _+_, _-_, _*_, _%_, _^_, _<_, _≤_}
+use Prim.Native.Nat.{ℕ, zero, suc, _+_, _-_, _*_, _^_, _<_, _≤_}
 use mathlib.Core.Bool.{Bool, true, false, cond}
 use mathlib.Core.List.{List, [], _∷_, _++_}
-use mathlib.Core.Path.{_≡_, refl, sym, ap, _∙_, subst}
+use mathlib.Core.Path.{_≡_, refl, sym, subst}
 use native.Mathlib.Decide.{ℕ-discrete}
 use native.Mathlib.Omega.{arith}
 use borrow.Author.Tests.{ltb-true, lt-leb}
 use lib.Dec.{leb, ltb}
 use Rattle.word.specs.Memory.{at, set}
-use Rattle.word.specs.Writes.{Write, write, after, zeros, Proper, Every, none, more}
+use Rattle.word.specs.Writes.{Write, write, after, zeros, Every, none, more}
 use Rattle.word.proofs.Set.{set-at, set-other}
 use Rattle.word.proofs.Writes.{after-append, after-zeros}
 use Rattle.entry.specs.Entry.{sizeOf, everything}

@@ -1,12 +1,11 @@
 -- What keeps bit 12 of a large page 0: its own word, marks, and other rights.
-use Prim.Native.Nat.{ℕ, zero, suc, _+_, _*_, _/_, _%_, _^_, _<_, _≤_}
+use Prim.Native.Nat.{ℕ, zero, suc, _+_, _*_, _/_, _%_, _^_, _<_}
 use mathlib.Core.Bool.{false}
-use mathlib.Core.Logic.{_≢_}
 use mathlib.Core.Path.{_≡_, refl, sym, ap, _∙_, subst}
 use native.Mathlib.Omega.{arith}
 use Rattle.entry.specs.Entry.{sizeOf, bit, says}
 use Rattle.entry.specs.Pat.{PatClear}
-use Rattle.entry.specs.Kept.{SameButRights, regranted}
+use Rattle.entry.specs.Kept.{regranted}
 use Rattle.entry.specs.Marks.{Marked}
 use Rattle.entry.specs.Words.{flag, largeFlag, pageWord, withRights}
 use Rattle.entry.specs.declared.Rights.{Rights}

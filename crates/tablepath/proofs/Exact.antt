@@ -22,9 +22,8 @@ use Rattle.entry.proofs.Parts.{root-no-page}
 use Rattle.world.specs.Events.{Event, after}
 use Rattle.world.proofs.Events.{after-append}
 use Rattle.world.specs.Marks.{writes}
-use Rattle.tables.specs.Roles.{Role, foreign, free, book, root, left, Live, Exact}
+use Rattle.tables.specs.Roles.{foreign, free, book, root, left, Exact}
 use Rattle.tables.proofs.Meaning.{live-home}
-use Rattle.tables.specs.Clearing.{eventsOf}
 use Rattle.tables.proofs.Clearing.{events-after}
 use Rattle.pool.specs.Layout.{bookPages}
 use Rattle.pool.specs.Book.{bookOf, dueOf}
@@ -49,7 +48,7 @@ use Rattle.effect.proofs.MapDone.{decided-done, map-exact}
 use Rattle.effect.proofs.UnmapDone.{unmapped}
 use Rattle.effect.proofs.ProtectDone.{protected}
 use Rattle.effect.proofs.ToldDone as effect
-use Rattle.effect.proofs.Exact.{unmap-exact, protect-exact, told-exact}
+use Rattle.effect.proofs.WordsKept.{unmap-exact, protect-exact, told-exact}
 use Rattle.tablepath.specs.Answers.{mapWrites, unmapWrites, protectWrites, toldWrites, toldDid, dueDid}
 use Rattle.tablepath.specs.Calls.{Call, callWrites, PoolWord, Remarked, Saw, Act, actWrites, wrote, Runs, Reached}
 use Rattle.tablepath.specs.Calls as calls

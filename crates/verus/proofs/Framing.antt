@@ -53,7 +53,7 @@ use Rattle.effect.proofs.ProtectDone.{with-rights-lt}
 use Rattle.effect.proofs.UnmapInPool.{UnmapWent}
 use Rattle.effect.proofs.WayInPool.{entry-in-pool}
 use Rattle.verus.specs.Trees.{UsedBy, itself, below}
-use Rattle.verus.specs.Order.{InBook, KeepsWords, FramedBySubtrees, InnerFirst}
+use Rattle.verus.specs.Order.{InBook, FramedBySubtrees, InnerFirst}
 use Rattle.verus.proofs.Invariant.{used-low, used-live}
 
 -- The way ----------------------------------------------------------------------------------------------------------------------------
@@ -67,7 +67,7 @@ module _ {σ : Setting} {m : ℕ → ℕ} {va : ℕ} where
   way-lifts : {k l s t p : ℕ} → Comes σ m va (suc k) s → Comes σ m va (suc l) t → k ≤ l → UsedBy m k s p → UsedBy m l t p
   way-lifts (begin e f u) d v x = level-same (omega (arith, comes-top d)) (begin e f u) d x
   way-lifts {k} {l} {s} (onto r g c e) d v x = elim (ℕ-discrete k l) [
-    yes z ↦ level-same z (onto r g c e) d x
+    | yes z ↦ level-same z (onto r g c e) d x
     | no z ↦ way-lifts c d (omega arith) (below (indexOf (suc k) va) s g (index-lt (suc k) va) e x)
   ]
 
@@ -75,7 +75,7 @@ module _ {σ : Setting} {m : ℕ → ℕ} {va : ℕ} where
   way-ends : {k l s t : ℕ} → Comes σ m va (suc l) t → Comes σ m va (suc k) s → Plain (entryAt m k s (indexOf k va)) → k ≤ l
   way-ends (begin e f u) d n = omega (arith, comes-top d)
   way-ends {k} {l} {s} {t} (onto r g c e) d n = elim (ℕ-discrete k (suc l)) [
-    yes z ↦ absurd (n t g (subst₂ (λ x y. entryAt m x y (indexOf x va) ≡ Table t g) (sym z) (comes-same c (subst (λ x. Comes σ m va (suc x) s) z d)) e))
+    | yes z ↦ absurd (n t g (subst₂ (λ x y. entryAt m x y (indexOf x va) ≡ Table t g) (sym z) (comes-same c (subst (λ x. Comes σ m va (suc x) s) z d)) e))
     | no z ↦ omega (arith, way-ends c d n)
   ]
 
@@ -109,9 +109,9 @@ module _ {h : ℕ → Bool} {sp : Space} {m : ℕ → ℕ} {role : ℕ → Role}
   third : Every Touched (growOf (p .base) (p .target) (p .fresh .c) (reached2 p)) × Touched (reached3 p .table)
   third = grow-touches (p .fresh .c) (reached2 p)
       (λ u.
-          let e = next-above (p .target) (p .fresh .b) (reached1 p) u in
-          let f = next-above (p .target) (p .fresh .a) (reached0 p) (omega arith) in
-          inr (inl (2, omega arith, k .supplied .third (omega arith))))
+      let e = next-above (p .target) (p .fresh .b) (reached1 p) u in
+      let f = next-above (p .target) (p .fresh .a) (reached0 p) (omega arith) in
+      inr (inl (2, omega arith, k .supplied .third (omega arith))))
       (second .1)
 
   word-small : p .word < 2 ^ 64

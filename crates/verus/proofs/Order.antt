@@ -17,7 +17,7 @@ use Rattle.world.proofs.Events.{all-map, all-both, all-first, all-last, all-fro
 use Rattle.world.specs.Walker as walker
 use Rattle.world.specs.Walker.{Walker}
 use Rattle.world.specs.OneChange.{SameMeaning, Quiet, OneChange}
-use Rattle.tables.specs.Roles.{Setting, Role, Built}
+use Rattle.tables.specs.Roles.{Role, Built}
 use Rattle.tables.specs.Meaning.{meaning}
 use Rattle.tables.proofs.Meaning.{never-outside}
 use Rattle.tables.specs.Discipline.{walkerOf}
@@ -32,13 +32,9 @@ use Rattle.pool.proofs.Pages.{root-page}
 use Rattle.plan.specs.Map as map
 use Rattle.plan.specs.Unmap as unmap
 use Rattle.plan.specs.Protect as protect
-use Rattle.plan.specs.declared.maps.Asked.{Asked}
 use Rattle.plan.specs.declared.maps.Mapping.{Mapping}
 use Rattle.plan.specs.declared.unmaps.Removal.{Removal}
 use Rattle.plan.specs.declared.protects.Change.{Change}
-use Rattle.effect.specs.Whole.{Whole}
-use Rattle.effect.specs.MapDone.{MapDone}
-use Rattle.effect.specs.UnmapDone.{UnmapDone}
 use Rattle.effect.proofs.Located.{Located}
 use Rattle.effect.proofs.MapBook.{bookWrites, book-writes-proper}
 use Rattle.effect.proofs.MapBuilt.{PageLast}

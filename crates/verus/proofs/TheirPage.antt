@@ -1,9 +1,7 @@
 -- A 4 KIB PAGE'S ENTRY AS THE SOURCE WRITES IT, with bit 7, keeps our invariant: what the operations ask for is met by its trees.
-use Prim.Native.Nat.{ℕ, suc, _+_, _*_, _/_, _%_, _^_, _<_}
-use mathlib.Core.List.{[], _∷_}
+use Prim.Native.Nat.{ℕ, _+_, _*_, _/_, _%_, _^_, _<_}
 use mathlib.Core.Path.{_≡_, refl, sym, ap, _∙_, subst}
 use native.Mathlib.Omega.{arith}
-use lib.Dec.{eqb}
 use Rattle.word.specs.Memory.{at, set}
 use Rattle.entry.specs.Entry.{sizeOf, bit, rightsOf, frameOf, says}
 use Rattle.entry.specs.Words.{flag, largeFlag, pageWord}

@@ -1,14 +1,13 @@
 -- EVERY OPERATION KEEPS THE ENTRIES AS WE WRITE THEM, though none needs it: unmap, protect and told (map: MapDone.antt).
 use Prim.Native.Nat.{ℕ, _+_, _^_, _<_}
 use mathlib.Core.Bool.{Bool, true, false, cond}
-use mathlib.Core.List.{List, [], _∷_, _++_}
+use mathlib.Core.List.{[], _∷_}
 use mathlib.Core.Logic.{_⊎_, inl, inr}
 use mathlib.Core.Path.{_≡_, refl, sym, ap, _∙_, subst}
 use native.Mathlib.Omega.{arith}
 use borrow.Author.Tests.{leb-false}
 use lib.Dec.{leb}
-use Rattle.word.specs.Memory.{at}
-use Rattle.word.specs.Writes.{Write, write, after}
+use Rattle.word.specs.Writes.{write, after}
 use Rattle.entry.specs.Clean.{Clean}
 use Rattle.entry.specs.Words.{withRights}
 use Rattle.entry.specs.declared.Rights.{Rights}
@@ -23,7 +22,7 @@ use Rattle.pool.specs.Changes.{asideWrites, releaseWrites}
 use Rattle.pool.specs.declared.Space.{Space}
 use Rattle.pool.specs.declared.Book.{Book}
 use Rattle.pool.specs.declared.Due.the-variants as due
-use Rattle.pool.proofs.Proper.{OfBook, aside-proper, release-proper}
+use Rattle.pool.proofs.Proper.{aside-proper, release-proper}
 use Rattle.pool.proofs.Releasing.{release-shifted}
 use Rattle.plan.specs.Find.{findOf}
 use Rattle.plan.specs.Unmap as unmap
