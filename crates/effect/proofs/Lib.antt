@@ -4,6 +4,7 @@ pub mod MapPlan
 pub mod MapSteps
 pub mod MapBook
 pub mod Unmarking
+pub mod Words
 pub mod MapBuilt
 pub mod MapVerdict
 pub mod MapDone
@@ -22,3 +23,4 @@ pub mod WayInPool
 pub mod MapInPool
 pub mod UnmapInPool
 pub mod InPool
+pub mod WordsKept

@@ -2,27 +2,35 @@
 use Prim.Native.Nat.{ℕ, zero, suc, _+_, _-_, _%_, _^_, _<_, _≤_}
 use mathlib.Core.Bool.{Bool, true, false, cond}
 use mathlib.Core.List.{List, [], _∷_, _++_, append-assoc}
-use mathlib.Core.Logic.{_≢_}
+use mathlib.Core.Logic.{_⊎_, inl, inr, _≢_}
 use mathlib.Core.Path.{_≡_, refl, sym, ap, _∙_, subst}
+use native.Mathlib.Decide.{ℕ-discrete}
 use native.Mathlib.Omega.{arith}
-use borrow.Author.Tests.{leb-true, leb-false}
+use borrow.Author.Tests.{leb-true, leb-false, lt-leb}
 use lib.Dec.{leb}
+use Rattle.word.specs.Memory.{at}
 use Rattle.word.specs.Writes.{Write, write, after, Every}
 use Rattle.word.proofs.Writes.{every-one, every-append, every-map}
 use Rattle.entry.specs.Entry.{sizeOf, says}
 use Rattle.entry.specs.Clean.{Clean}
+use Rattle.entry.specs.Pat.{PatClear}
 use Rattle.entry.specs.Words.{largeFlag, pageWord}
 use Rattle.entry.specs.declared.Rights.{Rights}
 use Rattle.entry.specs.declared.Entry.the-variants.{Nothing, Page}
 use Rattle.entry.proofs.Clean.{page-clean}
+use Rattle.entry.proofs.Pat.{page-pat}
 use Rattle.entry.proofs.Written.{FrameFits, flag-lt, page-word-says}
 use Rattle.walk.specs.Walk.{indexOf, baseOf}
 use Rattle.walk.specs.declared.Found.{Found}
 use Rattle.walk.specs.declared.Found.the-variants as found
 use Rattle.walk.proofs.Digits.{index-lt}
-use Rattle.tables.specs.Roles.{Setting, Role, foreign, book, Home, entryAt}
+use Rattle.world.specs.OneChange.{Quiet}
+use Rattle.tables.specs.Roles.{Setting, Role, foreign, book, left, Home, entryAt, Exact}
 use Rattle.tables.specs.Way.{Comes}
-use Rattle.tables.proofs.Clearing.{book-spare}
+use Rattle.tables.proofs.Way.{comes-left}
+use Rattle.tables.specs.Discipline.{walkerOf}
+use Rattle.tables.specs.Clearing.{eventsOf}
+use Rattle.tables.proofs.Clearing.{Spare, book-spare, spare-untouched}
 use Rattle.tables.proofs.Down.{down-start, map-done}
 use Rattle.tables.specs.Operation.{Changed}
 use Rattle.tables.proofs.Operation.{changed-sound, changed-spare}
@@ -45,9 +53,10 @@ use Rattle.effect.proofs.MapBook.{bookWrites, book-writes-proper, took-
 use Rattle.effect.proofs.MapPlan.{Planned, size-small}
 use Rattle.effect.proofs.Wholes.{owned}
 use Rattle.effect.proofs.MapSteps.{MayBeTable, Grown, grown-start, grown-step}
+use Rattle.effect.proofs.Words.{Each, each-append, each-one, each-elsewhere, after-has, Sets, sets-then, sets-behind, grow-each, grow-sets}
 
 -- a step that stays above the target went down one level
-next-above : (target p : ℕ) (s : TableReached) → target < nextOf target p s .level → nextOf target p s .level + 1 ≡ s .level
+pub next-above : (target p : ℕ) (s : TableReached) → target < nextOf target p s .level → nextOf target p s .level + 1 ≡ s .level
 unfolding nextOf
 next-above target p s = go (leb (s .level) target) refl
   where
@@ -76,6 +85,29 @@ recast {σ} {m} {n} {role} {role'} {va} {va'} {l} {l'} {o} {o'} {xs} {xs'} a b c
     settled (subst (λ (x : List Write). Changed σ m role va' l' o' x n role') d
     (subst (λ (x : Found). Changed σ m role va' l' x xs n role') c
     (subst (λ x. Changed σ m role va' x o xs n role') b (subst (λ x. Changed σ m role x l o xs n role') a k))))
+
+-- the page's entry is the last word of a table that is written: up to it, and from it on, no address's meaning changes
+pub record PageLast (h : ℕ → Bool) (sp : Space) (m : ℕ → ℕ) (p : Mapping) : Type 0 where
+  pub front : List Write
+  pub table : ℕ
+  pub index : ℕ
+  pub split : front ++ (write table index (p .word) ∷ []) ≡ buildOf p
+  pub before : Quiet (walkerOf (settingOf h sp)) m (eventsOf front)
+  pub behind : Quiet (walkerOf (settingOf h sp)) (after m (buildOf p)) (eventsOf (bookWrites sp (p .fresh .book) (p .fresh .need)))
+
+-- a page is one of a list, or it is none
+search : (f : ℕ → ℕ) (q n : ℕ) → ((j : ℕ) → j < n → f j ≢ q) ⊎ ((j : ℕ) × (j < n) × (f j ≡ q))
+search f q zero = inl (λ j u. absurd (omega arith))
+search f q (suc n) = go (search f q n) (ℕ-discrete (f n) q)
+  where
+    go : ((j : ℕ) → j < n → f j ≢ q) ⊎ ((j : ℕ) × (j < n) × (f j ≡ q)) → Dec (f n ≡ q) → ((j : ℕ) → j < suc n → f j ≢ q) ⊎ ((j : ℕ) × (j < suc n) × (f j ≡ q))
+    go (inr (j, u, e)) d = inr (j, omega arith, e)
+    go (inl k) (yes e) = inr (n, omega arith, e)
+    go (inl k) (no e) = inl (λ j u. elim (ℕ-discrete j n) [ yes z ↦ λ x. e (ap f (sym z) ∙ x) | no z ↦ k j (omega arith) ])
+
+next-level : (target p : ℕ) (s : TableReached) → target < s .level → nextOf target p s .level ≡ s .level - 1
+unfolding nextOf
+next-level target p s u = rw (lt-leb (s .level) target u)
 
 module _ {h : ℕ → Bool} {sp : Space} {m : ℕ → ℕ} {role : ℕ → Role} (w : Whole h sp m role) {q : Asked} {p : Mapping} (k : Planned h sp m q p) where
   -- the page at position j is for the step that has gone down j levels
@@ -148,8 +180,8 @@ module _ {h : ℕ → Bool} {sp : Space} {m : ℕ → ℕ} {role : ℕ → Role}
   word-says : says (p .target) (p .word) ≡ Page (q .frame) (q .rights)
   word-says = rw (k .word-is) (page-word-says (p .target) (q .frame) (q .rights) frame-fits)
 
-  word-clean : Clean (p .target) (p .word)
-  word-clean = subst (Clean (p .target)) (sym (k .word-is)) (page-clean (p .target) (q .frame) (q .rights) frame-fits)
+  word-pat : PatClear (p .target) (p .word)
+  word-pat = subst (PatClear (p .target)) (sym (k .word-is)) (page-pat (p .target) (q .frame) (q .rights) frame-fits)
 
   -- what the range has then, in the numbers that were asked
   result : found.Page (baseOf (p .target) (p .base)) (sizeOf (p .target)) (q .frame) (q .rights) ≡ found.Page (q .base) (q .size) (q .frame) (q .rights)
@@ -162,7 +194,7 @@ module _ {h : ℕ → Bool} {sp : Space} {m : ℕ → ℕ} {role : ℕ → Role}
   built : Changed (settingOf h sp) m role (q .base) (p .target) (found.Page (q .base) (q .size) (q .frame) (q .rights)) (buildOf p) (after m (buildOf p)) (grown3 .roles)
   built =
       recast (k .base-is) there (ap (λ x. found.Page (baseOf x (p .base)) (sizeOf x) (q .frame) (q .rights)) there ∙ result) build-is
-      (map-done (p .word) (q .frame) (q .rights) (grown3 .down) (grown3 .nothing) (rw there word-says) (rw there (rw (k .fitted .size-is) at (k .apart))) (subst (λ x. Clean x (p .word)) (sym there) word-clean))
+      (map-done (p .word) (q .frame) (q .rights) (grown3 .down) (grown3 .nothing) (rw there word-says) (rw there (rw (k .fitted .size-is) at (k .apart))) (subst (λ x. PatClear x (p .word)) (sym there) word-pat))
 
   places : Every (MayBeTable h sp) (buildOf p)
   places =
@@ -183,11 +215,23 @@ module _ {h : ℕ → Bool} {sp : Space} {m : ℕ → ℕ} {role : ℕ → Role}
       took-behind-keeps (w .booked) (buildOf p) (every-map (λ x u. u .behind) (buildOf p) places) (p .fresh .need) (p .fresh .book)
       (omega (arith, k .supplied .need-is, k .supplied .room)) (λ u. k .supplied .book-is (omega (arith, k .supplied .need-is)))
 
+  book-writes-spare : Every (Spare (grown3 .roles)) (bookWrites sp (p .fresh .book) (p .fresh .need))
+  book-writes-spare = every-map (λ x u. book-spare (grown3 .roles) x (booked .in-book x (u .0) (u .1))) _ (book-writes-proper sp (p .fresh .book) (p .fresh .need))
+
   changed : Changed (settingOf h sp) m role (q .base) (p .target) (found.Page (q .base) (q .size) (q .frame) (q .rights)) (writesOf sp p) (after m (writesOf sp p)) (grown3 .roles)
   unfolding writesOf
-  changed =
-      settled (changed-spare (bookWrites sp (p .fresh .book) (p .fresh .need)) built
-      (every-map (λ x u. book-spare (grown3 .roles) x (booked .in-book x (u .0) (u .1))) _ (book-writes-proper sp (p .fresh .book) (p .fresh .need))))
+  changed = settled (changed-spare (bookWrites sp (p .fresh .book) (p .fresh .need)) built book-writes-spare)
+
+  -- THE CHANGE IS THE LAST WRITE OF A TABLE
+  pub page-last : PageLast h sp m p
+  page-last = record {
+    front = (grow1 ++ grow2) ++ grow3;
+    table = reached3 p .table;
+    index = indexOf (reached3 p .level) (p .base);
+    split = build-is;
+    before = grown3 .down .quiet;
+    behind = spare-untouched (bookWrites sp (p .fresh .book) (p .fresh .need)) (built .turns .built) book-writes-spare .quiet;
+  }
 
   whole : Whole h sp (after m (writesOf sp p)) (grown3 .roles)
   whole = record { stands = w .stands; small = w .small; sound = changed-sound changed; booked = booked; alone = alone-after sp m (writesOf sp p) (map-unmarking sp p (page-unmarked (p .target) (p .word) _ _ word-says)) (w .alone) }
@@ -235,3 +279,64 @@ module _ {h : ℕ → Bool} {sp : Space} {m : ℕ → ℕ} {role : ℕ → Role}
     proper = proper;
     numbers = numbers;
   }
+
+  word-clean : Clean (p .target) (p .word)
+  word-clean = subst (Clean (p .target)) (sym (k .word-is)) (page-clean (p .target) (q .frame) (q .rights) frame-fits)
+
+  -- ENTRIES AS WE WRITE THEM stay so
+  pub planned-exact : Exact m role → Exact (after m (writesOf sp p)) (planned-done .role')
+  unfolding planned-done writesOf buildOf
+  planned-exact exact x l i live u = go (search (pageAt m sp) x (p .fresh .need))
+    where
+      each1 : Each x (Clean l) grow1
+      each1 = grow-each x l (p .base) (p .target) (p .fresh .a) (reached0 p)
+
+      each2 : Each x (Clean l) grow2
+      each2 = grow-each x l (p .base) (p .target) (p .fresh .b) (reached1 p)
+
+      each3 : Each x (Clean l) grow3
+      each3 = grow-each x l (p .base) (p .target) (p .fresh .c) (reached2 p)
+
+      each-page : Each x (Clean l) page
+      each-page = each-one (reached3 p .table) (indexOf (reached3 p .level) (p .base)) (p .word) (index-lt (reached3 p .level) (p .base)) (λ e.
+          let level : p .target ≡ l = omega (arith, live, there, comes-left (grown3 .down .built) (grown3 .down .comes), ap (λ y. left (grown3 .roles y)) e) in
+          subst (λ y. Clean y (p .word)) level word-clean)
+
+      each-book : Each x (Clean l) (bookWrites sp (p .fresh .book) (p .fresh .need))
+      each-book = each-elsewhere (λ y o e. omega (arith, live, ap left (booked .in-book y (o .0) (o .1)), ap (λ z. left (grown3 .roles z)) e)) _
+          (book-writes-proper sp (p .fresh .book) (p .fresh .need))
+
+      first : 0 < p .fresh .need → p .fresh .a ≡ x → Sets x (Clean l) i (writesOf sp p)
+      first v e =
+          sets-then x (Clean l) u (grow1 ++ (grow2 ++ (grow3 ++ page))) _
+          (sets-then x (Clean l) u grow1 _ (grow-sets x l (p .base) (p .target) (p .fresh .a) (reached0 p) (omega (arith, k .supplied .need-is)) e i u)
+          (each-append grow2 _ each2 (each-append grow3 _ each3 each-page))) each-book
+
+      second : 1 < p .fresh .need → p .fresh .b ≡ x → Sets x (Clean l) i (writesOf sp p)
+      second v e =
+          let one = next-level (p .target) (p .fresh .a) (reached0 p) (omega (arith, k .supplied .need-is)) in
+          sets-then x (Clean l) u (grow1 ++ (grow2 ++ (grow3 ++ page))) _
+          (sets-behind x (Clean l) u grow1 _ (sets-then x (Clean l) u grow2 _ (grow-sets x l (p .base) (p .target) (p .fresh .b) (reached1 p) (omega (arith, one, k .supplied .need-is)) e i u)
+          (each-append grow3 _ each3 each-page))) each-book
+
+      third : 2 < p .fresh .need → p .fresh .c ≡ x → Sets x (Clean l) i (writesOf sp p)
+      third v e =
+          let one = next-level (p .target) (p .fresh .a) (reached0 p) (omega (arith, k .supplied .need-is)) in
+          let two = next-level (p .target) (p .fresh .b) (reached1 p) (omega (arith, one, k .supplied .need-is)) in
+          sets-then x (Clean l) u (grow1 ++ (grow2 ++ (grow3 ++ page))) _
+          (sets-behind x (Clean l) u grow1 _ (sets-behind x (Clean l) u grow2 _ (sets-then x (Clean l) u grow3 _
+          (grow-sets x l (p .base) (p .target) (p .fresh .c) (reached2 p) (omega (arith, one, two, k .supplied .need-is)) e i u) each-page))) each-book
+
+      few : p .fresh .need ≤ 3
+      few = omega (arith, k .supplied .need-is, k .low)
+
+      new : (j : ℕ) → j < p .fresh .need → pageAt m sp j ≡ x → Sets x (Clean l) i (writesOf sp p)
+      new zero v e = first v (k .supplied .first (omega (arith, k .supplied .need-is)) ∙ e)
+      new (suc zero) v e = second v (k .supplied .second (omega (arith, k .supplied .need-is)) ∙ e)
+      new (suc (suc zero)) v e = third v (k .supplied .third (omega (arith, k .supplied .need-is)) ∙ e)
+      new (suc (suc (suc j))) v e = absurd (omega (arith, few))
+
+      go : ((j : ℕ) → j < p .fresh .need → pageAt m sp j ≢ x) ⊎ ((j : ℕ) × (j < p .fresh .need) × (pageAt m sp j ≡ x)) → Clean l (after m (writesOf sp p) (at x i))
+      go (inl n) = after-has (writesOf sp p) m i u (each-append (grow1 ++ (grow2 ++ (grow3 ++ page))) _ (each-append grow1 _ each1 (each-append grow2 _ each2 (each-append grow3 _ each3 each-page))) each-book)
+          (exact x l i (ap left (sym (taken .stays x n)) ∙ live) u)
+      go (inr (j, v, e)) = new j v e m

@@ -5,7 +5,7 @@ use mathlib.Core.Path.{_≡_, subst}
 use native.Mathlib.Omega.{arith}
 use Rattle.word.specs.Writes.{after}
 use Rattle.walk.specs.declared.Found.the-variants as found
-use Rattle.tables.specs.Roles.{Role}
+use Rattle.tables.specs.Roles.{Role, Exact}
 use Rattle.tables.proofs.Edits.{turns-inside, turns-outside}
 use Rattle.tables.specs.Meaning.{meaning}
 use Rattle.tables.proofs.Overlap.{aligned-base}
@@ -17,7 +17,7 @@ use Rattle.plan.specs.declared.maps.Mapping.{Mapping}
 use Rattle.plan.specs.Map.{Placed, Go, decideOf, writesOf}
 use Rattle.effect.specs.MapDone.{MapDone}
 use Rattle.effect.specs.Whole.{Whole}
-use Rattle.effect.proofs.MapBuilt.{planned-done}
+use Rattle.effect.proofs.MapBuilt.{planned-done, planned-exact}
 use Rattle.effect.proofs.MapPlan.{Planned}
 use Rattle.effect.proofs.MapVerdict.{MapVerdict, refuses, goes, verdict}
 
@@ -32,6 +32,11 @@ module _ {h : ℕ → Bool} {sp : Space} {m : ℕ → ℕ} {role : ℕ → Role}
   -- MAP, DONE
   pub decided-done : (p : Mapping) → decideOf h m sp q ≡ Go p → MapDone h sp m role q p
   decided-done p e = planned-done w (decided-planned p e)
+
+  -- entries as we write them stay so
+  pub map-exact : Exact m role → (p : Mapping) (e : decideOf h m sp q ≡ Go p) → Exact (after m (writesOf sp p)) (decided-done p e .role')
+  unfolding decided-done
+  map-exact exact p e = planned-exact w (decided-planned p e) exact
 
   module _ (p : Mapping) (d : MapDone h sp m role q p) where
     base-is : baseOf (p .target) (q .base) ≡ q .base

@@ -54,7 +54,7 @@ book-in-pool sp f = every-map (λ q u. (u .0, omega (arith, u .1, f .enough)))
 
 -- Words --------------------------------------------------------------------------------------------------------------------------
 
-link-lt : (p : ℕ) → linkOf p < 2 ^ 64
+pub link-lt : (p : ℕ) → linkOf p < 2 ^ 64
 unfolding linkOf tableWord
 link-lt p = go (ltb p (2 ^ 40)) refl
   where

@@ -8,11 +8,11 @@ use Rattle.word.specs.Writes.{Write, write, after, Every}
 use Rattle.word.proofs.Writes.{every-one}
 use Rattle.entry.specs.Entry.{says}
 use Rattle.entry.specs.Words.{withRights}
-use Rattle.entry.specs.Clean.{Clean}
+use Rattle.entry.specs.Pat.{PatClear}
 use Rattle.entry.specs.Kept.{regranted}
 use Rattle.entry.specs.declared.Rights.{Rights}
 use Rattle.entry.specs.declared.Entry.the-variants as entry
-use Rattle.entry.proofs.Clean.{rights-clean}
+use Rattle.entry.proofs.Pat.{rights-pat}
 use Rattle.entry.proofs.Written.{flag-lt}
 use Rattle.entry.proofs.OtherRights.{with-rights-says, with-rights-kept, with-rights-marks}
 use Rattle.walk.specs.Walk.{indexOf}
@@ -106,12 +106,12 @@ module _ {h : ℕ → Bool} {sp : Space} {m : ℕ → ℕ} {role : ℕ → Role}
       says-it : says l v ≡ entry.Page (s .frame) r
       says-it = with-rights-says l (s .way .word) r ∙ ap (regranted r) (ap (says l) (k .traced .word) ∙ k .entry) ∙ unfold regranted in refl
 
-      clean-it : Clean l v
-      clean-it = rights-clean l (s .way .word) r (k .low) (subst (Clean l) (sym (k .traced .word)) (w .sound .built .clean q l i (k .live) (index-lt l va)))
+      pat-it : PatClear l v
+      pat-it = rights-pat l (s .way .word) r (subst (PatClear l) (sym (k .traced .word)) (w .sound .built .pat q l i (k .live) (index-lt l va)))
 
       done : Changed (settingOf h sp) m role va l (found.Page va (s .size) (s .frame) r) xs (after m xs) role
       done = subst₂ (λ x y. Changed (settingOf h sp) m role va l (found.Page x y (s .frame) r) xs (after m xs) role) (k .base) (sym (k .size-is))
-          (protect-done v (s .frame) (k .rights) r (w .sound) (k .comes) (k .entry) says-it clean-it)
+          (protect-done v (s .frame) (k .rights) r (w .sound) (k .comes) (k .entry) says-it pat-it)
 
   -- a page that is found could be given any rights, as an older version of this library did: the space would be whole all the same
   pub regranted-done : (s : PageEntry) → findOf h m sp va ≡ sought.Found s → ProtectDone h sp m role va r (changeOf va s r (ticketIn (bookOf m sp)))

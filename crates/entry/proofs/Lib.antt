@@ -5,3 +5,4 @@ pub mod Marks
 pub mod OtherRights
 pub mod Parts
 pub mod Clean
+pub mod Pat

@@ -3,3 +3,4 @@ pub mod Words
 pub mod Marks
 pub mod Kept
 pub mod Clean
+pub mod Pat

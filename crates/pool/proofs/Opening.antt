@@ -9,8 +9,8 @@ use Rattle.word.specs.Memory.{memory, holds, readOf}
 use Rattle.word.specs.declared.Cell.{Cell}
 use Rattle.word.specs.declared.Cell.the-variants as cell
 use Rattle.word.proofs.Memory.{read-word, read-outside, held}
-use Rattle.word.specs.Runs.{isAmong, amongOf}
-use Rattle.word.specs.Writes.{write}
+use Rattle.word.specs.Runs.{isAmong, amongOf, amongZeros}
+use Rattle.word.specs.Writes.{write, zeros}
 use Rattle.word.proofs.Runs.{Run, InRun, spans-run, spans-ends, run-holds, among-is, one-among, word-among, outside-among}
 use Rattle.word.proofs.Tests.{and-both}
 use Rattle.pool.specs.declared.Space.{Space}
@@ -21,7 +21,7 @@ use Rattle.pool.specs.declared.Listed.the-variants.{Bad}
 use Rattle.pool.specs.Layout.{signatureAt, pagesAt, rootAt, headAt, freeAt, asideAt, ticketsAt, bookPages}
 use Rattle.pool.specs.Book.{wordOf, signature, bookOf, roomOf, inPool, addsUpOf, AddsUp, headedOf, rootedIn, namesOf, namesIn, openedOf, openedIn, countsOf, namedOf, usableOf}
 use Rattle.pool.specs.State.{wordIn, wordNow, bookNow}
-use Rattle.pool.specs.Stands.{standsOf, entryWrites}
+use Rattle.pool.specs.Stands.{standsOf, entryWrites, clearWrites}
 use Rattle.pool.specs.Create.{mayCreate, newSpace, Roomy}
 use Rattle.pool.proofs.Far.{word-at}
 use borrow.Author.Tests.{leb-true, le-leb, eqb-true, eq-eqb}
@@ -166,17 +166,21 @@ module _ (s : List ℕ) (sp : Space) (e : standsOf (holds s (sp .origin)) sp ≡
   unfolding standsOf
   stands-fit = fitting (holds s (sp .origin)) (sp .first) (sp .pages) (root-yes sp (roomOf (holds s (sp .origin)) (sp .first) (sp .pages)) e .0)
 
-  module _ (p i : ℕ) (here : inPool sp p ≡ true) (u : i < 512) where
-    -- an entry of a page of its pool is one of a run
-    pub stands-among : isAmong s (sp .origin) (sp .first) (bookPages (sp .pages)) (sp .pages) p i ≡ true
-    stands-among =
-        let k = pool-in sp p here in
-        among-is _ _ _ _ _ _ _ (record { run = fit-runs _ _ _ _ stands-fit; small = u; behind = k .behind; before-end = k .before-end })
+  -- an entry of a page of its pool is one of a run
+  pub stands-among : (p i : ℕ) → inPool sp p ≡ true → i < 512 → isAmong s (sp .origin) (sp .first) (bookPages (sp .pages)) (sp .pages) p i ≡ true
+  stands-among p i here u =
+      let k = pool-in sp p here in
+      among-is _ _ _ _ _ _ _ (record { run = fit-runs _ _ _ _ stands-fit; small = u; behind = k .behind; before-end = k .before-end })
 
-    -- and setting it is one write
-    pub entry-one : (w : ℕ) → entryWrites s sp p i w ≡ write p i w ∷ []
-    unfolding entryWrites
-    entry-one w = simp (le-leb _ _ (stands-fit .small)) (one-among _ _ _ _ _ _ _ w stands-among)
+  -- setting it is one write
+  pub entry-one : (p i : ℕ) → inPool sp p ≡ true → i < 512 → (w : ℕ) → entryWrites s sp p i w ≡ write p i w ∷ []
+  unfolding entryWrites
+  entry-one p i here u w = simp (le-leb _ _ (stands-fit .small)) (one-among _ _ _ _ _ _ _ w (stands-among p i here u))
+
+  -- and clearing the page clears all of it
+  pub clear-all : (p : ℕ) → inPool sp p ≡ true → clearWrites s sp p ≡ zeros p 512
+  unfolding clearWrites amongZeros
+  clear-all p here = simp (le-leb _ _ (stands-fit .small), stands-among p 0 here (omega arith))
 
 -- WHAT AN OPENED BOOK SHOWS, for any bytes
 pub record Open (h : ℕ → Bool) (m : ℕ → ℕ) (sp : Space) (b : Book) : Type 0 where

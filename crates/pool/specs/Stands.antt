@@ -4,7 +4,7 @@ use mathlib.Core.Bool.{Bool, cond, _&&_}
 use mathlib.Core.List.{List, []}
 use lib.Dec.{leb}
 use Rattle.word.specs.Memory.{pageCount}
-use Rattle.word.specs.Runs.{amongOf, amongWrites}
+use Rattle.word.specs.Runs.{amongOf, amongWrites, amongZeros}
 use Rattle.word.specs.Writes.{Write}
 use Rattle.word.specs.declared.Cell.{Cell}
 use Rattle.word.specs.declared.Cell.the-variants.{Outside}
@@ -25,6 +25,10 @@ readEntryOf s sp p i = cond (leb (sp .pages) (2 ^ 32)) (amongOf s (sp .origin) (
 -- setting that entry to w is one write; where there is none, no write
 unfoldable pub entryWrites : List ℕ → Space → ℕ → ℕ → ℕ → List Write
 entryWrites s sp p i w = cond (leb (sp .pages) (2 ^ 32)) (amongWrites s (sp .origin) (sp .first) (bookPages (sp .pages)) (sp .pages) p i w) []
+
+-- clearing that page
+unfoldable pub clearWrites : List ℕ → Space → ℕ → List Write
+clearWrites s sp p = cond (leb (sp .pages) (2 ^ 32)) (amongZeros s (sp .origin) (sp .first) (bookPages (sp .pages)) (sp .pages) p) []
 
 -- n pages more can be set aside
 unfoldable pub takesOf : Space → Book → ℕ → Bool

@@ -1,10 +1,7 @@
 // Where a pool lies, by as few comparisons as it takes: every operation asks for it.
-ghost use mathlib.Core.Bool.{true};
 ghost use mathlib.Core.Path.{_≡_};
 ghost use Prim.Native.Nat.{_+_, _-_, _^_, _<_, _≤_};
-ghost use Rattle.word.specs.Memory.{holds};
-ghost use Rattle.word.specs.Writes.{Wrote, zeros};
-ghost use Rattle.pool.specs.declared.Fit.the-variants.{Fits};
+ghost use Rattle.word.specs.Writes.{Wrote};
 ghost use Rattle.pool.specs.Book as the;
 ghost use Rattle.pool.specs.Layout.{bookPages};
 ghost use Rattle.pool.specs.Stands as stand;
@@ -114,9 +111,9 @@ pub fn set_entry(mem: &mut [u8], left: &mut u64, sp: Space, p: u64, i: u64, w: u
     );
 }
 
-// Clears page p, where the pool lies in the window and p is a page of it, and not the book's.
+// Clears page p, where the pool lies in the window and p is a page of it, and not the book's; else no write.
 pub fn clear_page(mem: &mut [u8], left: &mut u64, sp: Space, p: u64)
-    ensures { λ _. ⌜ (stand.standsOf (holds (now (mem .entry)) (sp .origin)) sp ≡ Fits → the.inPool sp p ≡ true → Wrote (sp .origin) (zeros p 512) (now (left .entry)) (now (left .exit)) (now (mem .entry)) (now (mem .exit))) ⌝ }
+    ensures { λ _. ⌜ Wrote (sp .origin) (stand.clearWrites (now (mem .entry)) sp p) (now (left .entry)) (now (left .exit)) (now (mem .entry)) (now (mem .exit)) ⌝ }
 {
     if 4294967296 < sp.pages {
         return;

@@ -11,7 +11,7 @@ use Rattle.word.specs.Memory.{at, memory, holds}
 use Rattle.word.specs.Writes.{Write, after, carried, Every, none}
 use Rattle.word.proofs.Writes.{every-map, after-other, holds-carried, memory-carried}
 use Rattle.entry.specs.declared.Rights.{Rights}
-use Rattle.entry.specs.Clean.{Clean}
+use Rattle.entry.specs.Pat.{PatClear}
 use Rattle.entry.specs.Entry.{says}
 use Rattle.tables.specs.Roles.{Role, left}
 use Rattle.tables.proofs.Unseen.{TablesAlike, alike-sound}
@@ -149,7 +149,7 @@ same-whole {h} {sp} {m} {role} m' w same = record {
     alike q l i live u =
         let home = w .sound .built .home q (λ z. omega (arith, live, ap left z)) in
         let e = same q i (home .from, home .upto) u in
-        (λ j. ap (says j) e, λ z. e ∙ z, λ j c. subst (Clean j) (sym e) c)
+        (λ j. ap (says j) e, λ z. e ∙ z, λ j c. subst (PatClear j) (sym e) c)
 
     book : SameBook sp m m'
     book = record { words = λ k u. let i = word-in sp k u in rw (← word-at (sp .first) k) (same (sp .first + k / 512) (k % 512) (omega arith, omega (arith, i .1, w .booked .sound .room)) (omega arith)) }

@@ -35,3 +35,4 @@ pub mod Says
 pub mod Means
 pub mod Tickets
 pub mod Moments
+pub mod Exact

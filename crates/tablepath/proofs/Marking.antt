@@ -12,9 +12,9 @@ use Rattle.word.proofs.Set.{set-at, set-other}
 use Rattle.word.specs.Writes.{Write}
 use Rattle.word.proofs.Writes.{page-of}
 use Rattle.entry.specs.Entry.{says}
-use Rattle.entry.specs.Clean.{Clean}
+use Rattle.entry.specs.Pat.{PatClear}
 use Rattle.entry.specs.Marks.{Marked}
-use Rattle.entry.proofs.Clean.{marked-clean}
+use Rattle.entry.proofs.Pat.{marked-pat}
 use Rattle.entry.proofs.Marks.{marks-say-nothing}
 use Rattle.world.specs.Events.{Event, write, mark, store, happen, after, All}
 use Rattle.world.proofs.Events.{all-first}
@@ -62,9 +62,9 @@ remarked-zero : (sp : Space) (a w v : ℕ) → Remarked sp a w v → w ≡ 0 →
 remarked-zero sp a w v (inl e) z = e ∙ z
 remarked-zero sp a w v (inr (k, o, b)) z = absurd (omega arith)
 
-remarked-clean : (sp : Space) (a w v l : ℕ) → Remarked sp a w v → Clean l w → Clean l v
-remarked-clean sp a w v l (inl e) c = subst (Clean l) (sym e) c
-remarked-clean sp a w v l (inr (k, o, b)) c = marked-clean l v w k c
+remarked-pat : (sp : Space) (a w v l : ℕ) → Remarked sp a w v → PatClear l w → PatClear l v
+remarked-pat sp a w v l (inl e) c = subst (PatClear l) (sym e) c
+remarked-pat sp a w v l (inr (k, o, b)) c = marked-pat l v w k c
 
 remarked-book : (sp : Space) (a w v : ℕ) → sp .first ≤ a / 512 → a / 512 < sp .first + bookPages (sp .pages) → Remarked sp a w v → v ≡ w
 remarked-book sp a w v i j (inl e) = e
@@ -199,7 +199,7 @@ module _ (h : ℕ → Bool) (sp : Space) where
       let home = live-home b live in
       let in-pool : PoolWord sp (at q i) = subst (λ x. (sp .first ≤ x) × (x < sp .first + sp .pages)) (sym (page-of q i u)) (home .from, home .upto) in
       let r = k (at q i) in-pool in
-      (λ j. remarked-says sp (at q i) (m (at q i)) (n (at q i)) j r, remarked-zero sp (at q i) (m (at q i)) (n (at q i)) r, λ j. remarked-clean sp (at q i) (m (at q i)) (n (at q i)) j r)
+      (λ j. remarked-says sp (at q i) (m (at q i)) (n (at q i)) j r, remarked-zero sp (at q i) (m (at q i)) (n (at q i)) r, λ j. remarked-pat sp (at q i) (m (at q i)) (n (at q i)) j r)
 
   -- ALL THAT HOLDS BETWEEN OPERATIONS holds of the one as of the other.
   pub saw-whole : {m n : ℕ → ℕ} {role : ℕ → Role} → Saw sp m n → Whole h sp m role → Whole h sp n role

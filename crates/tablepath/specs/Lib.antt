@@ -11,3 +11,4 @@ pub mod Strict
 pub mod Handles
 pub mod Witness
 pub mod NightWitness
+pub mod Exact

@@ -10,7 +10,7 @@ use Rattle.word.specs.Memory.{set, at}
 use Rattle.word.specs.Writes.{Write, write, after, zeros, Every}
 use Rattle.word.proofs.Set.{set-at, set-same, set-other}
 use Rattle.entry.specs.Entry.{sizeOf, says, everything}
-use Rattle.entry.specs.Clean.{Clean}
+use Rattle.entry.specs.Pat.{PatClear}
 use Rattle.entry.specs.declared.Rights.{Rights}
 use Rattle.entry.specs.declared.Entry.the-variants.{Nothing, Page, Table}
 use Rattle.walk.specs.Walk.{indexOf, baseOf}
@@ -125,7 +125,7 @@ module _ {σ : Setting} {m₀ : ℕ → ℕ} {role₀ : ℕ → Role} {va : ℕ}
 
   -- MAP, DONE: the page's entry is written where nothing is, last.
   pub map-done : {l q : ℕ} (v f : ℕ) (g : Rights) → Down σ m₀ role₀ va xs m role (suc l) q → entryAt m l q (indexOf l va) ≡ Nothing → says l v ≡ Page f g
-      → Apart σ f (sizeOf l) → Clean l v
+      → Apart σ f (sizeOf l) → PatClear l v
       → Changed σ m₀ role₀ va l (found.Page (baseOf l va) (sizeOf l) f g) (xs ++ (write q (indexOf l va) v ∷ [])) (set m (at q (indexOf l va)) v) role
   map-done {l} {q} v f g d was is a k =
       let i = indexOf l va in
@@ -158,7 +158,7 @@ made-zero m t i v p u d j w = set-other (after m (zeros p 512)) (at t i) v (at p
 
 -- PROTECT, DONE: the same page with other rights, in one write.
 pub protect-done : {σ : Setting} {m : ℕ → ℕ} {role : ℕ → Role} {va l q : ℕ} (v f : ℕ) (g g' : Rights) → Sound σ m role → Comes σ m va (suc l) q
-    → entryAt m l q (indexOf l va) ≡ Page f g → says l v ≡ Page f g' → Clean l v
+    → entryAt m l q (indexOf l va) ≡ Page f g → says l v ≡ Page f g' → PatClear l v
     → Changed σ m role va l (found.Page (baseOf l va) (sizeOf l) f g') (write q (indexOf l va) v ∷ []) (set m (at q (indexOf l va)) v) role
 unfolding after
 protect-done {σ} {m} {role} {va} {l} {q} v f g g' k c was is w =

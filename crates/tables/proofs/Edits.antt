@@ -9,10 +9,10 @@ use native.Mathlib.Omega.{arith}
 use Rattle.word.specs.Memory.{set, at}
 use Rattle.word.proofs.Set.{set-at, set-same, set-other}
 use Rattle.entry.specs.Entry.{sizeOf, says, everything}
-use Rattle.entry.specs.Clean.{Clean}
+use Rattle.entry.specs.Pat.{PatClear}
 use Rattle.entry.specs.declared.Rights.{Rights}
 use Rattle.entry.specs.declared.Entry.the-variants.{Nothing, Page, Table}
-use Rattle.entry.proofs.Clean.{zero-clean, table-clean}
+use Rattle.entry.proofs.Pat.{zero-pat, table-pat}
 use Rattle.entry.proofs.Fields.{says-absent}
 use Rattle.walk.specs.Walk.{indexOf, baseOf}
 use Rattle.walk.specs.declared.Found.{Found}
@@ -44,20 +44,20 @@ zero-says l = says-absent l 0 (omega arith)
 
 -- 0, a page apart from the pool, a table: each is decent to write
 zero-decent : (σ : Setting) (l : ℕ) → Decent σ l 0
-zero-decent σ l = record { zeros = λ e. refl; apart = λ f g e. let z : _≡_ {A = ℕ} 0 1 = cc (zero-says l) in absurd (omega arith); clean = zero-clean l }
+zero-decent σ l = record { zeros = λ e. refl; apart = λ f g e. let z : _≡_ {A = ℕ} 0 1 = cc (zero-says l) in absurd (omega arith); pat = zero-pat l }
 
-page-decent : (σ : Setting) (l v f : ℕ) (g : Rights) → says l v ≡ Page f g → Apart σ f (sizeOf l) → Clean l v → Decent σ l v
+page-decent : (σ : Setting) (l v f : ℕ) (g : Rights) → says l v ≡ Page f g → Apart σ f (sizeOf l) → PatClear l v → Decent σ l v
 page-decent σ l v f g is a c = record {
   zeros = λ e. absurd (page-something f g is e);
   apart = λ x r e. let same : f ≡ x = cc in subst (λ y. Apart σ y (sizeOf l)) same a;
-  clean = c;
+  pat = c;
 }
 
 table-decent : (σ : Setting) (l v p : ℕ) → says l v ≡ Table p everything → Decent σ l v
 table-decent σ l v p is = record {
   zeros = λ e. let z : _≡_ {A = ℕ} 0 1 = cc in absurd (omega arith);
   apart = λ f g e. let z : _≡_ {A = ℕ} 0 1 = cc in absurd (omega arith);
-  clean = table-clean l v p everything is;
+  pat = table-pat l v p everything is;
 }
 
 module _ {σ : Setting} {m : ℕ → ℕ} {role : ℕ → Role} (b : Built σ m role) where
@@ -81,7 +81,7 @@ module _ {σ : Setting} {m : ℕ → ℕ} {role : ℕ → Role} (b : Built σ m 
       fill b s v (λ e. let z : _≡_ {A = ℕ} 0 1 = cc in omega arith) f x k r j (sym (set-other role p (table l q i) x (λ e. d (sym e))) ∙ h)
 
   -- a page over nothing or a page
-  page-turns : {va l q : ℕ} → Comes σ m va (suc l) q → (v f : ℕ) (g : Rights) → Plain (entryAt m l q (indexOf l va)) → says l v ≡ Page f g → Apart σ f (sizeOf l) → Clean l v
+  page-turns : {va l q : ℕ} → Comes σ m va (suc l) q → (v f : ℕ) (g : Rights) → Plain (entryAt m l q (indexOf l va)) → says l v ≡ Page f g → Apart σ f (sizeOf l) → PatClear l v
       → Turns σ m (set m (at q (indexOf l va)) v) role l va (found.Page (baseOf l va) (sizeOf l) f g)
   page-turns {va} {l} {q} c v f g was is a k = record {
     built = now;
@@ -97,9 +97,9 @@ module _ {σ : Setting} {m : ℕ → ℕ} {role : ℕ → Role} (b : Built σ m 
       now : Built σ (set m (at q (indexOf l va)) v) role
       now = plain-built b s v (page-decent σ l v f g is a k) was (page-plain f g is)
 
-  -- 2. WRITE A PAGE over nothing, by its own word; its frame lies apart from the pool.
+  -- 2. WRITE A PAGE over nothing; its frame lies apart from the pool.
   pub write-page : {va l q : ℕ} → Comes σ m va (suc l) q → (v f : ℕ) (g : Rights) → entryAt m l q (indexOf l va) ≡ Nothing → says l v ≡ Page f g
-      → Apart σ f (sizeOf l) → Clean l v → Turns σ m (set m (at q (indexOf l va)) v) role l va (found.Page (baseOf l va) (sizeOf l) f g)
+      → Apart σ f (sizeOf l) → PatClear l v → Turns σ m (set m (at q (indexOf l va)) v) role l va (found.Page (baseOf l va) (sizeOf l) f g)
   write-page c v f g was is a k = page-turns c v f g (nothing-plain was) is a k
 
   -- the table is not empty then
@@ -125,7 +125,7 @@ module _ {σ : Setting} {m : ℕ → ℕ} {role : ℕ → Role} (b : Built σ m 
   clear-filled s f p k r j h d = holds-kept b s 0 k p (λ e. d (sym e)) (f p k r j h)
 
   -- 4. CHANGE A PAGE'S RIGHTS: the same page, in the same entry. (Its table stays as full as it was: page-filled.)
-  pub change-rights : {va l q : ℕ} → Comes σ m va (suc l) q → (v f : ℕ) (g g' : Rights) → entryAt m l q (indexOf l va) ≡ Page f g → says l v ≡ Page f g' → Clean l v
+  pub change-rights : {va l q : ℕ} → Comes σ m va (suc l) q → (v f : ℕ) (g g' : Rights) → entryAt m l q (indexOf l va) ≡ Page f g → says l v ≡ Page f g' → PatClear l v
       → Turns σ m (set m (at q (indexOf l va)) v) role l va (found.Page (baseOf l va) (sizeOf l) f g')
   change-rights {va} {l} {q} c v f g g' was is k =
       page-turns c v f g' (page-plain f g was) is (b .apart q l (indexOf l va) f g (comes-left b c) (index-lt l va) was) k

@@ -7,14 +7,14 @@ use native.Mathlib.Omega.{arith}
 use Rattle.word.specs.Memory.{set, at}
 use Rattle.word.proofs.Set.{set-at, set-same, set-other}
 use Rattle.entry.specs.Entry.{sizeOf, tableOf, says, everything}
-use Rattle.entry.specs.Clean.{Clean}
+use Rattle.entry.specs.Pat.{PatClear}
 use Rattle.entry.specs.declared.Rights.{Rights}
 use Rattle.entry.specs.declared.Entry.the-variants.{Nothing, Page, Table}
 use Rattle.entry.proofs.Fields.{says-absent}
 use Rattle.tables.specs.Roles.{Setting, Role, foreign, free, aside, book, root, table, unlinked, left, Live, entryAt, Home, Apart, Built, Zero, Bare, Plain}
-use Rattle.entry.proofs.Clean.{zero-clean}
+use Rattle.entry.proofs.Pat.{zero-pat}
 use Rattle.tables.specs.OneWrite.{LiveEntry}
-use Rattle.tables.proofs.OneWrite.{Seen, this, other, seen, other-page, zeros-kept, apart-kept, clean-kept, nothing-plain}
+use Rattle.tables.proofs.OneWrite.{Seen, this, other, seen, other-page, zeros-kept, apart-kept, pat-kept, nothing-plain}
 
 -- a page of zeros says nothing, at any level
 pub zero-bare : (m : ℕ → ℕ) (n p : ℕ) → Zero m p → Bare m n p
@@ -59,11 +59,11 @@ left-top {role = role} b q = go (role q) refl
     go root e = omega arith
     go (table n t i) e = omega (arith, b .low q n t i e)
 
--- what is written is 0 if it says nothing; if it says a page, its frame lies apart, and it is the word that we write for it
+-- what is written is 0 if it says nothing; if it says a page, its frame lies apart, and bit 12 of a large one is 0
 pub record Decent (σ : Setting) (l v : ℕ) : Type 0 where
   pub zeros : says l v ≡ Nothing → v ≡ 0
   pub apart : (f : ℕ) (g : Rights) → says l v ≡ Page f g → Apart σ f (sizeOf l)
-  pub clean : Clean l v
+  pub pat : PatClear l v
 
 module _ {σ : Setting} {m : ℕ → ℕ} {role : ℕ → Role} (b : Built σ m role) {q l i : ℕ} (s : LiveEntry role q l i) (v : ℕ) (ok : Decent σ l v) where
   -- A PAGE OR NOTHING, over either.
@@ -78,7 +78,7 @@ module _ {σ : Setting} {m : ℕ → ℕ} {role : ℕ → Role} (b : Built σ m 
     low = b .low;
     zeros = zeros-kept b s v (ok .zeros);
     apart = apart-kept b s v (ok .apart);
-    clean = clean-kept b s v (ok .clean);
+    pat = pat-kept b s v (ok .pat);
   }
     where
       down-go : (r k j t : ℕ) (g : Rights) → Live role r k → j < 512 → entryAt (set m (at q i) v) k r j ≡ Table t g → Seen m q l i v r k j
@@ -104,7 +104,7 @@ module _ {σ : Setting} {m : ℕ → ℕ} {role : ℕ → Role} (b : Built σ m 
     low = λ x k r j e. low-go x k r j e (ℕ-discrete p x);
     zeros = λ r k j h u e. zeros-go r k j h u e (ℕ-discrete p r);
     apart = λ r k j f g h u e. apart-go r k j f g h u e (ℕ-discrete p r);
-    clean = λ r k j h u. clean-go r k j h u (ℕ-discrete p r);
+    pat = λ r k j h u. pat-go r k j h u (ℕ-discrete p r);
   }
     where
       now : Role
@@ -137,9 +137,9 @@ module _ {σ : Setting} {m : ℕ → ℕ} {role : ℕ → Role} (b : Built σ m 
       apart-go r k j f g h u e (yes d) = let z : _≡_ {A = ℕ} 0 1 = cc (fresh-says r k j d u) in absurd (omega arith)
       apart-go r k j f g h u e (no d) = apart-kept b s v (ok .apart) r k j f g (before d h) u e
 
-      clean-go : (r k j : ℕ) → Live (set role p now) r k → j < 512 → Dec (p ≡ r) → Clean k (set m (at q i) v (at r j))
-      clean-go r k j h u (yes d) = subst (Clean k) (sym (fresh r j d u)) (zero-clean k)
-      clean-go r k j h u (no d) = clean-kept b s v (ok .clean) r k j (before d h) u
+      pat-go : (r k j : ℕ) → Live (set role p now) r k → j < 512 → Dec (p ≡ r) → PatClear k (set m (at q i) v (at r j))
+      pat-go r k j h u (yes d) = subst (PatClear k) (sym (fresh r j d u)) (zero-pat k)
+      pat-go r k j h u (no d) = pat-kept b s v (ok .pat) r k j (before d h) u
 
       down-old : (r k j t : ℕ) (g : Rights) → Live role r k → j < 512 → entryAt (set m (at q i) v) k r j ≡ Table t g → Seen m q l i v r k j
           → (set role p now t ≡ table k r j) × (g ≡ everything)
@@ -186,7 +186,7 @@ module _ {σ : Setting} {m : ℕ → ℕ} {role : ℕ → Role} (b : Built σ m 
     low = λ x k r j e. b .low x k r j (sym (set-other role p unlinked x (not-it x k r j e)) ∙ e);
     zeros = λ r k j h u e. zeros-kept b s v (ok .zeros) r k j (before r k h) u e;
     apart = λ r k j f g h u e. apart-kept b s v (ok .apart) r k j f g (before r k h) u e;
-    clean = λ r k j h u. clean-kept b s v (ok .clean) r k j (before r k h) u;
+    pat = λ r k j h u. pat-kept b s v (ok .pat) r k j (before r k h) u;
   }
     where
       old : role p ≡ table l q i

@@ -9,7 +9,7 @@ use native.Mathlib.Omega.{arith}
 use Rattle.word.specs.Memory.{set, at}
 use Rattle.word.proofs.Set.{set-at, set-same, set-other}
 use Rattle.entry.specs.Entry.{sizeOf, tableOf, says, both, everything}
-use Rattle.entry.specs.Clean.{Clean}
+use Rattle.entry.specs.Pat.{PatClear}
 use Rattle.entry.specs.declared.Rights.{Rights}
 use Rattle.entry.specs.declared.Entry.{Entry}
 use Rattle.entry.specs.declared.Entry.the-variants.{Nothing, Page, Table}
@@ -105,12 +105,12 @@ module _ {σ : Setting} {m : ℕ → ℕ} {role : ℕ → Role} (b : Built σ m 
       go (this _ level _ _ _ is) = subst (λ x. Apart σ f (sizeOf x)) (sym level) (a f g (sym is ∙ e))
       go (other d same) = b .apart r k j f g h u (ap (says k) (sym same) ∙ e)
 
-  pub clean-kept : Clean l v → (r k j : ℕ) → Live role r k → j < 512 → Clean k (set m (at q i) v (at r j))
-  clean-kept c r k j h u = go (seen r k j h u)
+  pub pat-kept : PatClear l v → (r k j : ℕ) → Live role r k → j < 512 → PatClear k (set m (at q i) v (at r j))
+  pat-kept c r k j h u = go (seen r k j h u)
     where
-      go : Seen m q l i v r k j → Clean k (set m (at q i) v (at r j))
-      go (this _ level _ _ word _) = subst (Clean k) (sym word) (subst (λ x. Clean x v) (sym level) c)
-      go (other d same) = subst (Clean k) (sym same) (b .clean r k j h u)
+      go : Seen m q l i v r k j → PatClear k (set m (at q i) v (at r j))
+      go (this _ level _ _ word _) = subst (PatClear k) (sym word) (subst (λ x. PatClear x v) (sym level) c)
+      go (other d same) = subst (PatClear k) (sym same) (b .pat r k j h u)
 
   -- a walk comes to the tables above the entry as before
   pub comes-kept : {va n t : ℕ} → l < n → Comes σ m va n t → Comes σ (set m (at q i) v) va n t

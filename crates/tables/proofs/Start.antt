@@ -5,7 +5,7 @@ use native.Mathlib.Omega.{arith}
 use Rattle.word.specs.Memory.{at}
 use Rattle.entry.specs.Entry.{tableOf}
 use Rattle.entry.specs.declared.Entry.the-variants.{Nothing}
-use Rattle.entry.proofs.Clean.{nothing-clean}
+use Rattle.entry.proofs.Pat.{nothing-pat}
 use Rattle.tables.specs.Roles.{Setting, Role, foreign, free, aside, book, root, table, left, Live, entryAt, Sound, Zero}
 use Rattle.tables.proofs.Kept.{zero-bare}
 use Rattle.tables.specs.Start.{NewRoles}
@@ -22,7 +22,7 @@ fresh-sound {σ} {role} m f z = record {
     low = λ p l q i e. absurd (f .bare p l q i e);
     zeros = λ q l i h u e. ap (λ x. m (at x i)) (only q l h) ∙ z i u;
     apart = λ q l i x g h u e. let k : _≡_ {A = ℕ} 0 1 = cc (nothing q l i h u) in absurd (omega arith);
-    clean = λ q l i h u. nothing-clean l _ (nothing q l i h u);
+    pat = λ q l i h u. nothing-pat l _ (nothing q l i h u);
   };
   filled = λ p l q i e. absurd (f .bare p (suc l) q i e);
 }

@@ -8,7 +8,7 @@ use Rattle.word.specs.Memory.{set, at}
 use Rattle.word.proofs.Writes.{page-of}
 use Rattle.word.proofs.Set.{set-other}
 use Rattle.entry.specs.Entry.{says}
-use Rattle.entry.specs.Clean.{Clean}
+use Rattle.entry.specs.Pat.{PatClear}
 use Rattle.walk.specs.Walk.{indexOf, start, foundOf, walk}
 use Rattle.walk.proofs.Digits.{index-lt}
 use Rattle.walk.proofs.Frame.{SaysAlike, run-agrees}
@@ -18,9 +18,9 @@ use Rattle.tables.proofs.Way.{comes-left}
 use Rattle.tables.specs.Meaning.{meaning}
 use Rattle.tables.proofs.Reach.{walk-reads-tables}
 
--- what the words of all tables say is the same, at every level; a 0 stays 0, and what is as we write it stays so
+-- what the words of all tables say is the same, at every level; a 0 stays 0, and so does bit 12 of a large page
 abbrev pub TablesAlike : (ℕ → Role) → (m m' : ℕ → ℕ) → Type 0
-TablesAlike role m m' = (q l i : ℕ) → Live role q l → i < 512 → SaysAlike m m' (at q i) × (m (at q i) ≡ 0 → m' (at q i) ≡ 0) × ((k : ℕ) → Clean k (m (at q i)) → Clean k (m' (at q i)))
+TablesAlike role m m' = (q l i : ℕ) → Live role q l → i < 512 → SaysAlike m m' (at q i) × (m (at q i) ≡ 0 → m' (at q i) ≡ 0) × ((k : ℕ) → PatClear k (m (at q i)) → PatClear k (m' (at q i)))
 
 module _ {σ : Setting} {m : ℕ → ℕ} {role : ℕ → Role} (b : Built σ m role) (m' : ℕ → ℕ) (h : TablesAlike role m m') where
   pub alike-built : Built σ m' role
@@ -34,7 +34,7 @@ module _ {σ : Setting} {m : ℕ → ℕ} {role : ℕ → Role} (b : Built σ m 
     low = b .low;
     zeros = λ q l i n u e. h q l i n u .1 (b .zeros q l i n u (sym (h q l i n u .0 l) ∙ e));
     apart = λ q l i f g n u e. b .apart q l i f g n u (sym (h q l i n u .0 l) ∙ e);
-    clean = λ q l i n u. h q l i n u .2 l (b .clean q l i n u);
+    pat = λ q l i n u. h q l i n u .2 l (b .pat q l i n u);
   }
 
   pub alike-means : (va : ℕ) → meaning σ m' va ≡ meaning σ m va
@@ -59,7 +59,7 @@ module _ (m : ℕ → ℕ) (role : ℕ → Role) (a v : ℕ) where
   unseen-word n q l i h u = set-other m a v (at q i) (λ e. omega (arith, n, h, ap (λ x. left (role x)) (ap (λ x. x / 512) e ∙ page-of q i u)))
 
   pub unseen-alike : left (role (a / 512)) ≡ 0 → TablesAlike role m (set m a v)
-  unseen-alike n q l i h u = let w = unseen-word n q l i h u in (λ k. ap (says k) w, λ z. w ∙ z, λ k c. subst (Clean k) (sym w) c)
+  unseen-alike n q l i h u = let w = unseen-word n q l i h u in (λ k. ap (says k) w, λ z. w ∙ z, λ k c. subst (PatClear k) (sym w) c)
 
 -- Other roles ------------------------------------------------------------------------------------------------------------------
 
@@ -80,7 +80,7 @@ idle-left root h = absurd h
 idle-left (table n q i) h = absurd h
 
 module _ (role role' : ℕ → Role) (h : Shifted role role') where
-  shift-left : (p : ℕ) → left (role' p) ≡ left (role p)
+  pub shift-left : (p : ℕ) → left (role' p) ≡ left (role p)
   shift-left p = go (h p)
     where
       go : (role' p ≡ role p) ⊎ (Unwalked (role p) × Unwalked (role' p)) → left (role' p) ≡ left (role p)
@@ -113,7 +113,7 @@ module _ (role role' : ℕ → Role) (h : Shifted role role') where
     low = λ p l q i e. b .low p l q i (shift-from p (table l q i) (λ x. x) e);
     zeros = λ q l i n u e. b .zeros q l i (sym (shift-left q) ∙ n) u e;
     apart = λ q l i f g n u e. b .apart q l i f g (sym (shift-left q) ∙ n) u e;
-    clean = λ q l i n u. b .clean q l i (sym (shift-left q) ∙ n) u;
+    pat = λ q l i n u. b .pat q l i (sym (shift-left q) ∙ n) u;
   }
 
   pub shift-sound : {σ : Setting} {m : ℕ → ℕ} → Sound σ m role → Sound σ m role'

@@ -15,7 +15,7 @@ use Rattle.entry.specs.Words.{flag, largeFlag, pageWord, tableWord}
 use Rattle.entry.specs.declared.Rights.{Rights}
 use Rattle.entry.specs.declared.Entry.the-variants.{Nothing, Page, Table}
 use Rattle.entry.proofs.Fields.{says-absent}
-use Rattle.entry.proofs.Clean.{page-clean}
+use Rattle.entry.proofs.Pat.{page-pat}
 use Rattle.entry.proofs.Written.{FrameFits, table-word-says, page-word-says}
 use Rattle.walk.specs.Walk.{canonical, indexOf, baseOf, entered, stepOf, run, start, foundOf, walk}
 use Rattle.walk.proofs.Addresses.{in-upper}
@@ -158,7 +158,7 @@ with-small =
     let z₂ = zero-still m₁ 18 2 (tableWord 19) 20 (omega arith) (omega arith) (zero-still memory₀ 17 257 (tableWord 18) 20 (omega arith) (omega arith) (λ j u. refl)) in
     let d₃ = down-link (tableWord 20) 20 d₂ (nothing-says 1) (table-says 1 20 (omega arith) (omega arith)) refl z₂ in
     changed-sound (map-done (pageWord 0 409600 everything) 409600 everything d₃ (nothing-says 0)
-    (page-word-says 0 409600 everything small-fits) (inr (omega arith)) (page-clean 0 409600 everything small-fits))
+    (page-word-says 0 409600 everything small-fits) (inr (omega arith)) (page-pat 0 409600 everything small-fits))
 
 -- Another one at indices 1, 2, 8, 9, with one new table, which goes again ------------------------------------------------------------
 
@@ -200,7 +200,7 @@ with-gone =
     let d₁ = down-step 18 everything d₀ (table-says 3 18 (omega arith) (omega arith)) in
     let d₂ = down-step 19 everything d₁ (table-says 2 19 (omega arith) (omega arith)) in
     let d₃ = down-link (tableWord 21) 21 d₂ (nothing-says 1) (table-says 1 21 (omega arith) (omega arith)) refl zero-21 in
-    changed-sound (map-done (pageWord 0 413696 everything) 413696 everything d₃ (nothing-says 0) gone-page (inr (omega arith)) (page-clean 0 413696 everything gone-fits))
+    changed-sound (map-done (pageWord 0 413696 everything) 413696 everything d₃ (nothing-says 0) gone-page (inr (omega arith)) (page-pat 0 413696 everything gone-fits))
 
 with-aside : Sound setting m₈ r₅
 unfolding set ℕ-discrete indexOf sizeOf tableOf roles₀
@@ -241,7 +241,7 @@ with-middle =
     let d₁ = down-step 18 everything d₀ (table-says 3 18 (omega arith) (omega arith)) in
     let d₂ = down-step 19 everything d₁ (table-says 2 19 (omega arith) (omega arith)) in
     changed-sound (map-done (pageWord 1 2097152 readOnly) 2097152 readOnly d₂ (nothing-says 1)
-    (page-word-says 1 2097152 readOnly middle-fits) (inr (omega arith)) (page-clean 1 2097152 readOnly middle-fits))
+    (page-word-says 1 2097152 readOnly middle-fits) (inr (omega arith)) (page-pat 1 2097152 readOnly middle-fits))
 
 pub witness : Sound setting memory roles
 unfolding set ℕ-discrete indexOf sizeOf tableOf roles₀
@@ -249,7 +249,7 @@ witness =
     let d₀ = down-start {va = large} with-middle (comes-root (in-upper large (omega arith) (omega arith))) in
     let d₁ = down-step 18 everything d₀ (table-says 3 18 (omega arith) (omega arith)) in
     changed-sound (map-done (pageWord 2 1073741824 everything) 1073741824 everything d₁ (nothing-says 2)
-    (page-word-says 2 1073741824 everything large-fits) (inr (omega arith)) (page-clean 2 1073741824 everything large-fits))
+    (page-word-says 2 1073741824 everything large-fits) (inr (omega arith)) (page-pat 2 1073741824 everything large-fits))
 
 -- what is there, computed
 pub witness-roles : (roles 15 ≡ foreign) × (roles 16 ≡ book) × (roles 17 ≡ root) × (roles 18 ≡ table 3 17 257) × (roles 19 ≡ table 2 18 2)

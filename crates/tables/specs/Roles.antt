@@ -7,6 +7,7 @@ use mathlib.Core.Path.{_≡_}
 use Rattle.word.specs.Memory.{at}
 use Rattle.entry.specs.Entry.{sizeOf, tableOf, says, everything}
 use Rattle.entry.specs.Clean.{Clean}
+use Rattle.entry.specs.Pat.{PatClear}
 use Rattle.entry.specs.declared.Rights.{Rights}
 use Rattle.entry.specs.declared.Entry.{Entry}
 use Rattle.entry.specs.declared.Entry.the-variants.{Nothing, Page, Table}
@@ -71,8 +72,8 @@ Apart σ f size = (f + size ≤ 4096 * σ .lo) ⊎ (4096 * σ .hi ≤ f)
 -- TABLES THAT WE BUILT.
 -- home, whole: the pages of the pool, and no others, have a role here. starts, alone: the root's page is the root, and no other is.
 -- down: what an entry names has that entry as its parent, and the entry grants everything. up: a table's parent entry names it.
--- low: a table lies below the root. zeros: an entry that says nothing is the word 0. apart: no page's frame meets the pool. clean: an entry
--- that says a page is the word that we write for it, but for the machine's marks.
+-- low: a table lies below the root. zeros: an entry that says nothing is the word 0. apart: no page's frame meets the pool. pat: bit 12 of a
+-- large page's entry is 0.
 pub record Built (σ : Setting) (m : ℕ → ℕ) (role : ℕ → Role) : Type 0 where
   pub home : (p : ℕ) → role p ≢ foreign → Home σ p
   pub whole : (p : ℕ) → σ .lo ≤ p → p < σ .hi → role p ≢ foreign
@@ -83,7 +84,11 @@ pub record Built (σ : Setting) (m : ℕ → ℕ) (role : ℕ → Role) : Type 0
   pub low : (p l q i : ℕ) → role p ≡ table l q i → l < 4
   pub zeros : (q l i : ℕ) → Live role q l → i < 512 → entryAt m l q i ≡ Nothing → m (at q i) ≡ 0
   pub apart : (q l i f : ℕ) (g : Rights) → Live role q l → i < 512 → entryAt m l q i ≡ Page f g → Apart σ f (sizeOf l)
-  pub clean : (q l i : ℕ) → Live role q l → i < 512 → Clean l (m (at q i))
+  pub pat : (q l i : ℕ) → Live role q l → i < 512 → PatClear l (m (at q i))
+
+-- EXACT: an entry that says a page is the word that we write for it, but for the machine's marks. No operation needs it, and each keeps it.
+abbrev pub Exact : (ℕ → ℕ) → (ℕ → Role) → Type 0
+Exact m role = (q l i : ℕ) → Live role q l → i < 512 → Clean l (m (at q i))
 
 -- some entry of page p says something, at level l
 abbrev pub Occupied : (ℕ → ℕ) → ℕ → ℕ → Type 0

@@ -117,7 +117,7 @@ new-page-entry l frame r f = record {
   small = λ z. bit-off 7 w (k .small z);
   hp-pat = λ z. bit-off 12 w (k .pat z);
   no-execute = bit-flag 63 w (r .noexec) (k .noexec);
-  mb0 = record { at-root = λ z. absurd (omega (arith, f .level)); padding = λ z e. k .padding z };
+  mb0 = record { at-root = λ o z. absurd (omega (arith, f .level)); padding = λ o z e. k .padding z };
 }
   where
     w : ℕ
@@ -133,7 +133,7 @@ new-dir-entry l p n u = record {
   directory = table-word-says l p n u;
   accessed = bit-off 5 (4096 * p + 7) (omega arith);
   dirty = bit-off 6 (4096 * p + 7) (omega arith);
-  mb0 = record { at-root = λ z. seven; padding = λ z e. let x : _≡_ {A = Bool} true false = sym e ∙ seven in let y : _≡_ {A = ℕ} 0 1 = cc in absurd (omega arith) };
+  mb0 = record { at-root = λ o z. seven; padding = λ o z e. let x : _≡_ {A = Bool} true false = sym e ∙ seven in let y : _≡_ {A = ℕ} 0 1 = cc in absurd (omega arith) };
 }
   where
     seven : bit 7 (4096 * p + 7) ≡ false
@@ -148,7 +148,7 @@ change-page-permissions l w frame g r e = record {
 
 -- Reading ------------------------------------------------------------------------------------------------------------------------------
 
-present-bit : (l w : ℕ) → says l w ≢ Nothing → bit 0 w ≡ true
+pub present-bit : (l w : ℕ) → says l w ≢ Nothing → bit 0 w ≡ true
 unfolding says
 present-bit l w n = go (bit 0 w) refl
   where
@@ -158,7 +158,7 @@ present-bit l w n = go (bit 0 w) refl
 
 -- IS_PRESENT: where the reserved bits are 0, what says something is what has bit 0
 pub is-present : (l w : ℕ) → l < 4 → MustBeZero l w → (says l w ≢ Nothing) ↔ (bit 0 w ≡ true)
-is-present l w u z = (λ n. present-bit l w n ∙ refl, λ e. go l u z (bit-one 0 w e) (bit 7 w) refl)
+is-present l w u z = (λ n. present-bit l w n ∙ refl, λ e. go l u z e (bit-one 0 w e) (bit 7 w) refl)
   where
     two : (e : Entry) (f : ℕ) (g : Rights) → e ≡ Page f g → e ≢ Nothing
     two e f g k n = let x : _≡_ {A = ℕ} 0 1 = cc in omega arith
@@ -166,17 +166,17 @@ is-present l w u z = (λ n. present-bit l w n ∙ refl, λ e. go l u z (bit-one 
     three : (e : Entry) (f : ℕ) (g : Rights) → e ≡ Table f g → e ≢ Nothing
     three e f g k n = let x : _≡_ {A = ℕ} 0 1 = cc in omega arith
 
-    go : (l : ℕ) → l < 4 → MustBeZero l w → w / 2 ^ 0 % 2 ≡ 1 → (b : Bool) → bit 7 w ≡ b → says l w ≢ Nothing
-    go zero u z e b k = two _ _ _ (says-last w (omega (arith, e)))
-    go (suc l) u z e false k = three _ _ _ (says-table (suc l) w (λ y. omega arith) (omega (arith, e)) (bit-zero 7 w k))
-    go (suc l) u z e true k =
+    go : (l : ℕ) → l < 4 → MustBeZero l w → bit 0 w ≡ true → w / 2 ^ 0 % 2 ≡ 1 → (b : Bool) → bit 7 w ≡ b → says l w ≢ Nothing
+    go zero u z o e b k = two _ _ _ (says-last w (omega (arith, e)))
+    go (suc l) u z o e false k = three _ _ _ (says-table (suc l) w (λ y. omega arith) (omega (arith, e)) (bit-zero 7 w k))
+    go (suc l) u z o e true k =
         let low : suc l ≤ 2 = high l u z k in
-        two _ _ _ (says-large (suc l) w (λ y. omega arith) low (omega (arith, e)) (bit-one 7 w k) (z .padding (λ y. omega arith) k))
+        two _ _ _ (says-large (suc l) w (λ y. omega arith) low (omega (arith, e)) (bit-one 7 w k) (z .padding o (λ y. omega arith) k))
       where
         high : (l : ℕ) → suc l < 4 → MustBeZero (suc l) w → bit 7 w ≡ true → suc l ≤ 2
         high zero u z k = omega arith
         high (suc zero) u z k = omega arith
-        high (suc (suc zero)) u z k = let x : _≡_ {A = Bool} true false = sym k ∙ z .at-root refl in let y : _≡_ {A = ℕ} 0 1 = cc in absurd (omega arith)
+        high (suc (suc zero)) u z k = let x : _≡_ {A = Bool} true false = sym k ∙ z .at-root o refl in let y : _≡_ {A = ℕ} 0 1 = cc in absurd (omega arith)
         high (suc (suc (suc l))) u z k = absurd (omega arith)
 
 -- IS_PAGE, IS_DIR: a page above the last level has bit 7, a directory has not, and at the last level there are pages only

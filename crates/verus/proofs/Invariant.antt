@@ -1,55 +1,47 @@
--- OUR INVARIANT GIVES THEIRS: every clause of inv_at and no_empty_directories that is over the words.
-use Prim.Native.Nat.{ℕ, zero, suc, _*_, _%_, _/_, _^_, _<_}
-use mathlib.Core.Bool.{Bool, false}
+-- OUR INVARIANT GIVES THEIRS: every clause of inv_at and of no_empty_directories.
+use Prim.Native.Nat.{ℕ, zero, suc, _+_, _<_, _≤_}
+use mathlib.Core.Bool.{Bool, true, false, false≢true}
+use mathlib.Core.List.{List}
 use mathlib.Core.Logic.{_≢_}
 use mathlib.Core.Path.{_≡_, refl, sym, ap, _∙_, subst}
-use native.Mathlib.Nat.{mul-mod-left}
 use native.Mathlib.Omega.{arith}
 use Rattle.word.specs.Memory.{at}
-use Rattle.entry.specs.Entry.{sizeOf, bit, frameOf, says, everything}
-use Rattle.entry.specs.Marks.{Marked}
-use Rattle.entry.specs.Words.{pageWord}
+use Rattle.word.specs.Writes.{Write}
+use Rattle.entry.specs.Entry.{bit, everything}
 use Rattle.entry.specs.declared.Rights.{Rights}
-use Rattle.entry.specs.declared.Entry.the-variants.{Page, Table}
+use Rattle.entry.specs.declared.Entry.{Entry}
+use Rattle.entry.specs.declared.Entry.the-variants.{Nothing, Page, Table}
 use Rattle.entry.proofs.Fields.{last-no-table}
-use Rattle.tables.specs.Roles.{Setting, Role, foreign, free, aside, book, root, table, left, Live, entryAt, Built, Occupied, Sound}
+use Rattle.walk.specs.declared.Found.{Found}
+use Rattle.world.specs.Events.{All}
+use Rattle.world.proofs.Events.{all-map}
+use Rattle.tables.specs.Roles.{Setting, Role, foreign, free, aside, book, root, table, left, Live, entryAt, Home, Built, Filled}
+use Rattle.tables.specs.Clearing.{eventsOf}
+use Rattle.tables.specs.Operation.{Moment, Changed}
 use Rattle.tables.proofs.Meaning.{live-home}
 use Rattle.pool.specs.Booked.{settingOf}
 use Rattle.pool.specs.declared.Space.{Space}
 use Rattle.effect.specs.Whole.{Whole}
-use Rattle.verus.specs.Trees.{InvAt, Inv}
-use Rattle.verus.proofs.Entries.{new-page-entry}
-use Rattle.entry.proofs.Levels.{bit-off, frame-lt}
-use Rattle.entry.proofs.Parts.{bit-zero, page-large, table-seven, page-parts}
-use Rattle.entry.proofs.Written.{FrameFits}
+use Rattle.verus.specs.Entries.{MustBeZero}
+use Rattle.verus.specs.Trees.{UsedBy, itself, below, InvAt, Inv, NoEmptyDirectories, InvAndNonempty, SomeInv}
+use Rattle.entry.proofs.Levels.{bit-off}
+use Rattle.entry.proofs.Parts.{bit-one, page-large, root-no-page, table-seven}
 
--- the frame that a word says fits its level
-said-fits : (l w f : ℕ) (g : Rights) → l ≢ 0 → says l w ≡ Page f g → FrameFits l f
-said-fits l w f g z e =
-    let k = page-large l w f g z e in
-    let is : f ≡ frameOf l w = page-parts l w f g e .0 in
-    record {
-      level = k .level;
-      aligned = ap (λ x. x % sizeOf l) is ∙ (unfold frameOf in mul-mod-left _ (sizeOf l));
-      below = rw is (frame-lt w l (omega (arith, k .level)));
-    }
+-- the page that names a table
+parentOf : Role → ℕ
+parentOf foreign = 0
+parentOf free = 0
+parentOf aside = 0
+parentOf book = 0
+parentOf root = 0
+parentOf (table n q i) = q
 
--- bit 12 of a large page's entry is 0, since it is in the word that we write
-pat-zero : (l w f : ℕ) (g : Rights) → l ≢ 0 → says l w ≡ Page f g → Marked w (pageWord l f g) → bit 12 w ≡ false
-pat-zero l w f g z e k =
-    let zero-there : pageWord l f g / 4096 % 2 ≡ 0 = bit-zero 12 (pageWord l f g) (new-page-entry l f g (said-fits l w f g z e) .hp-pat z) in
-    bit-off 12 w (by-high w (pageWord l f g) (k .high) zero-there)
-  where
-    by-high : (v x : ℕ) → v / 128 ≡ x / 128 → x / 4096 % 2 ≡ 0 → v / 2 ^ 12 % 2 ≡ 0
-    by-high v x h o =
-        let a : v / 4096 ≡ v / 128 / 32 = omega arith in
-        let c : x / 4096 ≡ x / 128 / 32 = omega arith in
-        ap (λ y. y % 2) (a ∙ ap (λ y. y / 32) h ∙ sym c) ∙ o
+-- j tables up from page p
+climbed : (ℕ → Role) → ℕ → ℕ → ℕ
+climbed role zero p = p
+climbed role (suc j) p = parentOf (role (climbed role j p))
 
-module _ {σ : Setting} {m : ℕ → ℕ} {role : ℕ → Role} (s : Sound σ m role) where
-  b : Built σ m role
-  b = s .built
-
+module _ {σ : Setting} {m : ℕ → ℕ} {role : ℕ → Role} (b : Built σ m role) where
   low-role : (q l : ℕ) → Live role q l → l < 4
   low-role q l v = go (role q) refl
     where
@@ -66,24 +58,85 @@ module _ {σ : Setting} {m : ℕ → ℕ} {role : ℕ → Role} (s : Sound σ m 
   named zero q i t g v u e = absurd (last-no-table _ t g e)
   named (suc k) q i t g v u e = (k, refl, b .down q (suc k) i t g v u e .0)
 
+  -- a table that the table t uses: t lies above it, as many tables up as there are levels between
+  used-climbs : {l t p : ℕ} → Live role t l → UsedBy m l t p → (j : ℕ) × (climbed role j p ≡ t) × (left (role p) + j ≡ suc l)
+  unfolding climbed parentOf
+  used-climbs v itself = (0, refl, omega (arith, v))
+  used-climbs {l = suc l} {t} {p} v (below i s g u e sub) =
+      let named-so = b .down t (suc l) i s g v u e .0 in
+      let k = used-climbs (ap left named-so) sub in
+      (suc (k .0), ap (λ x. parentOf (role x)) (k .1) ∙ ap parentOf named-so, omega (arith, k .2))
+
+  -- it has no more levels left than t, and is a table
+  pub used-low : {l t p : ℕ} → Live role t l → UsedBy m l t p → left (role p) ≤ suc l
+  used-low v x = let k = used-climbs v x in omega (arith, k .2)
+
+  pub used-live : {l t p : ℕ} → Live role t l → UsedBy m l t p → (k : ℕ) × Live role p k
+  used-live {l} v itself = (l, v)
+  used-live {l = suc l} {t} v (below i s g u e sub) = used-live (ap left (b .down t (suc l) i s g v u e .0)) sub
+
+  used-home : {l t p : ℕ} → Live role t l → UsedBy m l t p → Home σ p
+  used-home v itself = live-home b v
+  used-home {l = suc l} {t} v (below i s g u e sub) = used-home (ap left (b .down t (suc l) i s g v u e .0)) sub
+
+  -- two tables at one level use no table together
+  used-apart : {l s t p : ℕ} → Live role s l → Live role t l → UsedBy m l s p → UsedBy m l t p → s ≡ t
+  used-apart {l} {s} {t} {p} v w x y =
+      let a = used-climbs v x in
+      let c = used-climbs w y in
+      let same : a .0 ≡ c .0 = omega (arith, a .2, c .2) in
+      sym (a .1) ∙ ap (λ j. climbed role j p) same ∙ c .1
+
+  -- reserved bits, of any word: by what it says
+  mb0-of : (l q i : ℕ) → Live role q l → i < 512 → MustBeZero l (m (at q i))
+  mb0-of l q i v u = go (entryAt m l q i) refl
+    where
+      go : (x : Entry) → entryAt m l q i ≡ x → MustBeZero l (m (at q i))
+      go Nothing e = record { at-root = λ o z. absurd (none o); padding = λ o z k. absurd (none o) }
+        where
+          none : bit 0 (m (at q i)) ≡ true → ⊥
+          none o = omega (arith, bit-one 0 (m (at q i)) o, b .zeros q l i v u e)
+      go (Page f g) e = record { at-root = λ o z. absurd (root-no-page _ f g (subst (λ y. entryAt m y q i ≡ Page f g) z e)); padding = λ o z k. page-large l _ f g z e .padding }
+      go (Table t g) e =
+          let seven : bit 7 (m (at q i)) ≡ false = bit-off 7 _ (table-seven l _ t g e) in
+          record { at-root = λ o z. seven; padding = λ o z k. absurd (false≢true (sym seven ∙ k)) }
+
   pub inv-at : (l q : ℕ) → Live role q l → InvAt σ m role l q
   inv-at l q v = record {
     aligned = omega arith;
+    allocated = live-home b v;
     layer-in-range = low-role q l v;
-    regions = live-home b v;
     zeroed = λ i u e. b .zeros q l i v u e;
-    flags = λ i t g u e. b .down q l i t g v u e .1;
     obeys = λ i t g u e. let n = named l q i t g v u e in (n .0, n .1, ap left (n .2) ∙ n .1);
-    once = λ i t g u e l' q' i' g' v' u' e'. let n = named l q i t g v u e in let n' = named l' q' i' t g' v' u' e' in let same : table l q i ≡ table l' q' i' = sym (n .2) ∙ n' .2 in (cc, cc);
-    not-itself = λ i t g u e k. let n = named l q i t g v u e in omega (arith, v, ap left (n .2), ap (λ x. left (role x)) k);
-    reserved = λ i f g u e z. page-large l _ f g z e .padding;
+    flags = λ i t g u e. b .down q l i t g v u e .1;
+    matches = λ i t u. (λ k. b .down q l i t (k .0) v u (k .1) .0, λ k. (everything, b .up t l q i k .2));
+    disjoint = λ k i j s t g g' z u w n e f p x y.
+        let ns = named l q i s g v u e .2 in
+        let nt = named l q j t g' v w f .2 in
+        let same : s ≡ t = used-apart (ap left ns ∙ z) (ap left nt ∙ z) x y in
+        let roles : table l q i ≡ table l q j = sym ns ∙ ap role same ∙ nt in
+        n cc;
+    not-itself = λ k i s g z u e x. let n = named l q i s g v u e .2 in omega (arith, v, z, used-climbs (ap left n ∙ z) x .2);
+    regions = λ p x. used-home v x;
+    hp-pat = λ i f g u e z. b .pat q l i v u f g e z;
+    mb0 = λ i u. mb0-of l q i v u;
     large = λ i f g u e z. page-large l _ f g z e .seven;
-    hp-pat = λ i f g u e z. pat-zero l _ f g z e (b .clean q l i v u f g e);
-    exact = λ i f g u e. b .clean q l i v u f g e;
-    directories = λ i t g u e. table-seven l _ t g e;
-    nonempty = λ i t g u e k z. s .filled t k q i (named l q i t g v u e .2 ∙ ap (λ x. table x q i) z);
   }
 
--- a space that is whole has their invariant
-pub inv-holds : {h : ℕ → Bool} {sp : Space} {m : ℕ → ℕ} {role : ℕ → Role} → Whole h sp m role → Inv (settingOf h sp) m role
-inv-holds w = record { root = ap left (w .sound .built .starts); tables = inv-at (w .sound) }
+  -- TABLES THAT WE BUILT have their invariant,
+  pub inv-built : Inv σ m role
+  inv-built = record { root = ap left (b .starts); tables = inv-at }
+
+  -- and where none but the root is empty, no directory of theirs is.
+  pub none-empty : Filled m role → NoEmptyDirectories m role
+  none-empty f l q i t g v u e = f t l q i (b .down q (suc l) i t g v u e .0)
+
+-- a space that is whole has it
+pub inv-holds : {h : ℕ → Bool} {sp : Space} {m : ℕ → ℕ} {role : ℕ → Role} → Whole h sp m role → InvAndNonempty (settingOf h sp) m role
+inv-holds w = record { inv = inv-built (w .sound .built); nonempty = none-empty (w .sound .built) (w .sound .filled) }
+
+-- AT EVERY MOMENT of an operation some ghost tree shows their invariant: before each write, and after it.
+pub moments-inv : {σ : Setting} {m₀ m : ℕ → ℕ} {role₀ role : ℕ → Role} {va l : ℕ} {o : Found} {xs : List Write} → Changed σ m₀ role₀ va l o xs m role
+    → All m₀ (eventsOf xs) (SomeInv σ)
+moments-inv {σ} {m₀} {role₀ = role₀} {role} {xs = xs} c =
+    all-map (eventsOf xs) m₀ (Moment σ role₀ role) (SomeInv σ) (λ n t. record { role = t .roles; inv = inv-built (t .built) }) (c .moments)

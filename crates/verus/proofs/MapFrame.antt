@@ -13,16 +13,15 @@ use Rattle.walk.specs.declared.Found.{Found}
 use Rattle.walk.specs.declared.Found.the-variants.{Page, Nothing, Outside, NoAddress}
 use Rattle.walk.proofs.Digits.{size-pos}
 use Rattle.tables.specs.Roles.{Role}
-use Rattle.tables.proofs.Way.{comes-top}
 use Rattle.tables.specs.Meaning.{meaning}
 use Rattle.tables.proofs.Meaning.{never-outside}
 use Rattle.tables.specs.Overlap.{MappedIn}
-use Rattle.pool.specs.Book.{bookOf}
 use Rattle.pool.specs.Booked.{settingOf}
 use Rattle.pool.specs.declared.Space.{Space}
 use Rattle.pool.proofs.Pages.{root-page}
 use Rattle.plan.specs.Map as map
 use Rattle.plan.specs.declared.Reason.{Reason}
+use Rattle.plan.specs.declared.Reason.the-variants.{FrameInPool, NoRoom}
 use Rattle.plan.specs.declared.maps.Asked.{Asked}
 use Rattle.plan.specs.declared.maps.Mapping.{Mapping}
 use Rattle.plan.specs.Map.{Placed}
@@ -31,17 +30,21 @@ use Rattle.effect.specs.Whole.{Whole}
 use Rattle.effect.specs.MapDone.{MapDone, Fitted}
 use Rattle.effect.specs.MapRefused.{Cause, FrameApart, SomeMapped, no-size, base-unaligned, frame-unaligned, base-range, frame-high, write-execute, frame-in-pool, mapped, no-room}
 use Rattle.effect.proofs.Wholes.{root-low}
-use Rattle.effect.proofs.MapDone.{decided-done, mapped-inside, mapped-outside}
+use Rattle.effect.proofs.MapBuilt.{page-last}
+use Rattle.effect.proofs.MapDone.{decided-planned, decided-done, mapped-inside, mapped-outside}
 use Rattle.effect.proofs.MapRefused.{map-refused, map-succeeds}
 use Rattle.tablepath.specs.Answers.{mapAnswer, mapWrites, mapSaid}
 use Rattle.tablepath.specs.declared.Mapped.the-variants as mapped′
 use Rattle.verus.specs.Regions.{PTE, pteOf}
-use Rattle.verus.specs.Mappings.{CandidateOverlaps, AcceptedMapping, inserted, maxPhyaddr}
+use Rattle.verus.specs.Mappings.{CandidateOverlaps, AcceptedMapping, SameMap, inserted, maxPhyaddr}
 use Rattle.verus.specs.Walks.{interp}
-use Rattle.verus.specs.Operations.{meant, MapOk, MapErr}
-use Rattle.verus.proofs.Walks.{atBase, interp-found}
+use Rattle.verus.specs.Order.{meant}
+use Rattle.verus.specs.Operations.{MapOk, MapErr}
+use Rattle.verus.proofs.Walks.{atBase}
 use Rattle.verus.proofs.Mappings.{In, turned-inserts, overlaps-same}
-use Rattle.verus.proofs.Invariant.{inv-holds}
+use Rattle.verus.proofs.Invariant.{inv-holds, moments-inv}
+use Rattle.verus.proofs.Order.{meant-built, map-order}
+use Rattle.verus.proofs.Framing.{map-framed}
 
 -- what is asked, as theirs
 abbrev pub askedEntry : Asked → PTE
@@ -49,9 +52,7 @@ askedEntry q = pteOf (q .size) (q .frame) (q .rights)
 
 -- what the tables mean to them, by what an address means to us
 pub meant-found : {h : ℕ → Bool} {sp : Space} {m : ℕ → ℕ} {role : ℕ → Role} → Whole h sp m role → (va : ℕ) → meant sp m va ≡ atBase va (meaning (settingOf h sp) m va)
-meant-found {h} {sp} {m} w va =
-    subst (λ t. interp m t va ≡ atBase va (meaning (settingOf h sp) m va)) (root-page (sp .root) (root-low w))
-    (interp-found h m (4096 * sp .root) (never-outside (w .sound .built)) va)
+meant-found {h} {sp} w va = meant-built h sp (root-low w) (w .sound .built) va
 
 -- a test of overlap, by our word for it
 pub meant-overlaps : {h : ℕ → Bool} {sp : Space} {m : ℕ → ℕ} {role : ℕ → Role} → Whole h sp m role → (base : ℕ) (p : PTE) → 0 < p .frame .size
@@ -93,15 +94,18 @@ accepted-fits q a s = record {
 }
 
 module _ {h : ℕ → Bool} {sp : Space} {m : ℕ → ℕ} {role : ℕ → Role} (w : Whole h sp m role) (q : Asked) where
-  map-made : (p : Mapping) → map.decideOf h m sp q ≡ map.Go p → MapOk h sp m (map.writesOf sp p) (q .base) (askedEntry q)
+  map-made : (p : Mapping) → map.decideOf h m sp q ≡ map.Go p → MapOk h sp m role (map.writesOf sp p) (q .base) (askedEntry q)
   unfolding pteOf
   map-made p e = record {
     made = record {
       inv = record { role = d .role'; whole = d .whole; inv = inv-holds (d .whole) };
       one = d .changed .change;
-      meaning = λ va. meant-found (d .whole) va ∙ inserts va ∙ again va;
+      moments = moments-inv (d .changed);
+      meaning = now;
     };
     apart = λ c. not-mapped (meant-overlaps w (q .base) (askedEntry q) wide .0 c);
+    order = map-order h sp (root-low w) p (d .changed) (page-last w (decided-planned w q p e)) _ now;
+    framed = map-framed w (decided-planned w q p e) d;
   }
     where
       d : MapDone h sp m role q p
@@ -133,21 +137,26 @@ module _ {h : ℕ → Bool} {sp : Space} {m : ℕ → ℕ} {role : ℕ → Role}
       again : (va : ℕ) → inserted (λ b. atBase b (meaning (settingOf h sp) m b)) (q .base) (askedEntry q) va ≡ inserted (meant sp m) (q .base) (askedEntry q) va
       again va = unfold inserted in rw (meant-found w va)
 
-  -- MAP_FRAME, OK: the candidate overlapped nothing; the one changing write was made; the map has the page, and nothing else has changed.
-  pub map-ok : (k : ℕ) → mapAnswer h m sp q ≡ mapped′.Done k → MapOk h sp m (mapWrites h m sp q) (q .base) (askedEntry q)
+      now : SameMap (meant sp (after m (map.writesOf sp p))) (inserted (meant sp m) (q .base) (askedEntry q))
+      now va = meant-found (d .whole) va ∙ inserts va ∙ again va
+
+  -- MAP_FRAME, OK: the candidate overlapped nothing; the one changing write was made, the last one of a table; the map has the page, and nothing
+  -- else has changed; regions that are neither the subtree's nor new keep their words.
+  pub map-ok : (k : ℕ) → mapAnswer h m sp q ≡ mapped′.Done k → MapOk h sp m role (mapWrites h m sp q) (q .base) (askedEntry q)
   unfolding mapAnswer mapWrites mapSaid map.didOf
   map-ok k done = go (map.decideOf h m sp q) refl done
     where
-      go : (x : Placed) → map.decideOf h m sp q ≡ x → mapSaid x ≡ mapped′.Done k → MapOk h sp m (map.didOf sp x) (q .base) (askedEntry q)
+      go : (x : Placed) → map.decideOf h m sp q ≡ x → mapSaid x ≡ mapped′.Done k → MapOk h sp m role (map.didOf sp x) (q .base) (askedEntry q)
       go (map.Refused r) e f = let z : _≡_ {A = ℕ} 0 1 = cc in absurd (omega arith)
       go (map.Go p) e f = map-made p e
 
-  -- MAP_FRAME, ERR, where the source's demands hold (accepted_mapping; table memory and frames lie apart; there always is a page) and the page
-  -- is not both writable and executable, which the source allows: nothing was written, and the candidate overlaps.
-  pub map-err : (y : Reason) → mapAnswer h m sp q ≡ mapped′.Refused y → AcceptedMapping (q .base) (askedEntry q) → writeExecute (q .rights) ≡ false → FrameApart h sp q → 3 ≤ bookOf m sp .free
+  -- MAP_FRAME, ERR, where accepted_mapping holds and the page is not both writable and executable, which the source allows, for every reason
+  -- but the two that the source has no word for (its table memory and its frames lie apart, and there always is a page): nothing was written,
+  -- and the candidate overlaps.
+  pub map-err : (y : Reason) → mapAnswer h m sp q ≡ mapped′.Refused y → AcceptedMapping (q .base) (askedEntry q) → writeExecute (q .rights) ≡ false → y ≢ FrameInPool → y ≢ NoRoom
       → MapErr sp m (mapWrites h m sp q) (q .base) (askedEntry q)
   unfolding mapAnswer mapWrites mapSaid map.didOf pteOf
-  map-err y refused a strict apart enough = go (map.decideOf h m sp q) refl refused
+  map-err y refused a strict no-pool some-room = go (map.decideOf h m sp q) refl refused
     where
       f : Fitted (a .size .level) q
       f = accepted-fits q a strict
@@ -155,23 +164,19 @@ module _ {h : ℕ → Bool} {sp : Space} {m : ℕ → ℕ} {role : ℕ → Role}
       wide : 0 < q .size
       wide = omega (arith, f .size-is, size-pos (a .size .level))
 
-      because : (r : Reason) → Cause h sp m q r → CandidateOverlaps (meant sp m) (q .base) (askedEntry q)
-      because r (no-size n) = absurd (n (a .size .level) (a .size .low) (a .size .is))
-      because r (base-unaligned l o n) = absurd (n (a .vaddr-aligned))
-      because r (frame-unaligned l o b n) = absurd (n (a .frame-aligned))
-      because r (base-range l o b c n) = absurd (false≢true (sym n ∙ a .address))
-      because r (frame-high l o b c u n) = absurd (omega (arith, f .frame-fits))
-      because r (write-execute l o b c u v x) = absurd (false≢true (sym strict ∙ x))
-      because r (frame-in-pool l g k) = absurd (meets k apart)
-        where
-          meets : (sp .first * 4096 < q .frame + q .size) × (q .frame < (sp .first + sp .pages) * 4096) → FrameApart h sp q → ⊥
-          meets k (inl u) = omega (arith, k .0)
-          meets k (inr u) = omega (arith, k .1)
-      because r (mapped l g c k) = meant-overlaps w (q .base) (askedEntry q) wide .1 k
-      because r (no-room l n g c x k u) = absurd (omega (arith, comes-top (k .comes)))
+      because : (r : Reason) → Cause h sp m q r → r ≢ FrameInPool → r ≢ NoRoom → CandidateOverlaps (meant sp m) (q .base) (askedEntry q)
+      because r (no-size n) i o = absurd (n (a .size .level) (a .size .low) (a .size .is))
+      because r (base-unaligned l x n) i o = absurd (n (a .vaddr-aligned))
+      because r (frame-unaligned l x b n) i o = absurd (n (a .frame-aligned))
+      because r (base-range l x b c n) i o = absurd (false≢true (sym n ∙ a .address))
+      because r (frame-high l x b c u n) i o = absurd (omega (arith, f .frame-fits))
+      because r (write-execute l x b c u v d) i o = absurd (false≢true (sym strict ∙ d))
+      because r (frame-in-pool l g k) i o = absurd (i refl)
+      because r (mapped l g c k) i o = meant-overlaps w (q .base) (askedEntry q) wide .1 k
+      because r (no-room l n g c x k u) i o = absurd (o refl)
 
       go : (x : Placed) → map.decideOf h m sp q ≡ x → mapSaid x ≡ mapped′.Refused y → MapErr sp m (map.didOf sp x) (q .base) (askedEntry q)
       go (map.Go p) e g = let z : _≡_ {A = ℕ} 0 1 = cc in absurd (omega arith)
       go (map.Refused r) e g =
           let same : r ≡ y = cc in
-          record { unchanged = refl; overlaps = because y (map-refused w q y .0 (e ∙ ap map.Refused same)) }
+          record { unchanged = refl; overlaps = because y (map-refused w q y .0 (e ∙ ap map.Refused same)) no-pool some-room }

@@ -1,36 +1,30 @@
 -- THEIR TWO MEANINGS ARE ONE: what the tree of the root maps is what the walks find at their bases (lemma_interps_match).
-use Prim.Native.Nat.{ℕ, suc, _+_, _*_, _/_, _%_, _<_, _≤_}
-use mathlib.Core.Bool.{Bool, true}
+use Prim.Native.Nat.{ℕ, zero, suc, _+_, _*_, _/_, _%_, _<_, _≤_}
+use mathlib.Core.Bool.{Bool, true, false, cond}
 use mathlib.Core.Logic.{_↔_}
-use mathlib.Core.Option.{some}
+use mathlib.Core.Option.{none, some}
 use mathlib.Core.Path.{_≡_, refl, sym, ap, _∙_, subst}
 use native.Mathlib.Nat.{mul-comm, mul-assoc, add-mul, mul-mod-left, suc-mul, mul-le-mul-right, div-add-mod'}
 use native.Mathlib.Omega.{arith}
-use Rattle.entry.specs.Entry.{sizeOf, tableOf}
+use borrow.Author.Tests.{eq-eqb, eqb-true, lt-ltb, ltb-true}
+use lib.Dec.{eqb, ltb}
+use Rattle.entry.specs.Entry.{sizeOf, tableOf, both, everything}
 use Rattle.entry.specs.declared.Rights.{Rights}
-use Rattle.entry.specs.declared.Entry.the-variants.{Page, Table}
-use Rattle.entry.proofs.Parts.{root-no-page}
+use Rattle.entry.specs.declared.Entry.{Entry}
+use Rattle.entry.specs.declared.Entry.the-variants.{Nothing, Page, Table}
+use Rattle.entry.proofs.Fields.{last-no-table}
 use Rattle.walk.specs.Walk.{canonical, indexOf, baseOf}
-use Rattle.walk.specs.declared.Found.{Found}
-use Rattle.walk.specs.declared.Found.the-variants as found
-use Rattle.walk.proofs.Digits.{index-lt, size-pos, size-up, div-up}
-use Rattle.walk.proofs.Addresses.{near-canonical}
-use Rattle.tables.specs.Roles.{Setting, Role, entryAt, Built}
-use Rattle.tables.proofs.Near.{pick, pick-near, pick-index}
-use Rattle.tables.specs.Way.{Comes, begin, onto}
-use Rattle.tables.proofs.Way.{comes-near}
-use Rattle.tables.specs.Meaning.{meaning}
-use Rattle.tables.proofs.Meaning.{comes-root, mean-page, Ends, at-nothing, at-page, ends, never-outside, no-walk}
+use Rattle.walk.proofs.Digits.{index-lt, same-index, size-pos, size-up, div-up}
+use Rattle.tables.specs.Roles.{Setting, Role, Live, entryAt}
+use Rattle.tables.specs.Near.{Near}
+use Rattle.tables.proofs.Near.{near-range, pick, pick-index}
+use Rattle.tables.proofs.Meaning.{everything-both}
 use Rattle.tables.proofs.Overlap.{aligned-base}
-use Rattle.pool.specs.declared.Space.{Space}
-use Rattle.pool.proofs.Pages.{root-page}
-use Rattle.effect.specs.Whole.{Whole}
-use Rattle.effect.proofs.Wholes.{root-low}
 use Rattle.verus.specs.Regions.{PTE, pteOf}
-use Rattle.verus.specs.Walks.{interp}
-use Rattle.verus.specs.Trees.{InTree, a-page, a-directory}
-use Rattle.verus.specs.Operations.{meant}
-use Rattle.verus.proofs.Walks.{interp-is-meaning, meaning-is-interp}
+use Rattle.verus.specs.Mappings.{maxBase}
+use Rattle.verus.specs.Walks.{WalkResult, Valid, Invalid, ptWalk, based, view, interp}
+use Rattle.verus.specs.Trees.{InTree, a-page, a-directory, Inv}
+use Rattle.verus.proofs.Walks.{from, word, from-nothing, from-page, from-table, at-layer0}
 
 -- an index beside the ones above it
 spread : (a c s : ℕ) → a * (s * 512) + c * s ≡ (a * 512 + c) * s
@@ -65,76 +59,107 @@ in-tree-range {l = suc l} (a-directory i s g u e sub) =
     let k = in-tree-range sub in
     (omega (arith, k .0), omega (arith, k .1, size-up l, below i (sizeOf (suc l)) u))
 
-module _ {σ : Setting} {m : ℕ → ℕ} {role : ℕ → Role} (b : Built σ m role) where
-  -- what the tree of a table maps, an address means
-  tree-means : (l t start base : ℕ) (p : PTE) → l < 3 → InTree m l t start base p → Comes σ m start (suc l) t → start % sizeOf (suc l) ≡ 0
-      → (size frame : ℕ) × (r : Rights) × (meaning σ m base ≡ found.Page base size frame r) × (p ≡ pteOf size frame r)
-  tree-means l t start base p v (a-page i f g u e is same) c a =
-      let there : base ≡ pick start l i = is ∙ pick-is l start i a in
-      let comes : Comes σ m base (suc l) t = subst (λ x. Comes σ m x (suc l) t) (sym there) (comes-near (pick start l i) (omega arith) (pick-near start l i u) c) in
-      let index : i ≡ indexOf l base = sym (ap (indexOf l) there ∙ pick-index start l i u) in
-      let begins : baseOf l base ≡ base = aligned-base l base (ap (λ x. x % sizeOf l) there ∙ pick-aligned l start i) in
-      (sizeOf l, f, g, mean-page b comes (subst (λ x. entryAt m l t x ≡ Page f g) index e) ∙ ap (λ x. found.Page x (sizeOf l) f g) begins, same)
-  tree-means (suc l) t start base p v (a-directory i s g u e sub) c a =
-      let there : start + i * sizeOf (suc l) ≡ pick start (suc l) i = pick-is (suc l) start i a in
-      let comes : Comes σ m (pick start (suc l) i) (suc (suc l)) t = comes-near (pick start (suc l) i) (omega arith) (pick-near start (suc l) i u) c in
-      let down : Comes σ m (pick start (suc l) i) (suc l) s =
-      onto t g comes (subst (λ x. entryAt m (suc l) t x ≡ Table s g) (sym (pick-index start (suc l) i u)) e) in
-      tree-means l s _ base p (omega arith) sub (subst (λ x. Comes σ m x (suc l) s) (sym there) down) (ap (λ x. x % sizeOf (suc l)) there ∙ pick-aligned (suc l) start i)
+-- a result that is valid at its base, and what is
+based-valid : (base : ℕ) (p : PTE) → based base (Valid base p) ≡ some p
+unfolding based
+based-valid base p = rw (eq-eqb base base refl)
 
-  -- and what an address means, the tree maps: from the table that its walk comes to up to the root
-  lifted : {va n k q base : ℕ} {p : PTE} → n ≡ suc k → Comes σ m va n q → InTree m k q (baseOf n va) base p → InTree m 3 (tableOf (σ .cr3)) (baseOf 4 va) base p
-  lifted {va} {n} {k} {q} {base} {p} z (begin e f u) sub =
-      let level : k ≡ 3 = omega arith in
-      subst (λ x. InTree m 3 x (baseOf 4 va) base p) f (subst (λ x. InTree m x q (baseOf 4 va) base p) level (subst (λ x. InTree m k q (baseOf x va) base p) e sub))
-  lifted {va} {n} {k} {q} {base} {p} z (onto t g c e) sub =
-      lifted refl c (subst (λ x. InTree m x t (baseOf (suc n) va) base p) (sym z)
-      (a-directory (indexOf n va) q g (index-lt n va) (subst (λ x. entryAt m x t (indexOf n va) ≡ Table q g) z e)
-      (subst (λ x. InTree m k q x base p) (sym (ap (λ x. baseOf (suc n) va + indexOf n va * sizeOf x) (sym z) ∙ base-down n va)) sub)))
-
-  found-tree : (base size frame : ℕ) (r : Rights) → meaning σ m base ≡ found.Page base size frame r → InTree m 3 (tableOf (σ .cr3)) (baseOf 4 base) base (pteOf size frame r)
-  found-tree base size frame r e = go (meaning σ m base) (ends b base) e
-    where
-      go : (o : Found) → Ends σ m base o → o ≡ found.Page base size frame r → InTree m 3 (tableOf (σ .cr3)) (baseOf 4 base) base (pteOf size frame r)
-      go o (no-walk u) k = let z : _≡_ {A = ℕ} 0 1 = cc in absurd (omega arith)
-      go o (at-nothing l q c w) k = let z : _≡_ {A = ℕ} 0 1 = cc in absurd (omega arith)
-      go o (at-page l q f g c w) k =
-          let begins : baseOf l base ≡ base = cc in
-          let same : pteOf (sizeOf l) f g ≡ pteOf size frame r = cc in
-          lifted refl c (a-page (indexOf l base) f g (index-lt l base) w (sym (base-down l base ∙ begins)) (sym same))
-
-  -- the root's tree, which begins at 0 for the lower half and at 2 ^ 64 - 2 ^ 48 for the upper one
-  root-means : (base : ℕ) (p : PTE) → canonical base ≡ true → InTree m 3 (tableOf (σ .cr3)) (baseOf 4 base) base p
-      → (size frame : ℕ) × (r : Rights) × (meaning σ m base ≡ found.Page base size frame r) × (p ≡ pteOf size frame r)
-  unfolding baseOf indexOf sizeOf
-  root-means base p a (a-page i f g u e is same) = absurd (root-no-page _ f g e)
-  root-means base p a (a-directory i s g u e sub) =
-      let k = in-tree-range sub in
-      let here : base / 281474976710656 * 281474976710656 + i * 549755813888 ≤ base = k .0 in
-      let there : base < base / 281474976710656 * 281474976710656 + i * 549755813888 + 512 * 1073741824 = k .1 in
-      let start = base / 281474976710656 * 281474976710656 + i * 549755813888 in
-      let near : start / sizeOf 3 ≡ base / sizeOf 3 = omega arith in
-      let index : indexOf 3 start ≡ i = omega arith in
-      let aligned : start % sizeOf 3 ≡ 0 = omega arith in
-      tree-means 2 s start base p (omega arith) sub
-      (onto (tableOf (σ .cr3)) g (comes-root (near-canonical 3 start base (omega arith) near ∙ a)) (subst (λ j. entryAt m 3 (tableOf (σ .cr3)) j ≡ Table s g) (sym index) e)) aligned
-
--- LEMMA_INTERPS_MATCH: the two interpretations of the source are one. Its tree begins at 0; for an address of the upper half, at 2 ^ 64 - 2 ^ 48.
-pub tree-is-interp : {h : ℕ → Bool} {sp : Space} {m : ℕ → ℕ} {role : ℕ → Role} → Whole h sp m role → (base : ℕ) (p : PTE) → canonical base ≡ true
-    → InTree m 3 (sp .root) (baseOf 4 base) base p ↔ (meant sp m base ≡ some p)
-tree-is-interp {h} {sp} {m} w base p a = subst (λ t. InTree m 3 t (baseOf 4 base) base p ↔ (interp m t base ≡ some p)) (root-page (sp .root) (root-low w)) (there, back)
+valid-based : (base : ℕ) (p : PTE) (r : WalkResult) → based base r ≡ some p → r ≡ Valid base p
+unfolding based
+valid-based base p (Invalid a) e = let z : _≡_ {A = ℕ} 0 1 = cc in absurd (omega arith)
+valid-based base p (Valid a q) e = go (eqb a base) refl e
   where
-    root : ℕ
-    root = 4096 * sp .root
+    go : (b : Bool) → eqb a base ≡ b → cond b (some q) none ≡ some p → Valid a q ≡ Valid base p
+    go true f k = let same : a ≡ base = eqb-true a base f in let pte : q ≡ p = cc in cc
+    go false f k = let z : _≡_ {A = ℕ} 0 1 = cc in absurd (omega arith)
 
-    there : InTree m 3 (tableOf root) (baseOf 4 base) base p → interp m (tableOf root) base ≡ some p
-    there t =
-        let k = root-means (w .sound .built) base p a t in
-        meaning-is-interp h m root (never-outside (w .sound .built)) base base (k .0) (k .1) (k .2) (k .3) .0 ∙ ap some (sym (k .4))
+base-aligned : (l va : ℕ) → baseOf l va % sizeOf l ≡ 0
+unfolding baseOf
+base-aligned l va = mul-mod-left _ (sizeOf l)
 
-    back : interp m (tableOf root) base ≡ some p → InTree m 3 (tableOf root) (baseOf 4 base) base p
-    back e =
-        let k = interp-is-meaning h m root (never-outside (w .sound .built)) base p e in
-        let same : pteOf (p .frame .size) (p .frame .base) (k .rights) ≡ p = unfold pteOf in rw (k .flags) in
-        subst (InTree m 3 (tableOf root) (baseOf 4 base) base) same
-        (found-tree (w .sound .built) base (p .frame .size) (p .frame .base) (k .rights) (k .everywhere base (omega arith) (omega (arith, k .wide))))
+-- the entry of a table whose range an address lies in is the one that its walk reads
+index-in : (l start i base : ℕ) → start % sizeOf (suc l) ≡ 0 → i < 512 → start + i * sizeOf l ≤ base → base < start + i * sizeOf l + sizeOf l → i ≡ indexOf l base
+index-in l start i base a u low high =
+    let there : start + i * sizeOf l ≡ pick start l i = pick-is l start i a in
+    let begins : baseOf l (pick start l i) ≡ pick start l i = aligned-base l (pick start l i) (pick-aligned l start i) in
+    let near : Near l (pick start l i) base = near-range l (pick start l i) base .1 (omega (arith, there, begins), omega (arith, there, begins)) in
+    sym (pick-index start l i u) ∙ same-index l (pick start l i) base near
+
+module _ {σ : Setting} {m : ℕ → ℕ} {role : ℕ → Role} (v : Inv σ m role) where
+  -- what the tree of a table maps, the walk of that base finds from there on
+  tree-walks : (l t start base : ℕ) (p : PTE) → l < 4 → Live role t l → start % sizeOf (suc l) ≡ 0 → InTree m l t start base p → from m base (suc l) t everything ≡ Valid base p
+  tree-walks l t start base p k live a (a-page i f g u e is same) =
+      let index : i ≡ indexOf l base = index-in l start i base a u (omega (arith, is)) (omega (arith, is, size-pos l)) in
+      let begins : baseOf l base ≡ base = aligned-base l base (ap (λ x. x % sizeOf l) (is ∙ pick-is l start i a) ∙ pick-aligned l start i) in
+      from-page m base l t everything f g (subst (λ x. entryAt m l t x ≡ Page f g) index e)
+      ∙ ap (λ x. Valid x (pteOf (sizeOf l) f (both everything g))) begins
+      ∙ ap (λ x. Valid base (pteOf (sizeOf l) f x)) (everything-both g) ∙ ap (Valid base) (sym same)
+  tree-walks (suc l) t start base p k live a (a-directory i s g u e sub) =
+      let range = in-tree-range sub in
+      let index : i ≡ indexOf (suc l) base = index-in (suc l) start i base a u (range .0) (omega (arith, range .1, size-up l)) in
+      let here = v .tables (suc l) t live in
+      let one : g ≡ everything = here .flags i s g u e in
+      let next = here .obeys i s g u e in
+      let level : l ≡ next .0 = omega (arith, next .1) in
+      from-table m base (suc l) t everything s g (subst (λ x. entryAt m (suc l) t x ≡ Table s g) index e)
+      ∙ ap (λ x. from m base (suc l) s x) (everything-both g ∙ one)
+      ∙ tree-walks l s (start + i * sizeOf (suc l)) base p (omega arith) (next .2 ∙ ap suc (sym level))
+      (ap (λ x. x % sizeOf (suc l)) (pick-is (suc l) start i a) ∙ pick-aligned (suc l) start i) sub
+
+  -- and what a walk finds from a table on, at a base, the tree of that table maps: by what the entry says
+  walks-entry : (l t base : ℕ) (p : PTE) (x : Entry) → word m base l t ≡ x → from m base (suc l) t everything ≡ Valid base p
+      → ((s : ℕ) (g : Rights) → word m base l t ≡ Table s g → InTree m l t (baseOf (suc l) base) base p) → InTree m l t (baseOf (suc l) base) base p
+  walks-entry l t base p Nothing f e next = let z : _≡_ {A = ℕ} 0 1 = cc (from-nothing m base l t everything f) in absurd (omega arith)
+  walks-entry l t base p (Page y g) f e next =
+      let found : Valid (baseOf l base) (pteOf (sizeOf l) y (both everything g)) ≡ Valid base p = sym (from-page m base l t everything y g f) ∙ e in
+      let begins : baseOf l base ≡ base = cc in
+      let same : pteOf (sizeOf l) y (both everything g) ≡ p = cc in
+      a-page (indexOf l base) y g (index-lt l base) f (sym (base-down l base ∙ begins)) (sym (ap (pteOf (sizeOf l) y) (sym (everything-both g)) ∙ same))
+  walks-entry l t base p (Table s g) f e next = next s g f
+
+  walks-tree : (l t base : ℕ) (p : PTE) → l < 4 → Live role t l → from m base (suc l) t everything ≡ Valid base p → InTree m l t (baseOf (suc l) base) base p
+  walks-tree zero t base p k live e = walks-entry 0 t base p (word m base 0 t) refl e (λ s g f. absurd (last-no-table _ s g f))
+  walks-tree (suc l) t base p k live e = walks-entry (suc l) t base p (word m base (suc l) t) refl e (λ s g f.
+      let here = v .tables (suc l) t live in
+      let one : g ≡ everything = here .flags (indexOf (suc l) base) s g (index-lt (suc l) base) f in
+      let next = here .obeys (indexOf (suc l) base) s g (index-lt (suc l) base) f in
+      let level : l ≡ next .0 = omega (arith, next .1) in
+      a-directory (indexOf (suc l) base) s g (index-lt (suc l) base) f
+      (subst (λ x. InTree m l s x base p) (sym (base-down (suc l) base))
+      (walks-tree l s base p (omega arith) (next .2 ∙ ap suc (sym level))
+      (ap (λ x. from m base (suc l) s x) (sym (everything-both g ∙ one)) ∙ sym (from-table m base (suc l) t everything s g f) ∙ e))))
+
+  abbrev pml4 : ℕ
+  pml4 = tableOf (σ .cr3)
+
+  -- the root's tree, from where the range of 2 ^ 48 begins that the base lies in, and the walk of the base
+  tree-is-walk : (base : ℕ) (p : PTE) → InTree m 3 pml4 (baseOf 4 base) base p ↔ (ptWalk m pml4 base ≡ Valid base p)
+  tree-is-walk base p = (
+    λ t. sym (at-layer0 m base pml4) ∙ tree-walks 3 pml4 (baseOf 4 base) base p (omega arith) (v .root) (base-aligned 4 base) t,
+    λ e. walks-tree 3 pml4 base p (omega arith) (v .root) (at-layer0 m base pml4 ∙ e),
+  )
+
+  -- LEMMA_INTERPS_MATCH: where their invariant holds, the tree from 0 on and the map over the flat memory are one map.
+  pub tree-is-view : (base : ℕ) (p : PTE) → InTree m 3 pml4 0 base p ↔ (view m pml4 base ≡ some p)
+  unfolding view
+  tree-is-view base p = (there, back (ltb base maxBase) refl)
+    where
+      low : base < maxBase → baseOf 4 base ≡ 0
+      low u = unfold baseOf sizeOf in omega arith
+
+      there : InTree m 3 pml4 0 base p → cond (ltb base maxBase) (based base (ptWalk m pml4 base)) none ≡ some p
+      there t =
+          let u : base < maxBase = unfold sizeOf in omega (arith, in-tree-range t .1) in
+          rw (lt-ltb base maxBase u) (ap (based base) (tree-is-walk base p .0 (subst (λ x. InTree m 3 pml4 x base p) (sym (low u)) t)) ∙ based-valid base p)
+
+      back : (x : Bool) → ltb base maxBase ≡ x → cond (ltb base maxBase) (based base (ptWalk m pml4 base)) none ≡ some p → InTree m 3 pml4 0 base p
+      back true e k = subst (λ x. InTree m 3 pml4 x base p) (low (ltb-true base maxBase e)) (tree-is-walk base p .1 (valid-based base p _ (rw e at k)))
+      back false e k = let z : _≡_ {A = ℕ} 0 1 = cc in absurd (omega arith)
+
+  -- THE SAME FOR OUR ADDRESSES: the tree of the upper half begins at 2 ^ 64 - 2 ^ 48.
+  pub tree-is-interp : (base : ℕ) (p : PTE) → canonical base ≡ true → InTree m 3 pml4 (baseOf 4 base) base p ↔ (interp m pml4 base ≡ some p)
+  unfolding interp
+  tree-is-interp base p a = (
+    λ t. rw a (ap (based base) (tree-is-walk base p .0 t) ∙ based-valid base p),
+    λ k. tree-is-walk base p .1 (valid-based base p _ (rw a at k)),
+  )

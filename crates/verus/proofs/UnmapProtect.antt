@@ -38,7 +38,9 @@ use Rattle.effect.specs.UnmapDone.{UnmapDone}
 use Rattle.effect.specs.ProtectDone.{ProtectDone}
 use Rattle.effect.proofs.Searching.{nowhere}
 use Rattle.effect.proofs.Exactly.{unmap-exactly, protect-exactly}
+use Rattle.effect.proofs.Located.{located}
 use Rattle.effect.proofs.UnmapDone.{unmapped}
+use Rattle.effect.proofs.UnmapInPool.{unmap-went}
 use Rattle.effect.proofs.ProtectDone.{protected}
 use Rattle.effect.proofs.Wholes.{root-low}
 use Rattle.tablepath.specs.Answers.{unmapAnswer, unmapWrites, unmapSaid, goneOf, protectAnswer, protectWrites, alteredOf, protectSaid}
@@ -49,10 +51,13 @@ use Rattle.tablepath.specs.declared.Altered.{Altered}
 use Rattle.verus.specs.Regions.{pteOf}
 use Rattle.verus.specs.Mappings.{ContainsKey, inserted, removed}
 use Rattle.verus.specs.Walks.{interp}
-use Rattle.verus.specs.Operations.{meant, ChangeMade, UnmapOk, ProtectOk, NotThere}
+use Rattle.verus.specs.Order.{meant}
+use Rattle.verus.specs.Operations.{ChangeMade, UnmapOk, ProtectOk, NotThere}
 use Rattle.verus.proofs.Walks.{atBase, interp-is-meaning}
 use Rattle.verus.proofs.Mappings.{In, inner-none, first-some, turned-inserts, turned-removes}
-use Rattle.verus.proofs.Invariant.{inv-holds}
+use Rattle.verus.proofs.Invariant.{inv-holds, moments-inv}
+use Rattle.verus.proofs.Order.{unmap-order, protect-order}
+use Rattle.verus.proofs.Framing.{unmap-framed, protect-framed}
 use Rattle.verus.proofs.MapFrame.{meant-found}
 
 module _ {h : ℕ → Bool} {sp : Space} {m : ℕ → ℕ} {role : ℕ → Role} (w : Whole h sp m role) (base : ℕ) where
@@ -94,6 +99,7 @@ module _ {h : ℕ → Bool} {sp : Space} {m : ℕ → ℕ} {role : ℕ → Role}
       removal-made is = record {
         inv = record { role = role'; whole = whole; inv = inv-holds whole };
         one = changed .change;
+        moments = moments-inv changed;
         meaning = λ va. meant-found whole va
             ∙ turned-removes (meaning (settingOf h sp) m) (meaning (settingOf h sp) (after m xs)) base size o wide-page inside beside inner-page is va
             ∙ (unfold removed in rw (meant-found w va));
@@ -103,6 +109,7 @@ module _ {h : ℕ → Bool} {sp : Space} {m : ℕ → ℕ} {role : ℕ → Role}
       change-made r is = record {
         inv = record { role = role'; whole = whole; inv = inv-holds whole };
         one = changed .change;
+        moments = moments-inv changed;
         meaning = λ va. meant-found whole va
             ∙ turned-inserts (meaning (settingOf h sp) m) (meaning (settingOf h sp) (after m xs)) base size o wide-page inside beside inner-page frame r is va
             ∙ (unfold inserted in rw (meant-found w va));
@@ -118,8 +125,12 @@ module _ {h : ℕ → Bool} {sp : Space} {m : ℕ → ℕ} {role : ℕ → Role}
       go (removing.Go r) e f =
           let d : UnmapDone h sp m role base r = unmapped w base r e in
           let same : goneOf (bookOf m sp) r ≡ g = cc in
+          let made = removal-made (r .page .size) (r .page .frame) (d .had) (d .before) (r .page .way .level) Nothing (unmap.writesOf sp base r) (d .role') (d .size-is) (d .aligned) (d .changed) (d .whole) refl in
+          let went = unmap-went h m sp base r e in
           subst (λ (y : Gone). UnmapOk h sp m (unmap.writesOf sp base r) base (y .frame) (y .size)) same (record {
-            made = removal-made (r .page .size) (r .page .frame) (d .had) (d .before) (r .page .way .level) Nothing (unmap.writesOf sp base r) (d .role') (d .size-is) (d .aligned) (d .changed) (d .whole) refl;
+            made = made;
+            order = unmap-order h sp (root-low w) r (w .sound .built) (located w (went .found)) (d .changed) _ (made .meaning);
+            framed = λ l t c. unmap-framed w base r went l t c;
             rights = d .had;
             had = had-page (r .page .size) (r .page .frame) (d .had) (d .before);
           })
@@ -135,17 +146,20 @@ module _ {h : ℕ → Bool} {sp : Space} {m : ℕ → ℕ} {role : ℕ → Role}
           record { unchanged = refl; missing = λ k. nowhere (settingOf h sp) m base z (unmap-exactly w base .refused z .0 e) (key-starts k) }
 
   -- PROTECT, OK: the base was mapped; the one changing write was made; it has the same frame with the new flags.
-  pub protect-ok : (r : Rights) (g : Altered) → protectAnswer h m sp base r ≡ protected′.Done g → ProtectOk h sp m (protectWrites h m sp base r) base (g .frame) (g .size) r
-  unfolding protectAnswer protectWrites protectSaid alteredOf protect.didOf
+  pub protect-ok : (r : Rights) (g : Altered) → protectAnswer h m sp base r ≡ protected′.Done g → ProtectOk h sp m role (protectWrites h m sp base r) base (g .frame) (g .size) r
+  unfolding protectAnswer protectWrites protectSaid alteredOf protect.didOf change-made
   protect-ok r g done = go (protect.decideOf h m sp base r) refl done
     where
-      go : (x : Changing) → protect.decideOf h m sp base r ≡ x → protectSaid x ≡ protected′.Done g → ProtectOk h sp m (protect.didOf x) base (g .frame) (g .size) r
+      go : (x : Changing) → protect.decideOf h m sp base r ≡ x → protectSaid x ≡ protected′.Done g → ProtectOk h sp m role (protect.didOf x) base (g .frame) (g .size) r
       go (changing.Refused y) e f = let z : _≡_ {A = ℕ} 0 1 = cc in absurd (omega arith)
       go (changing.Go c) e f =
           let d : ProtectDone h sp m role base r c = protected w base r c e in
           let same : alteredOf c ≡ g = cc in
-          subst (λ (y : Altered). ProtectOk h sp m (protect.writesOf c) base (y .frame) (y .size) r) same (record {
-            made = change-made (c .size) (c .frame) (d .had) (d .before) (d .level) (Page base (c .size) (c .frame) r) (protect.writesOf c) role (d .size-is) (d .aligned) (d .changed) (d .whole) r refl;
+          let made = change-made (c .size) (c .frame) (d .had) (d .before) (d .level) (Page base (c .size) (c .frame) r) (protect.writesOf c) role (d .size-is) (d .aligned) (d .changed) (d .whole) r refl in
+          subst (λ (y : Altered). ProtectOk h sp m role (protect.writesOf c) base (y .frame) (y .size) r) same (record {
+            made = made;
+            order = protect-order sp m c _ (made .meaning);
+            framed = protect-framed w base r c e;
             before = d .had;
             had = had-page (c .size) (c .frame) (d .had) (d .before);
           })

@@ -40,22 +40,22 @@ anywhere p = true
 
 module _ (m : ℕ → ℕ) (va : ℕ) where
   -- what is found from the table t on, with n levels left
-  abbrev from : ℕ → ℕ → Rights → WalkResult
+  abbrev pub from : ℕ → ℕ → Rights → WalkResult
   from n t r = resultOf va (foundOf (run anywhere m n va (Going t r)))
 
-  abbrev word : ℕ → ℕ → Entry
+  abbrev pub word : ℕ → ℕ → Entry
   word n t = says n (m (at t (indexOf n va)))
 
   module _ (n t : ℕ) (r : Rights) where
-    from-nothing : word n t ≡ entry.Nothing → from (suc n) t r ≡ invalid va
+    pub from-nothing : word n t ≡ entry.Nothing → from (suc n) t r ≡ invalid va
     unfolding run stepOf entered foundOf
     from-nothing e = rw (e, run-ended anywhere m n va Nothing)
 
-    from-page : (f : ℕ) (g : Rights) → word n t ≡ entry.Page f g → from (suc n) t r ≡ Valid (baseOf n va) (pteOf (sizeOf n) f (both r g))
+    pub from-page : (f : ℕ) (g : Rights) → word n t ≡ entry.Page f g → from (suc n) t r ≡ Valid (baseOf n va) (pteOf (sizeOf n) f (both r g))
     unfolding run stepOf entered foundOf
     from-page f g e = rw (e, run-ended anywhere m n va (Page (baseOf n va) (sizeOf n) f (both r g)))
 
-    from-table : (s : ℕ) (g : Rights) → word n t ≡ entry.Table s g → from (suc n) t r ≡ from n s (both r g)
+    pub from-table : (s : ℕ) (g : Rights) → word n t ≡ entry.Table s g → from (suc n) t r ≡ from n s (both r g)
     unfolding run stepOf entered
     from-table s g e = rw e
 
@@ -101,7 +101,7 @@ module _ (m : ℕ → ℕ) (va : ℕ) where
       go (entry.Page f g) e = from-page 2 t r f g e ∙ (rw (← index, e, base) (unfold layer1 pteOf sizeOf in rw (both-combine r g)))
       go (entry.Table s g) e = from-table 2 t r s g e ∙ at-layer2 s (both r g) ∙ (rw (← index, e) (unfold layer1 in rw (both-combine r g)))
 
-  at-layer0 : (t : ℕ) → from 4 t everything ≡ ptWalk m t va
+  pub at-layer0 : (t : ℕ) → from 4 t everything ≡ ptWalk m t va
   unfolding ptWalk
   at-layer0 t = go (word 3 t) refl
     where

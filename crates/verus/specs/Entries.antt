@@ -13,10 +13,11 @@ use Rattle.entry.specs.declared.Entry.the-variants.{Page, Table}
 abbrev pub maskedAddress : ℕ → ℕ
 maskedAddress w = w / 4096 % 2 ^ 40 * 4096
 
--- all_mb0_bits_are_zero, of a word that is present: bit 7 at the root; of large pages, the bits between bit 12 and the address
+-- all_mb0_bits_are_zero: of a word that is present, bit 7 at the root; of large pages, the bits between bit 12 and the address. Of a word
+-- that is not present no bit is reserved.
 pub record MustBeZero (l w : ℕ) : Type 0 where
-  pub at-root : l ≡ 3 → bit 7 w ≡ false
-  pub padding : l ≢ 0 → bit 7 w ≡ true → w / 8192 % (sizeOf l / 8192) ≡ 0
+  pub at-root : bit 0 w ≡ true → l ≡ 3 → bit 7 w ≡ false
+  pub padding : bit 0 w ≡ true → l ≢ 0 → bit 7 w ≡ true → w / 8192 % (sizeOf l / 8192) ≡ 0
 
 -- new_page_entry. Bit 7 at the last level is where we differ: it is 0 here.
 pub record NewPageEntry (l frame : ℕ) (r : Rights) (w : ℕ) : Type 0 where

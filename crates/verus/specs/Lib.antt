@@ -1,6 +1,14 @@
 pub mod Regions
 pub mod Mappings
+pub mod Arch
 pub mod Walks
-pub mod Trees
-pub mod Operations
+pub mod Paths
+pub mod WriteSeq
 pub mod Entries
+pub mod NewEntry
+pub mod Trees
+pub mod TreeEntries
+pub mod Order
+pub mod ChangedTok
+pub mod Operations
+pub mod AtExit

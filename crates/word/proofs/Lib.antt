@@ -7,3 +7,4 @@ pub mod Runs
 pub mod Writes
 pub mod Odds
 pub mod Budget
+pub mod Cleared

@@ -5,7 +5,7 @@ use mathlib.Core.List.{List, [], _∷_}
 use lib.Dec.{leb, ltb}
 use lib.ListN.{length}
 use Rattle.word.specs.Memory.{pageCount, at, memory}
-use Rattle.word.specs.Writes.{Write, write}
+use Rattle.word.specs.Writes.{Write, write, zeros}
 use Rattle.word.specs.declared.Cell.{Cell}
 use Rattle.word.specs.declared.Cell.the-variants.{Word, Outside}
 
@@ -25,3 +25,7 @@ amongOf s origin first kept pages p i = cond (isAmong s origin first kept pages 
 -- setting such an entry to w is one write; where there is none, no write
 unfoldable pub amongWrites : List ℕ → ℕ → ℕ → ℕ → ℕ → ℕ → ℕ → ℕ → List Write
 amongWrites s origin first kept pages p i w = cond (isAmong s origin first kept pages p i) (write p i w ∷ []) []
+
+-- clearing such a page is 512 of them
+unfoldable pub amongZeros : List ℕ → ℕ → ℕ → ℕ → ℕ → ℕ → List Write
+amongZeros s origin first kept pages p = cond (isAmong s origin first kept pages p 0) (zeros p 512) []

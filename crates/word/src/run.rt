@@ -1,11 +1,10 @@
 // Runs of pages. That a run lies in the window is tested once, and then one comparison finds a page of it: where the same test was made
 // before, the compiler leaves out the second one.
 ghost use mathlib.Core.Path.{_≡_};
-ghost use mathlib.Core.Bool.{true};
 ghost use mathlib.Core.List.{[], _∷_};
 ghost use Rattle.word.specs.Memory.{readOf};
 ghost use Rattle.word.specs.Runs as the;
-ghost use Rattle.word.specs.Writes.{Wrote, write, zeros};
+ghost use Rattle.word.specs.Writes.{Wrote, write};
 use crate::Cell;
 use crate::PAGE_COUNT;
 use crate::load;
@@ -94,7 +93,7 @@ pub fn clear_among(
     pages: u64,
     p: u64,
 )
-    ensures { λ _. ⌜ (the.isAmong (now (mem .entry)) origin first kept pages p 0 ≡ true → Wrote origin (zeros p 512) (now (left .entry)) (now (left .exit)) (now (mem .entry)) (now (mem .exit))) ⌝ }
+    ensures { λ _. ⌜ Wrote origin (the.amongZeros (now (mem .entry)) origin first kept pages p) (now (left .entry)) (now (left .exit)) (now (mem .entry)) (now (mem .exit)) ⌝ }
 {
     let mut i: u64 = 0;
     while i < 512 {

@@ -2,7 +2,7 @@ use borrow.Author.Tests.{le-leb, lt-leb}
 use native.Mathlib.Omega.{arith}
 use Rattle.word.proofs.Budget.{wrote-none, wrote-then, wrote-as}
 use Rattle.walk.proofs.Digits.{index-lt}
-use Rattle.pool.proofs.Opening.{entry-one}
+use Rattle.pool.proofs.Opening.{entry-one, clear-all}
 use Rattle.plan.specs.Map.{nextOf, growOf}
 use Rattle.plan.proofs.Carrying.{stands-wrote}
 use borrow.Author.Needs.{needs}
@@ -39,7 +39,7 @@ same-length c = search needs
 
 returns-2 : tie.Need-returns-2
 unfolding nextOf growOf
-returns-2 c = let o = c .before .before .before .before .before .before .before .before .before .before .before .before .before .before .before .before .pre .1 .1 (c .before .before .before .before .before .before .before .before .before .before .before .before .before .if1 .left) in let w = c .before .before .before .before .before .before .before .before .before .before .clear-page .ensures (c .before .before .before .before .before .before .before .before .before .before .before .before .before .before .before .before .pre .1 .0) (o .0) in let i = c .before .before .before .before .before .index .ensures .0 (c .before .before .before .before .before .before .before .before .before .before .before .before .before .before .before .before .pre .0 .0) in (simp (lt-leb _ _ (c .before .before .before .before .before .before .before .before .before .before .before .before .before .if1 .left)), simp (lt-leb _ _ (c .before .before .before .before .before .before .before .before .before .before .before .before .before .if1 .left)) (wrote-then _ _ _ _ _ _ _ _ _ w (rw (← i, ← c .before .before .before .before .link .ensures) (wrote-as _ _ _ _ _ _ _ (entry-one _ _ (stands-wrote _ _ _ _ _ _ w (c .before .before .before .before .before .before .before .before .before .before .before .before .before .before .before .before .pre .1 .0)) _ _ (o .1) (rw i (index-lt _ _)) _) (c .before .before .before .set-entry .ensures)))))
+returns-2 c = let o = c .before .before .before .before .before .before .before .before .before .before .before .before .before .before .before .before .pre .1 .1 (c .before .before .before .before .before .before .before .before .before .before .before .before .before .if1 .left) in let w = wrote-as _ _ _ _ _ _ _ (clear-all _ _ (c .before .before .before .before .before .before .before .before .before .before .before .before .before .before .before .before .pre .1 .0) _ (o .0)) (c .before .before .before .before .before .before .before .before .before .before .clear-page .ensures) in let i = c .before .before .before .before .before .index .ensures .0 (c .before .before .before .before .before .before .before .before .before .before .before .before .before .before .before .before .pre .0 .0) in (simp (lt-leb _ _ (c .before .before .before .before .before .before .before .before .before .before .before .before .before .if1 .left)), simp (lt-leb _ _ (c .before .before .before .before .before .before .before .before .before .before .before .before .before .if1 .left)) (wrote-then _ _ _ _ _ _ _ _ _ w (rw (← i, ← c .before .before .before .before .link .ensures) (wrote-as _ _ _ _ _ _ _ (entry-one _ _ (stands-wrote _ _ _ _ _ _ w (c .before .before .before .before .before .before .before .before .before .before .before .before .before .before .before .before .pre .1 .0)) _ _ (o .1) (rw i (index-lt _ _)) _) (c .before .before .before .set-entry .ensures)))))
 
 pub grow-spec : {M : Type 1} → statement M
 grow-spec =

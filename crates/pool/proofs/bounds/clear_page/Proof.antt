@@ -1,6 +1,6 @@
-use mathlib.Core.Path.{_≡_}
-use native.Mathlib.Omega.{arith}
-use Rattle.pool.proofs.Opening.{stands-fit, stands-among}
+use borrow.Author.Tests.{le-leb, lt-leb}
+use Rattle.word.proofs.Budget.{wrote-none}
+use Rattle.pool.specs.Stands.{clearWrites}
 use borrow.Author.Needs.{needs}
 use Rattle.pool.proofs.bounds.clear_page.Statement.{statement}
 use Rattle.pool.proofs.bounds.clear_page.Tie as tie
@@ -10,7 +10,8 @@ use Rattle.pool.proofs.bounds.book_of.Reads as book-of-reads
 use Rattle.word.proofs.clear_among.Reads as clear-among-reads
 
 returns : tie.Need-returns
-returns c = λ e u. absurd (omega (arith, stands-fit _ _ e .small, c .if1 .taken))
+unfolding clearWrites
+returns c = simp (lt-leb _ _ (c .if1 .taken)) (wrote-none _ _ _)
 
 book-of-requires : tie.Need-book-of-requires
 book-of-requires c κs = search needs
@@ -22,7 +23,8 @@ same-length : tie.Need-same-length
 same-length c = search needs
 
 returns-2 : tie.Need-returns-2
-returns-2 c = λ e u. c .before .before .clear-among .ensures (rw (c .before .before .before .book-of .ensures) (stands-among _ _ e _ 0 u (omega arith)))
+unfolding clearWrites
+returns-2 c = simp (le-leb _ _ (c .before .before .before .before .before .before .if1 .left)) (rw (← c .before .before .before .book-of .ensures) (c .before .before .clear-among .ensures))
 
 pub clear-page-spec : {M : Type 1} → statement M
 clear-page-spec =

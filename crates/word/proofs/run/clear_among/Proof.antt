@@ -1,12 +1,12 @@
 use Prim.Native.Nat.{_≤_, _-_}
-use mathlib.Core.Bool.{true}
-use mathlib.Core.Path.{_≡_, refl, _∙_}
+use mathlib.Core.Bool.{cond}
+use mathlib.Core.List.{[]}
+use mathlib.Core.Path.{_≡_}
 use native.Mathlib.Omega.{arith}
-use lib.ListN.{length}
-use Rattle.word.specs.Runs.{isAmong}
+use Rattle.word.specs.Runs.{isAmong, amongZeros}
 use Rattle.word.specs.Writes.{Wrote, zeros}
-use Rattle.word.proofs.Budget.{wrote-no-zero, wrote-zero, wrote-as, length-wrote}
-use Rattle.word.proofs.Runs.{one-among, among-again}
+use Rattle.word.proofs.Budget.{length-wrote}
+use Rattle.word.proofs.Cleared.{no-zero-among, zero-among}
 use Rattle.word.proofs.run.clear_among.Statement.{statement}
 use Rattle.word.proofs.run.clear_among.Tie as tie
 use Rattle.word.proofs.run.clear_among.Reads as reads
@@ -15,13 +15,13 @@ use Rattle.word.proofs.run.write_among.Reads as write-among-reads
 
 abbrev Inv-loop : tie.InvT-loop
 Inv-loop mem₀ left₀ origin first kept pages p i₀ mem left i =
-    (i ≤ 512) × ((length mem ≡ length mem₀) × (isAmong mem₀ origin first kept pages p 0 ≡ true → Wrote origin (zeros p i) left₀ left mem₀ mem))
+    (i ≤ 512) × Wrote origin (cond (isAmong mem₀ origin first kept pages p 0) (zeros p i) []) left₀ left mem₀ mem
 
 abbrev μ-loop : tie.MeasureT-loop
 μ-loop mem₀ left₀ origin first kept pages p i₀ mem left i = 512 - i
 
 loop-holds : tie.Need-loop-holds Inv-loop μ-loop
-loop-holds c = (omega arith, (refl, λ _. wrote-no-zero _ _ _ _))
+loop-holds c = (omega arith, no-zero-among _ _ _ _ _ _ _)
 
 write-among-requires : tie.Need-write-among-requires Inv-loop μ-loop
 write-among-requires c κs = tt
@@ -34,21 +34,14 @@ loop-less c = omega arith
 
 loop-again : tie.Need-loop-again Inv-loop μ-loop
 loop-again c =
-    let k = c .before .before .before .before .before .before .loop .inv in
-    let w = c .before .before .write-among .ensures in (
-      omega arith,
-      (
-        length-wrote _ _ _ _ _ _ w ∙ k .1 .0,
-        λ e. wrote-zero _ _ _ _ _ _ _ _ _ (k .1 .1 e)
-            (wrote-as _ _ _ _ _ _ _ (one-among _ _ _ _ _ _ _ 0 (among-again _ _ _ _ _ _ _ _ _ (k .1 .0) (omega arith) e)) w),
-      ),
-    )
+    (omega arith, zero-among _ _ _ _ _ _ _ _ _ _ _ _ (omega arith) (c .before .before .before .before .before .before .loop .inv .1) (c .before .before .write-among .ensures))
 
 same-length : tie.Need-same-length Inv-loop μ-loop
-same-length c = c .before .loop .inv .1 .0
+same-length c = length-wrote _ _ _ _ _ _ (c .before .loop .inv .1)
 
 returns : tie.Need-returns Inv-loop μ-loop
-returns c = λ a. let e : c .before .loop .i ≡ 512 = omega arith in rw e at (c .before .loop .inv .1 .1 a)
+unfolding amongZeros
+returns c = let e : c .before .loop .i ≡ 512 = omega arith in rw e at (c .before .loop .inv .1)
 
 pub clear-among-spec : {M : Type 1} → statement M
 clear-among-spec =
