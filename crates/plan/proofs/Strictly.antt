@@ -1,7 +1,8 @@
 -- No page is writable and executable: what map and protect decide of such rights, for any bytes.
 use Prim.Native.Nat.{ℕ}
-use mathlib.Core.Bool.{Bool, true, false, cond}
-use mathlib.Core.Path.{_≡_, refl}
+use mathlib.Core.Bool.{Bool, true, false, true≢false, _&&_, not, cond}
+use mathlib.Core.Logic.{_↔_}
+use mathlib.Core.Path.{_≡_, refl, sym}
 use native.Mathlib.Omega.{arith}
 use Rattle.entry.specs.declared.Rights.{Rights}
 use Rattle.pool.specs.declared.Space.{Space}
@@ -16,6 +17,16 @@ use Rattle.plan.specs.Find.{findOf}
 use Rattle.plan.specs.Map as map
 use Rattle.plan.specs.Protect as protect
 use Rattle.plan.specs.Rights.{writeExecute}
+
+-- WHICH RIGHTS THOSE ARE, by their fields: no other definition says it, so it is said here again
+pub both-is : (r : Rights) → (writeExecute r ≡ true) ↔ ((r .writable ≡ true) × (r .noexec ≡ false))
+unfolding writeExecute
+both-is r = go (r .writable) (r .noexec)
+  where
+    go : (w x : Bool) → ((w && not x) ≡ true) ↔ ((w ≡ true) × (x ≡ false))
+    go true true = (λ e. absurd (true≢false (sym e)), λ k. absurd (true≢false (k .1)))
+    go true false = (λ e. (refl, refl), λ k. refl)
+    go false x = (λ e. absurd (true≢false (sym e)), λ k. absurd (true≢false (sym (k .0))))
 
 -- what map is asked, where size, alignment and range are right
 allowed-refused : (q : Asked) (n : ℕ) → map.shapeOf (q .size) (q .base) (q .frame) ≡ Level n → writeExecute (q .rights) ≡ true → map.allowedOf q ≡ Bad WriteExecute
