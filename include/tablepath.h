@@ -40,11 +40,12 @@
  * ADDRESSES are the machine's, canonical: bits 47 to 63 are all alike. They are the lower half, 0 to 0x7fffffffffff, and the upper half,
  * 0xffff800000000000 to 0xffffffffffffffff; no other number is an address. The last page ends at 2^64: base + size is then 0 in 64 bits.
  *
- * NO PAGE BECOMES WRITABLE AND EXECUTABLE. tp_map and tp_protect refuse TP_WRITABLE without TP_NO_EXECUTE, with TP_WRITE_EXECUTE: tp_map once
- * size, alignments and ranges are right and before it looks at the pool, tp_protect before all else but TP_RIGHTS. What is asked is tested, not
- * what is there: where tables have such a page already, tp_look_up and tp_entry say so, tp_unmap unmaps it and tp_protect gives it other
- * rights. A frame that is mapped twice, writable here and executable there, is the caller's. So is one that tp_protect made executable, until
- * its shootdown is done: a processor may still write to it as before.
+ * WRITABLE AND EXECUTABLE IS REFUSED. tp_map and tp_protect refuse TP_WRITABLE without TP_NO_EXECUTE, with TP_WRITE_EXECUTE: tp_map once size,
+ * alignments and ranges are right and before it looks at the pool, tp_protect right after TP_RIGHTS. What is asked is tested, not what is
+ * there: where tables have such a page already, tp_look_up and tp_entry say so, tp_unmap unmaps it and tp_protect gives it other rights. (A
+ * table that is made to name itself is not ours: its entries, read as pages, are both.) A frame that is mapped twice, writable here and
+ * executable there, is the caller's. So is one that tp_protect turned from writable to executable or back, until its shootdown is done: a
+ * processor may still write to it, or execute it, as before.
  *
  * LIMITS. Levels: four. Sizes: 4096, 2 MiB, 1 GiB. Physical addresses: 0 to 2^52 - 1.
  * The library calls no function but memset, for pages that are no table yet. The window is write-back memory, and memset makes ordinary
@@ -119,7 +120,7 @@ enum tp_reason {
     TP_RIGHTS = 25,            /* the rights have a bit that means nothing */
     /* every call but look-up and entry, before all else: said by this header, not by the library */
     TP_POINTER_UNALIGNED = 26, /* the pointer and the origin differ modulo 4096 */
-    /* map, after TP_FRAME_RANGE and before it looks at the pool; protect, before all else but TP_RIGHTS */
+    /* map, after TP_FRAME_RANGE and before it looks at the pool; protect, right after TP_RIGHTS */
     TP_WRITE_EXECUTE = 27      /* the page would be writable and executable */
     /* tools/reasons: end */
 };

@@ -90,7 +90,7 @@ impl Space {
     /// Addresses are the machine's, canonical: up to `0x7fff_ffff_ffff`, and from `0xffff_8000_0000_0000` on. A base that is none is refused,
     /// [`Reason::BaseRange`], here, by [`unmap`](Space::unmap) and by [`protect`](Space::protect). The last page ends at 2^64.
     ///
-    /// No page becomes writable and executable: with [`Rights::WRITABLE`] and without [`Rights::NO_EXECUTE`] it is refused,
+    /// Writable and executable, [`Rights::WRITABLE`] without [`Rights::NO_EXECUTE`], is refused,
     /// [`Reason::WriteExecute`], before the pool is looked at. What is asked is tested, not what is there: a page that older tables have is
     /// looked up and unmapped as any other. That no frame is mapped writable here and executable there is yours.
     ///
@@ -148,8 +148,9 @@ impl Space {
     }
 
     /// Gives the page that starts exactly at the base other rights. The machine's marks, accessed and dirty, stay as they were when the entry
-    /// was read. Rights that are writable and executable are refused, [`Reason::WriteExecute`], whatever is mapped. A page that becomes executable
-    /// may still be written by a processor that has it in a cache, until its shootdown is done.
+    /// was read. Rights that are writable and executable are refused, [`Reason::WriteExecute`], whatever is mapped. A page that
+    /// becomes executable may still be written, and one that becomes writable executed, by a processor that has it in a cache, until its
+    /// shootdown is done.
     ///
     /// ```
     /// use tablepath::{Pages, Reason, Rights, Size, Space};
