@@ -8,9 +8,9 @@ use Rattle.word.specs.Memory.{at}
 use Rattle.entry.specs.Entry.{bit, says}
 use Rattle.entry.specs.declared.Rights.{Rights}
 use Rattle.entry.specs.declared.Entry.the-variants.{Table}
-use Rattle.tables.specs.Roles.{Setting, Role, entryAt, Occupied}
+use Rattle.tables.specs.Roles.{Setting, Role, table, left, entryAt, Occupied}
 use Rattle.verus.specs.Entries.{MustBeZero}
-use Rattle.verus.specs.Trees.{UsedBy, itself, below, InvAt}
+use Rattle.verus.specs.Trees.{UsedBy, itself, below, Allocated, InvAt}
 use Rattle.verus.specs.ChangedTok.{KeepsUsed}
 
 -- it uses no other pages then
@@ -20,7 +20,9 @@ used-before {l = suc l} {q = q} keep (below i s g u e k) =
     let e' = ap (says (suc l)) (sym (keep q itself i u)) ∙ e in
     below i s g u e' (used-before (λ p x. keep p (below i s g u e' x)) k)
 
-module _ (σ : Setting) (m m' : ℕ → ℕ) (role : ℕ → Role) (l q : ℕ) (a : InvAt σ m role l q) (keep : KeepsUsed m m' l q) where
+-- the ghost tree has the same children at q, and the pages that q uses are allocated still; of every other page nothing is asked
+module _ (σ : Setting) (m m' : ℕ → ℕ) (role role' : ℕ → Role) (l q : ℕ) (a : InvAt σ m role l q) (keep : KeepsUsed m m' l q)
+    (children : (i t : ℕ) → i < 512 → (role t ≡ table l q i) ↔ (role' t ≡ table l q i)) (there : (p : ℕ) → UsedBy m l q p → Allocated σ role' p) where
   word : (i : ℕ) → i < 512 → m' (at q i) ≡ m (at q i)
   word i u = keep q itself i u
 
@@ -33,24 +35,26 @@ module _ (σ : Setting) (m m' : ℕ → ℕ) (role : ℕ → Role) (l q : ℕ) (
       keep p (subst (λ y. UsedBy m y q p) (sym n) (below i s g u (subst (λ y. entryAt m y q i ≡ Table s g) n e) x))
 
   -- LEMMA_INV_AT_CHANGED_TOK
-  pub inv-at-changed : InvAt σ m' role l q
+  pub inv-at-changed : InvAt σ m' role' l q
   inv-at-changed = record {
     aligned = a .aligned;
-    allocated = a .allocated;
+    allocated = there q itself;
     layer-in-range = a .layer-in-range;
     zeroed = λ i u e. word i u ∙ a .zeroed i u (was i u ∙ e);
-    obeys = λ i t g u e. a .obeys i t g u (was i u ∙ e);
+    obeys = λ i t g u e.
+        let k = a .obeys i t g u (was i u ∙ e) in
+        (k .0, k .1, ap left (children i t u .0 (a .matches i t u .0 (g, was i u ∙ e))) ∙ k .1);
     flags = λ i t g u e. a .flags i t g u (was i u ∙ e);
     matches = λ i t u. (
-      λ k. a .matches i t u .0 (k .0, was i u ∙ k .1),
-      λ e. let k = a .matches i t u .1 e in (k .0, sym (was i u) ∙ k .1),
+      λ k. children i t u .0 (a .matches i t u .0 (k .0, was i u ∙ k .1)),
+      λ e. let k = a .matches i t u .1 (children i t u .1 e) in (k .0, sym (was i u) ∙ k .1),
     );
     disjoint = λ k i j s t g g' n u v d e e' p x y.
         let f = was i u ∙ e in
         let f' = was j v ∙ e' in
         a .disjoint k i j s t g g' n u v d f f' p (used-before (lower k i s g n u f) x) (used-before (lower k j t g' n v f') y);
     not-itself = λ k i s g n u e x. let f = was i u ∙ e in a .not-itself k i s g n u f (used-before (lower k i s g n u f) x);
-    regions = λ p x. a .regions p (used-before keep x);
+    regions = λ p x. there p (used-before keep x);
     hp-pat = λ i f g u e n. subst (λ y. bit 12 y ≡ false) (sym (word i u)) (a .hp-pat i f g u (was i u ∙ e) n);
     mb0 = λ i u. subst (MustBeZero l) (sym (word i u)) (a .mb0 i u);
     large = λ i f g u e n. subst (λ y. y / 128 % 2 ≡ 1) (sym (word i u)) (a .large i f g u (was i u ∙ e) n);

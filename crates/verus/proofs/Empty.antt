@@ -13,18 +13,17 @@ use Rattle.entry.specs.declared.Rights.{Rights}
 use Rattle.entry.specs.declared.Entry.{Entry}
 use Rattle.entry.specs.declared.Entry.the-variants.{Nothing, Page, Table}
 use Rattle.entry.proofs.Fields.{says-absent}
-use Rattle.tables.specs.Roles.{Setting, Role, table, Live, entryAt, Home, Built, Zero, Bare}
-use Rattle.tables.proofs.Meaning.{live-home}
+use Rattle.tables.specs.Roles.{Setting, Role, table, entryAt, Zero, Bare}
 use Rattle.effect.proofs.Emptying.{keeps-no, keeps-yes}
 use Rattle.verus.specs.Entries.{MustBeZero}
-use Rattle.verus.specs.Trees.{UsedBy, itself, below, InvAt}
+use Rattle.verus.specs.Trees.{UsedBy, itself, below, Allocated, InvAt}
 use Rattle.verus.proofs.NewEntry.{zero-entry-facts}
 
 -- Whether a table is empty ---------------------------------------------------------------------------------------------------------------
 
-module _ {σ : Setting} {m : ℕ → ℕ} {role : ℕ → Role} (b : Built σ m role) (q l : ℕ) (v : Live role q l) where
+module _ {σ : Setting} {m : ℕ → ℕ} {role : ℕ → Role} (q l : ℕ) (a : InvAt σ m role l q) where
   held : σ .window q ≡ true
-  held = live-home b v .held
+  held = a .allocated .0 .held
 
   -- IS_DIRECTORY_EMPTY, of the whole table: what `word::besides` answers, where no entry is left aside
   pub is-directory-empty : (i : ℕ) → 512 ≤ i → (besidesOf (σ .window) m q i 512 ≡ false) ↔ Bare m (suc l) q
@@ -37,7 +36,7 @@ module _ {σ : Setting} {m : ℕ → ℕ} {role : ℕ → Role} (b : Built σ m 
       back k false e = refl
       back k true e =
           let o = keeps-yes (σ .window) m q i held 512 e in
-          absurd (o .3 (b .zeros q l (o .0) v (o .1) (k l (o .0) refl (o .1))))
+          absurd (o .3 (a .zeroed (o .0) (o .1) (k l (o .0) refl (o .1))))
 
   -- and as unmap asks it, before the first write: whether the table will be empty once entry i is cleared
   pub empty-once-cleared : (i : ℕ) → i < 512 → (besidesOf (σ .window) m q i 512 ≡ false) ↔ Bare (set m (at q i) 0) (suc l) q
@@ -55,7 +54,7 @@ module _ {σ : Setting} {m : ℕ → ℕ} {role : ℕ → Role} (b : Built σ m 
       back k true e =
           let o = keeps-yes (σ .window) m q i held 512 e in
           let same = set-other m (at q i) 0 (at q (o .0)) (λ y. o .2 (omega arith)) in
-          absurd (o .3 (b .zeros q l (o .0) v (o .1) (ap (says l) (sym same) ∙ k l (o .0) refl (o .1))))
+          absurd (o .3 (a .zeroed (o .0) (o .1) (ap (says l) (sym same) ∙ k l (o .0) refl (o .1))))
 
 -- A page of zeros ------------------------------------------------------------------------------------------------------------------------
 
@@ -68,7 +67,7 @@ zeroed-alone {l = suc l} z (below i s g v e k) =
     absurd (omega arith)
 
 -- LEMMA_ZEROED_PAGE_IMPLIES_EMPTY_AT: where no page is said to be below it, it keeps the invariant of a table, at any level
-pub zeroed-inv-at : (σ : Setting) (m : ℕ → ℕ) (role : ℕ → Role) (l q : ℕ) → l < 4 → Home σ q → Zero m q → ((i t : ℕ) → i < 512 → role t ≢ table l q i) → InvAt σ m role l q
+pub zeroed-inv-at : (σ : Setting) (m : ℕ → ℕ) (role : ℕ → Role) (l q : ℕ) → l < 4 → Allocated σ role q → Zero m q → ((i t : ℕ) → i < 512 → role t ≢ table l q i) → InvAt σ m role l q
 zeroed-inv-at σ m role l q u home z childless = record {
   aligned = omega arith;
   allocated = home;
@@ -79,7 +78,7 @@ zeroed-inv-at σ m role l q u home z childless = record {
   matches = λ i t v. (λ k. no-table i t (k .0) v (k .1), λ e. absurd (childless i t v e));
   disjoint = λ k i j s t g g' n v v' d e e'. no-table i s g v e;
   not-itself = λ k i s g n v e. no-table i s g v e;
-  regions = λ p k. subst (Home σ) (sym (zeroed-alone z k)) home;
+  regions = λ p k. subst (Allocated σ role) (sym (zeroed-alone z k)) home;
   hp-pat = λ i f g v e n. no-page i f g v e;
   mb0 = λ i v. subst (MustBeZero l) (sym (z i v)) (zero-entry-facts l 0 (omega arith) (omega arith) .1);
   large = λ i f g v e n. no-page i f g v e;

@@ -54,7 +54,7 @@ use Rattle.effect.proofs.ProtectDone.{with-rights-lt}
 use Rattle.effect.proofs.UnmapInPool.{UnmapWent}
 use Rattle.effect.proofs.WayInPool.{entry-in-pool}
 use Rattle.verus.specs.Trees.{UsedBy, itself, below}
-use Rattle.verus.specs.Order.{InBook, FramedBySubtrees, InnerFirst}
+use Rattle.verus.specs.Order.{InBook, FramedBySubtrees, KeepsOutside, InnerFirst}
 use Rattle.verus.proofs.Invariant.{used-low, used-live}
 
 -- The way ----------------------------------------------------------------------------------------------------------------------------
@@ -139,6 +139,7 @@ module _ {h : ℕ → Bool} {sp : Space} {m : ℕ → ℕ} {role : ℕ → Role}
           let was : role x ≡ free = ap role (sym there) ∙ w .booked .lists .frees j (omega (arith, k .supplied .room)) in
           let new = d .taken .tables j (omega (arith, k .supplied .need-is)) in
           let is : d .role' x ≡ table (new .0) (new .1) (new .2) = ap (d .role') (sym there) ∙ new .3 in
+          let still : d .role' x ≡ free = same was in
           let n : _≡_ {A = ℕ} 0 1 = cc in omega arith
       apart y (inr (inr o)) z = other (subst (InBook sp) z o)
 
@@ -260,19 +261,19 @@ module _ {h : ℕ → Bool} {sp : Space} {m : ℕ → ℕ} {role : ℕ → Role}
 
 module _ {h : ℕ → Bool} {sp : Space} {m : ℕ → ℕ} {role : ℕ → Role} (w : Whole h sp m role) (va : ℕ) (rights : Rights) where
   -- PROTECT writes one word, in the last table of its way
-  pub protect-framed : (c : Change) → protect.decideOf h m sp va rights ≡ changing.Go c → FramedBySubtrees (settingOf h sp) sp m role role (protect.writesOf c) va
+  pub protect-framed : (c : Change) → protect.decideOf h m sp va rights ≡ changing.Go c → KeepsOutside (settingOf h sp) m (protect.writesOf c) va
   unfolding protect.changingOf protect.changeOf protect.writesOf
   protect-framed c e = go (findOf h m sp va) refl (protect-strict h m sp va rights c e .1)
     where
       one : (s : PageEntry) → Located (settingOf h sp) m role va s → (v : ℕ) → v < 2 ^ 64
-          → FramedBySubtrees (settingOf h sp) sp m role role (write (s .way .a) (indexOf (s .way .level) va) v ∷ []) va
-      one s k v small l t q d unused same other i u =
+          → KeepsOutside (settingOf h sp) m (write (s .way .a) (indexOf (s .way .level) va) v ∷ []) va
+      one s k v small l t q d unused i u =
           after-other m _ q i u (every-one (s .way .a) (indexOf (s .way .level) va) v
           (λ z. unused (subst (UsedBy m l t) z (way-lifts (k .comes) d (way-ends d (k .comes) (page-plain _ _ (k .entry))) itself))) (index-lt (s .way .level) va) small)
 
-      go : (x : Sought) → findOf h m sp va ≡ x → protect.changingOf m sp va rights x ≡ changing.Go c → FramedBySubtrees (settingOf h sp) sp m role role (protect.writesOf c) va
+      go : (x : Sought) → findOf h m sp va ≡ x → protect.changingOf m sp va rights x ≡ changing.Go c → KeepsOutside (settingOf h sp) m (protect.writesOf c) va
       go (sought.Refused y) f j = let z : _≡_ {A = ℕ} 0 1 = cc in absurd (omega arith)
       go (sought.Found s) f j =
           let same : protect.changeOf va s rights (ticketIn (bookOf m sp)) ≡ c = cc in
-          subst (λ (x : Change). FramedBySubtrees (settingOf h sp) sp m role role (protect.writesOf x) va) same
+          subst (λ (x : Change). KeepsOutside (settingOf h sp) m (protect.writesOf x) va) same
           (one s (located w (found-at h m sp va s f)) (withRights (s .way .word) rights) (with-rights-lt (s .way .word) rights))

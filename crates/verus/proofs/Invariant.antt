@@ -104,7 +104,7 @@ module _ {σ : Setting} {m : ℕ → ℕ} {role : ℕ → Role} (b : Built σ m 
   pub inv-at : (l q : ℕ) → Live role q l → InvAt σ m role l q
   inv-at l q v = record {
     aligned = omega arith;
-    allocated = live-home b v;
+    allocated = (live-home b v, (l, v));
     layer-in-range = low-role q l v;
     zeroed = λ i u e. b .zeros q l i v u e;
     obeys = λ i t g u e. let n = named l q i t g v u e in (n .0, n .1, ap left (n .2) ∙ n .1);
@@ -117,7 +117,7 @@ module _ {σ : Setting} {m : ℕ → ℕ} {role : ℕ → Role} (b : Built σ m 
         let roles : table l q i ≡ table l q j = sym ns ∙ ap role same ∙ nt in
         n cc;
     not-itself = λ k i s g z u e x. let n = named l q i s g v u e .2 in omega (arith, v, z, used-climbs (ap left n ∙ z) x .2);
-    regions = λ p x. used-home v x;
+    regions = λ p x. (used-home v x, used-live v x);
     hp-pat = λ i f g u e z. b .pat q l i v u f g e z;
     mb0 = λ i u. mb0-of l q i v u;
     large = λ i f g u e z. page-large l _ f g z e .seven;

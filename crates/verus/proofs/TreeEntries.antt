@@ -10,10 +10,10 @@ use Rattle.entry.specs.declared.Entry.{Entry}
 use Rattle.entry.specs.declared.Entry.the-variants.{Nothing, Page, Table}
 use Rattle.entry.proofs.Fields.{last-no-table}
 use Rattle.walk.proofs.Digits.{size-up, size-pos}
-use Rattle.tables.specs.Roles.{Setting, Role, table, left, Live, entryAt, Occupied, Bare, Sound}
+use Rattle.tables.specs.Roles.{Setting, Role, table, left, Live, entryAt, Occupied, Bare}
 use Rattle.verus.specs.Regions.{PTE, pteOf}
 use Rattle.verus.specs.Mappings.{EntrySize}
-use Rattle.verus.specs.Trees.{InTree, a-page, a-directory}
+use Rattle.verus.specs.Trees.{InTree, a-page, a-directory, InvAndNonempty}
 use Rattle.verus.specs.TreeEntries.{InEntry, page-itself, table-below}
 
 -- so many entries, and one more
@@ -78,8 +78,8 @@ pub bare-tree : {m : ℕ → ℕ} {l t start b : ℕ} {p : PTE} → Bare m (suc 
 bare-tree {l = l} z (a-page i f g u e is same) = let k : _≡_ {A = Entry} Nothing (Page f g) = sym (z l i refl u) ∙ e in let x : _≡_ {A = ℕ} 0 1 = cc in omega arith
 bare-tree {l = l} z (a-directory i s g u e sub) = let k : _≡_ {A = Entry} Nothing (Table s g) = sym (z l i refl u) ∙ e in let x : _≡_ {A = ℕ} 0 1 = cc in omega arith
 
--- ONE THAT IS NOT maps some page, in tables that we built, of which none is empty
-pub occupied-tree : {σ : Setting} {m : ℕ → ℕ} {role : ℕ → Role} → Sound σ m role → (l t start : ℕ) → Live role t l → Occupied m l t → (b : ℕ) × (p : PTE) × InTree m l t start b p
+-- ONE THAT IS NOT maps some page, where their invariant holds and no directory is empty
+pub occupied-tree : {σ : Setting} {m : ℕ → ℕ} {role : ℕ → Role} → InvAndNonempty σ m role → (l t start : ℕ) → Live role t l → Occupied m l t → (b : ℕ) × (p : PTE) × InTree m l t start b p
 occupied-tree {σ} {m} {role} w zero t start v o = go (entryAt m 0 t (o .0)) refl
   where
     go : (e : Entry) → entryAt m 0 t (o .0) ≡ e → (b : ℕ) × (p : PTE) × InTree m 0 t start b p
@@ -93,8 +93,8 @@ occupied-tree {σ} {m} {role} w (suc l) t start v o = go (entryAt m (suc l) t (o
     go Nothing k below = absurd (o .2 k)
     go (Page f g) k below = (_, _, a-page (o .0) f g (o .1) k refl refl)
     go (Table s g) k below =
-        let named : role s ≡ table (suc l) t (o .0) = w .built .down t (suc l) (o .0) s g v (o .1) k .0 in
-        let sub = below s (ap left named) (w .filled s l t (o .0) named) in
+        let named : role s ≡ table (suc l) t (o .0) = w .inv .tables (suc l) t v .matches (o .0) s (o .1) .0 (g, k) in
+        let sub = below s (ap left named) (w .nonempty l t (o .0) s g v (o .1) k) in
         (sub .0, sub .1, a-directory (o .0) s g (o .1) k (sub .2))
 
 -- One entry changes -----------------------------------------------------------------------------------------------------------------------

@@ -146,17 +146,17 @@ module _ {h : ℕ → Bool} {sp : Space} {m : ℕ → ℕ} {role : ℕ → Role}
           record { unchanged = refl; missing = λ k. nowhere (settingOf h sp) m base z (unmap-exactly w base .refused z .0 e) (key-starts k) }
 
   -- PROTECT, OK: the base was mapped; the one changing write was made; it has the same frame with the new flags.
-  pub protect-ok : (r : Rights) (g : Altered) → protectAnswer h m sp base r ≡ protected′.Done g → ProtectOk h sp m role (protectWrites h m sp base r) base (g .frame) (g .size) r
+  pub protect-ok : (r : Rights) (g : Altered) → protectAnswer h m sp base r ≡ protected′.Done g → ProtectOk h sp m (protectWrites h m sp base r) base (g .frame) (g .size) r
   unfolding protectAnswer protectWrites protectSaid alteredOf protect.didOf change-made
   protect-ok r g done = go (protect.decideOf h m sp base r) refl done
     where
-      go : (x : Changing) → protect.decideOf h m sp base r ≡ x → protectSaid x ≡ protected′.Done g → ProtectOk h sp m role (protect.didOf x) base (g .frame) (g .size) r
+      go : (x : Changing) → protect.decideOf h m sp base r ≡ x → protectSaid x ≡ protected′.Done g → ProtectOk h sp m (protect.didOf x) base (g .frame) (g .size) r
       go (changing.Refused y) e f = let z : _≡_ {A = ℕ} 0 1 = cc in absurd (omega arith)
       go (changing.Go c) e f =
           let d : ProtectDone h sp m role base r c = protected w base r c e in
           let same : alteredOf c ≡ g = cc in
           let made = change-made (c .size) (c .frame) (d .had) (d .before) (d .level) (Page base (c .size) (c .frame) r) (protect.writesOf c) role (d .size-is) (d .aligned) (d .changed) (d .whole) r refl in
-          subst (λ (y : Altered). ProtectOk h sp m role (protect.writesOf c) base (y .frame) (y .size) r) same (record {
+          subst (λ (y : Altered). ProtectOk h sp m (protect.writesOf c) base (y .frame) (y .size) r) same (record {
             made = made;
             order = protect-order sp m c _ (made .meaning);
             framed = protect-framed w base r c e;

@@ -19,7 +19,7 @@ use Rattle.effect.specs.Whole.{Whole}
 use Rattle.verus.specs.Regions.{PTE, pteOf}
 use Rattle.verus.specs.Mappings.{Mappings, ContainsKey, CandidateOverlaps, SameMap, inserted, removed}
 use Rattle.verus.specs.Trees.{InvAndNonempty, SomeInv}
-use Rattle.verus.specs.Order.{meant, ChangeFirst, ChangeLast, FramedBySubtrees, InnerFirst}
+use Rattle.verus.specs.Order.{meant, ChangeFirst, ChangeLast, FramedBySubtrees, KeepsOutside, InnerFirst}
 
 -- inv_and_nonempty of the memory after; with our own invariant, under which the next operation is promised the same
 pub record InvAfter (h : ℕ → Bool) (sp : Space) (m' : ℕ → ℕ) : Type 0 where
@@ -60,10 +60,10 @@ pub record UnmapOk (h : ℕ → Bool) (sp : Space) (m : ℕ → ℕ) (xs : List 
   pub had : meant sp m base ≡ some (pteOf size frame rights)
 
 -- protect, Ok: the frame that was there, with the new flags
-pub record ProtectOk (h : ℕ → Bool) (sp : Space) (m : ℕ → ℕ) (role : ℕ → Role) (xs : List Write) (base frame size : ℕ) (rights : Rights) : Type 0 where
+pub record ProtectOk (h : ℕ → Bool) (sp : Space) (m : ℕ → ℕ) (xs : List Write) (base frame size : ℕ) (rights : Rights) : Type 0 where
   pub made : ChangeMade h sp m xs (inserted (meant sp m) base (pteOf size frame rights))
   pub order : ChangeFirst sp m xs (inserted (meant sp m) base (pteOf size frame rights))
-  pub framed : FramedBySubtrees (settingOf h sp) sp m role (made .inv .role) xs base
+  pub framed : KeepsOutside (settingOf h sp) m xs base
   pub before : Rights
   pub had : meant sp m base ≡ some (pteOf size frame before)
 

@@ -7,7 +7,7 @@ use mathlib.Core.Path.{_≡_}
 use Rattle.word.specs.Memory.{at}
 use Rattle.word.specs.Writes.{Write, after, Every}
 use Rattle.world.specs.Events.{All}
-use Rattle.tables.specs.Roles.{Setting, Role}
+use Rattle.tables.specs.Roles.{Setting, Role, free}
 use Rattle.tables.specs.Way.{Comes}
 use Rattle.tables.specs.Clearing.{eventsOf}
 use Rattle.pool.specs.Layout.{bookPages}
@@ -49,11 +49,15 @@ pub record ChangeLast (sp : Space) (m : ℕ → ℕ) (xs : List Write) (now : Ma
 abbrev pub KeepsWords : (ℕ → ℕ) → (ℕ → ℕ) → ℕ → Type 0
 KeepsWords m m' q = (i : ℕ) → i < 512 → m' (at q i) ≡ m (at q i)
 
--- map_frame_aux and protect_aux, of each table t that the walk of the base comes to: pages that t does not use and that are not new keep
--- their words. role and role' are the roles before and after.
+-- map_frame_aux, of each table t that the walk of the base comes to: pages that t does not use and that are not new keep their words. role
+-- and role' are the roles before and after; a page is new that was free and is no more.
 abbrev pub FramedBySubtrees : Setting → Space → (ℕ → ℕ) → (ℕ → Role) → (ℕ → Role) → List Write → ℕ → Type 0
 FramedBySubtrees σ sp m role role' xs base =
-    (l t q : ℕ) → Comes σ m base (suc l) t → ¬ UsedBy m l t q → role' q ≡ role q → ¬ InBook sp q → KeepsWords m (after m xs) q
+    (l t q : ℕ) → Comes σ m base (suc l) t → ¬ UsedBy m l t q → (role q ≡ free → role' q ≡ free) → ¬ InBook sp q → KeepsWords m (after m xs) q
+
+-- protect_aux: the same, and no page is new
+abbrev pub KeepsOutside : Setting → (ℕ → ℕ) → List Write → ℕ → Type 0
+KeepsOutside σ m xs base = (l t q : ℕ) → Comes σ m base (suc l) t → ¬ UsedBy m l t q → KeepsWords m (after m xs) q
 
 -- unmap_aux: the writes within the subtree of t come first, then those above it. Until then pages that t does not use keep their words, and
 -- then those that it does.

@@ -24,6 +24,10 @@ pub data UsedBy (m : ℕ → ℕ) : ℕ → ℕ → ℕ → Type 0 where
   itself : {l t : ℕ} → UsedBy m l t t
   below : {l t p : ℕ} (i s : ℕ) (g : Rights) → i < 512 → entryAt m (suc l) t i ≡ Table s g → UsedBy m l s p → UsedBy m (suc l) t p
 
+-- page p is allocated: one of the pool that is a table or the root, and so neither free nor set aside
+abbrev pub Allocated : Setting → (ℕ → Role) → ℕ → Type 0
+Allocated σ role p = Home σ p × ((k : ℕ) × Live role p k)
+
 -- THEIR INVARIANT of the table in page q, whose entries are read at level l (inv_at), for each table of the tree.
 -- allocated: its region is. zeroed: invalid_entries_are_zeroed. obeys: directories_obey_invariant_at. flags: directories_have_flags.
 -- matches: ghost_pt_matches_structure; the child of the ghost tree at i is the page whose role says so. disjoint:
@@ -31,7 +35,7 @@ pub data UsedBy (m : ℕ → ℕ) : ℕ → ℕ → ℕ → Type 0 where
 -- hp_pat_is_zero. mb0: entry_mb0_bits_are_zero. large: pages_have_bit7, but above the last level alone: there we differ.
 pub record InvAt (σ : Setting) (m : ℕ → ℕ) (role : ℕ → Role) (l q : ℕ) : Type 0 where
   pub aligned : 4096 * q % 4096 ≡ 0
-  pub allocated : Home σ q
+  pub allocated : Allocated σ role q
   pub layer-in-range : l < 4
   pub zeroed : (i : ℕ) → i < 512 → entryAt m l q i ≡ Nothing → m (at q i) ≡ 0
   pub obeys : (i t : ℕ) (g : Rights) → i < 512 → entryAt m l q i ≡ Table t g → (k : ℕ) × (l ≡ suc k) × Live role t k
@@ -40,7 +44,7 @@ pub record InvAt (σ : Setting) (m : ℕ → ℕ) (role : ℕ → Role) (l q : �
   pub disjoint : (k i j s t : ℕ) (g g' : Rights) → l ≡ suc k → i < 512 → j < 512 → i ≢ j → entryAt m l q i ≡ Table s g → entryAt m l q j ≡ Table t g'
       → (p : ℕ) → UsedBy m k s p → ¬ UsedBy m k t p
   pub not-itself : (k i s : ℕ) (g : Rights) → l ≡ suc k → i < 512 → entryAt m l q i ≡ Table s g → ¬ UsedBy m k s q
-  pub regions : (p : ℕ) → UsedBy m l q p → Home σ p
+  pub regions : (p : ℕ) → UsedBy m l q p → Allocated σ role p
   pub hp-pat : (i f : ℕ) (g : Rights) → i < 512 → entryAt m l q i ≡ Page f g → l ≢ 0 → bit 12 (m (at q i)) ≡ false
   pub mb0 : (i : ℕ) → i < 512 → MustBeZero l (m (at q i))
   pub large : (i f : ℕ) (g : Rights) → i < 512 → entryAt m l q i ≡ Page f g → l ≢ 0 → m (at q i) / 128 % 2 ≡ 1
