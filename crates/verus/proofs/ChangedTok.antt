@@ -1,6 +1,6 @@
 -- A TABLE WHOSE PAGES KEEP THEIR WORDS keeps the source's invariant (lemma_inv_at_changed_tok), and one below which no table is empty keeps
 -- that (lemma_no_empty_directories_with_changed_tok): for any memories, of one table and what lies below it.
-use Prim.Native.Nat.{ℕ, suc, _/_, _%_, _<_}
+use Prim.Native.Nat.{ℕ, zero, suc, _/_, _%_, _<_}
 use mathlib.Core.Bool.{false}
 use mathlib.Core.Logic.{_↔_, _≢_}
 use mathlib.Core.Path.{_≡_, refl, sym, ap, _∙_, subst}
@@ -8,10 +8,10 @@ use Rattle.word.specs.Memory.{at}
 use Rattle.entry.specs.Entry.{bit, says}
 use Rattle.entry.specs.declared.Rights.{Rights}
 use Rattle.entry.specs.declared.Entry.the-variants.{Table}
-use Rattle.tables.specs.Roles.{Setting, Role, table, left, entryAt, Occupied}
+use Rattle.tables.specs.Roles.{Setting, Role, table, left, Live, entryAt, Occupied}
 use Rattle.verus.specs.Entries.{MustBeZero}
-use Rattle.verus.specs.Trees.{UsedBy, itself, below, Allocated, InvAt}
-use Rattle.verus.specs.ChangedTok.{KeepsUsed}
+use Rattle.verus.specs.Trees.{UsedBy, itself, below, Allocated, InvAt, InvAndNonempty}
+use Rattle.verus.specs.ChangedTok.{KeepsUsed, NoneEmptyBelow}
 
 -- it uses no other pages then
 used-before : {m m' : ℕ → ℕ} {l q p : ℕ} → KeepsUsed m m' l q → UsedBy m' l q p → UsedBy m l q p
@@ -61,10 +61,24 @@ module _ (σ : Setting) (m m' : ℕ → ℕ) (role role' : ℕ → Role) (l q : 
   }
 
 -- LEMMA_NO_EMPTY_DIRECTORIES_WITH_CHANGED_TOK: where a table's entries say what they said, and the tables below keep their words
-pub nonempty-changed : (m m' : ℕ → ℕ) (l q : ℕ) → ((i : ℕ) → i < 512 → entryAt m (suc l) q i ≡ entryAt m' (suc l) q i)
-    → ((i t : ℕ) (g : Rights) → i < 512 → entryAt m (suc l) q i ≡ Table t g → KeepsUsed m m' l t)
-    → (i t : ℕ) (g : Rights) → i < 512 → (entryAt m (suc l) q i ≡ Table t g → Occupied m l t) → entryAt m' (suc l) q i ≡ Table t g → Occupied m' l t
-nonempty-changed m m' l q same keep i t g u full e =
+pub nonempty-changed : (m m' : ℕ → ℕ) (l q : ℕ) → ((i : ℕ) → i < 512 → entryAt m l q i ≡ entryAt m' l q i)
+    → ((k i t : ℕ) (g : Rights) → l ≡ suc k → i < 512 → entryAt m l q i ≡ Table t g → KeepsUsed m m' k t) → NoneEmptyBelow m l q → NoneEmptyBelow m' l q
+unfolding NoneEmptyBelow
+nonempty-changed m m' zero q same keep n = n
+nonempty-changed m m' (suc l) q same keep n = λ i t g u e.
     let e' = same i u ∙ e in
-    let o = full e' in
-    (o .0, o .1, λ k. o .2 (ap (says l) (sym (keep i t g u e' t itself (o .0) (o .1))) ∙ k))
+    let k = n i t g u e' in
+    let kept = keep l i t g refl u e' in
+    let o = k .0 in
+    let full : Occupied m' l t = (o .0, o .1, λ z. o .2 (ap (says l) (sym (kept t itself (o .0) (o .1))) ∙ z)) in
+    let lower : (k' j s : ℕ) (g' : Rights) → l ≡ suc k' → j < 512 → entryAt m l t j ≡ Table s g' → KeepsUsed m m' k' s =
+    λ k' j s g' w v f p x. kept p (subst (λ y. UsedBy m y t p) (sym w) (below j s g' v (subst (λ y. entryAt m y t j ≡ Table s g') w f) x)) in
+    (full, nonempty-changed m m' l t (λ j v. ap (says l) (sym (kept t itself j v))) lower (k .1))
+
+-- where inv_and_nonempty holds, it is so of every table
+pub none-empty-below : {σ : Setting} {m : ℕ → ℕ} {role : ℕ → Role} → InvAndNonempty σ m role → (l q : ℕ) → Live role q l → NoneEmptyBelow m l q
+unfolding NoneEmptyBelow
+none-empty-below w zero q v = tt
+none-empty-below w (suc l) q v = λ i t g u e.
+    let named = w .inv .tables (suc l) q v .matches i t u .0 (g, e) in
+    (w .nonempty l q i t g v u e, none-empty-below w l t (ap left named))

@@ -1,6 +1,6 @@
 -- UNMAP AND PROTECT, both outcomes: what the source promises follows from what ours answer and write.
 use Prim.Native.Nat.{ℕ, _%_, _<_}
-use mathlib.Core.Bool.{Bool, false, true≢false}
+use mathlib.Core.Bool.{Bool, false, true≢false, false≢true}
 use mathlib.Core.List.{List}
 use mathlib.Core.Logic.{_≢_}
 use mathlib.Core.Option.{none, some}
@@ -27,6 +27,7 @@ use Rattle.plan.specs.Unmap as unmap
 use Rattle.plan.specs.Protect as protect
 use Rattle.plan.specs.Rights.{writeExecute}
 use Rattle.plan.specs.declared.Reason.{Reason}
+use Rattle.plan.specs.declared.Reason.the-variants.{NothingStarts}
 use Rattle.plan.specs.declared.unmaps.Removing.{Removing}
 use Rattle.plan.specs.declared.unmaps.Removing.the-variants as removing
 use Rattle.plan.specs.declared.protects.Changing.{Changing}
@@ -49,7 +50,7 @@ use Rattle.tablepath.specs.declared.Gone.{Gone}
 use Rattle.tablepath.specs.declared.Protected.the-variants as protected′
 use Rattle.tablepath.specs.declared.Altered.{Altered}
 use Rattle.verus.specs.Regions.{pteOf}
-use Rattle.verus.specs.Mappings.{ContainsKey, inserted, removed}
+use Rattle.verus.specs.Mappings.{ContainsKey, AcceptedUnmap, inserted, removed}
 use Rattle.verus.specs.Walks.{interp}
 use Rattle.verus.specs.Order.{meant}
 use Rattle.verus.specs.Operations.{ChangeMade, UnmapOk, ProtectOk, NotThere}
@@ -144,6 +145,19 @@ module _ {h : ℕ → Bool} {sp : Space} {m : ℕ → ℕ} {role : ℕ → Role}
       go (removing.Go r) e f = let z : _≡_ {A = ℕ} 0 1 = cc in absurd (omega arith)
       go (removing.Refused z) e f =
           record { unchanged = refl; missing = λ k. nowhere (settingOf h sp) m base z (unmap-exactly w base .refused z .0 e) (key-starts k) }
+
+  -- where accepted_unmap holds, one reason is left, which is the source's
+  pub accepted-refused : (y : Reason) → unmapAnswer h m sp base ≡ unmapped′.Refused y → AcceptedUnmap base → y ≡ NothingStarts
+  unfolding unmapAnswer unmapSaid
+  accepted-refused y refused a = go (unmap.decideOf h m sp base) refl refused
+    where
+      one : (z : Reason) → effect.NotThere (settingOf h sp) m base z → z ≡ NothingStarts
+      one z (effect.no-address n) = absurd (false≢true (sym n ∙ a .address))
+      one z (effect.none-starts n k) = refl
+
+      go : (x : Removing) → unmap.decideOf h m sp base ≡ x → unmapSaid (bookOf m sp) x ≡ unmapped′.Refused y → y ≡ NothingStarts
+      go (removing.Go r) e f = let z : _≡_ {A = ℕ} 0 1 = cc in absurd (omega arith)
+      go (removing.Refused z) e f = let same : z ≡ y = cc in sym same ∙ one z (unmap-exactly w base .refused z .0 e)
 
   -- PROTECT, OK: the base was mapped; the one changing write was made; it has the same frame with the new flags.
   pub protect-ok : (r : Rights) (g : Altered) → protectAnswer h m sp base r ≡ protected′.Done g → ProtectOk h sp m (protectWrites h m sp base r) base (g .frame) (g .size) r
