@@ -6,3 +6,4 @@ pub mod OtherRights
 pub mod Parts
 pub mod Clean
 pub mod Pat
+pub mod Top

@@ -1,6 +1,6 @@
 // Entries of page tables: what a word says at each level, and the words that we write.
 ghost use mathlib.Core.Path.{_≡_};
-ghost use Prim.Native.Nat.{_<_, _≤_};
+ghost use Prim.Native.Nat.{ℕ, _<_, _≤_};
 ghost use Rattle.entry.specs.Entry as the;
 ghost use Rattle.entry.specs.Words as made;
 
@@ -92,10 +92,24 @@ fn large(n: u64, w: u64) -> Entry
     Entry::Nothing
 }
 
+// At the root a present word names a table, or says nothing where bit 7 is 1. Both bits are one test: one less than an odd word has its other
+// bits as they were, and one less than an even word is odd.
+fn at_root(w: u64) -> Entry
+    ensures { λ r. ⌜ ((n : ℕ) → 2 < n → r ≡ the.says n w) ⌝ }
+{
+    if std::num::wrapping_sub_u64(w, 1) & 129 == 0 {
+        return Entry::Table(table(w), granted(w));
+    }
+    Entry::Nothing
+}
+
 // What the word says at level n.
 pub fn decode(n: u64, w: u64) -> Entry
     ensures { λ r. ⌜ r ≡ the.says n w ⌝ }
 {
+    if 2 < n {
+        return at_root(w);
+    }
     if w % 2 == 0 {
         return Entry::Nothing;
     }

@@ -1,4 +1,4 @@
--- A 4 KIB PAGE'S ENTRY AS THE SOURCE WRITES IT, with bit 7, keeps our invariant: what the operations ask for is met by its trees.
+-- A 4 KIB PAGE'S ENTRY AS THE SOURCE WRITES IT, with bit 7, keeps our invariant: bit 7 is no hindrance to what the operations ask for.
 use Prim.Native.Nat.{ℕ, _+_, _*_, _/_, _%_, _^_, _<_}
 use mathlib.Core.Path.{_≡_, refl, sym, ap, _∙_, subst}
 use native.Mathlib.Omega.{arith}
