@@ -30,17 +30,25 @@ use Rattle.pool.specs.Book.{bookOf, ticketOf}
 use Rattle.pool.specs.Booked.{settingOf}
 use Rattle.pool.specs.Create.{newSpace}
 use Rattle.pool.specs.declared.Created.the-variants as created
+use Rattle.pool.specs.declared.Book.{Book}
 use Rattle.pool.specs.declared.Space.{Space}
 use Rattle.plan.specs.Map as map
 use Rattle.plan.specs.Protect as protect
 use Rattle.plan.specs.Rights.{writeExecute}
+use Rattle.plan.specs.Unmap as unmap
 use Rattle.plan.specs.declared.maps.Asked.{Asked}
-use Rattle.plan.proofs.Strictly.{map-strict, map-refuses, protect-strict, protect-refuses}
+use Rattle.plan.specs.declared.Reason.the-variants.{WriteExecute}
+use Rattle.plan.specs.declared.unmaps.Removing.{Removing}
+use Rattle.plan.specs.declared.unmaps.Removing.the-variants as removing
+use Rattle.plan.specs.declared.protects.Changing.{Changing}
+use Rattle.plan.specs.declared.protects.Changing.the-variants as changing
+use Rattle.plan.proofs.Strictly.{map-strict, map-refuses, map-only, protect-strict, protect-refuses, protect-only, unmap-never}
 use Rattle.effect.specs.Whole.{Whole}
 use Rattle.tablepath.specs.declared.Mapped.the-variants as mapped
+use Rattle.tablepath.specs.declared.Unmapped.the-variants as unmapped
 use Rattle.tablepath.specs.declared.Protected.the-variants as protected
 use Rattle.tablepath.specs.declared.Altered.{Altered}
-use Rattle.tablepath.specs.Answers.{createAnswer, createWrites, mapAnswer, mapSaid, protectAnswer, protectSaid}
+use Rattle.tablepath.specs.Answers.{createAnswer, createWrites, mapAnswer, mapSaid, unmapAnswer, unmapSaid, protectAnswer, protectSaid}
 use Rattle.tablepath.specs.Calls.{means, Call, Within, callWrites, Saw, Act, actWrites, wrote, Runs, UpTo, Reached}
 use Rattle.tablepath.specs.Looks.{WholeBytes}
 use Rattle.tablepath.specs.Nights.{Night, dusk, calls, happens, begins, done, history, lastBegan, lastSince, due, uncovered, untoldKept, upperDropped, Protects, Gets, Honest, Telling, Complete}
@@ -58,6 +66,22 @@ use Rattle.tablepath.proofs.Nights.{night-facts, night-told-fresh, nigh
 
 -- For any bytes -----------------------------------------------------------------------------------------------------------------------
 
+-- an answer gives the reason of the decision
+map-told : (x : map.Placed) → mapSaid x ≡ mapped.Refused WriteExecute → x ≡ map.Refused WriteExecute
+unfolding mapSaid
+map-told (map.Go p) e = let z : _≡_ {A = ℕ} 0 1 = cc in absurd (omega arith)
+map-told (map.Refused y) e = let same : y ≡ WriteExecute = cc in ap map.Refused same
+
+unmap-told : (b : Book) (x : Removing) → unmapSaid b x ≡ unmapped.Refused WriteExecute → x ≡ removing.Refused WriteExecute
+unfolding unmapSaid
+unmap-told b (removing.Go r) e = let z : _≡_ {A = ℕ} 0 1 = cc in absurd (omega arith)
+unmap-told b (removing.Refused y) e = let same : y ≡ WriteExecute = cc in ap removing.Refused same
+
+protect-told : (x : Changing) → protectSaid x ≡ protected.Refused WriteExecute → x ≡ changing.Refused WriteExecute
+unfolding protectSaid
+protect-told (changing.Go c) e = let z : _≡_ {A = ℕ} 0 1 = cc in absurd (omega arith)
+protect-told (changing.Refused y) e = let same : y ≡ WriteExecute = cc in ap changing.Refused same
+
 module _ (h : ℕ → Bool) (m : ℕ → ℕ) (sp : Space) where
   -- where it is done, the rights that were asked are not both
   pub map-given : (q : Asked) (k : ℕ) → mapAnswer h m sp q ≡ mapped.Done k → writeExecute (q .rights) ≡ false
@@ -68,13 +92,16 @@ module _ (h : ℕ → Bool) (m : ℕ → ℕ) (sp : Space) where
   unfolding protectAnswer
   protect-given va r g e = let f = protect-done-by g (protect.decideOf h m sp va r) e in protect-strict h m sp va r (f .0) (f .1) .0
 
-  -- WHO ASKS FOR ONE IS REFUSED
+  -- WHO ASKS FOR ONE IS REFUSED, and nobody else for that
   pub refuses-both : RefusesBoth h m sp
-  unfolding mapAnswer mapSaid protectAnswer protectSaid
+  unfolding mapAnswer mapSaid unmapAnswer protectAnswer protectSaid
   refuses-both = record {
     map = λ q l e s. rw (map-refuses h m sp q l e s);
     never-mapped = λ q k s e. true≢false (sym s ∙ map-given q k e);
     protect = λ va r s. rw (protect-refuses h m sp va r s);
+    only-map = λ q e. map-only h m sp q (map-told (map.decideOf h m sp q) e);
+    only-protect = λ va r e. protect-only h m sp va r (protect-told (protect.decideOf h m sp va r) e);
+    never-unmap = λ va e. unmap-never h m sp va (unmap-told (bookOf m sp) (unmap.decideOf h m sp va) e);
   }
 
 -- One call ------------------------------------------------------------------------------------------------------------------------------

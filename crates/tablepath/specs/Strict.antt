@@ -18,8 +18,9 @@ use Rattle.plan.specs.declared.Reason.the-variants.{WriteExecute}
 use Rattle.plan.specs.declared.maps.Asked.{Asked}
 use Rattle.plan.specs.declared.maps.Shape.the-variants.{Level}
 use Rattle.tablepath.specs.declared.Mapped.the-variants as mapped
+use Rattle.tablepath.specs.declared.Unmapped.the-variants as unmapped
 use Rattle.tablepath.specs.declared.Protected.the-variants as protected
-use Rattle.tablepath.specs.Answers.{mapAnswer, protectAnswer}
+use Rattle.tablepath.specs.Answers.{mapAnswer, unmapAnswer, protectAnswer}
 use Rattle.tablepath.specs.Calls.{means}
 use Rattle.tablepath.specs.Nights.{Night, present, Gets}
 use Rattle.tablepath.specs.Gone.{dawn}
@@ -39,11 +40,15 @@ Strict h sp m = (va : ℕ) → NotBoth (means h sp m va)
 abbrev pub StrictBytes : List ℕ → Space → Type 0
 StrictBytes s sp = Strict (holds s (sp .origin)) sp (memory s (sp .origin))
 
--- WHO ASKS FOR ONE IS REFUSED, whatever memory says: by protect for that and before all else, by map for that or for its size, alignment or range
+-- WHO ASKS FOR ONE IS REFUSED, whatever memory says: by protect for that and before all else, by map for that or for its size, alignment or range;
+-- and for no other cause is this reason given
 pub record RefusesBoth (h : ℕ → Bool) (m : ℕ → ℕ) (sp : Space) : Type 0 where
   pub map : (q : Asked) (l : ℕ) → shapeOf (q .size) (q .base) (q .frame) ≡ Level l → writeExecute (q .rights) ≡ true → mapAnswer h m sp q ≡ mapped.Refused WriteExecute
   pub never-mapped : (q : Asked) (k : ℕ) → writeExecute (q .rights) ≡ true → mapAnswer h m sp q ≢ mapped.Done k
   pub protect : (va : ℕ) (r : Rights) → writeExecute r ≡ true → protectAnswer h m sp va r ≡ protected.Refused WriteExecute
+  pub only-map : (q : Asked) → mapAnswer h m sp q ≡ mapped.Refused WriteExecute → writeExecute (q .rights) ≡ true
+  pub only-protect : (va : ℕ) (r : Rights) → protectAnswer h m sp va r ≡ protected.Refused WriteExecute → writeExecute r ≡ true
+  pub never-unmap : (va : ℕ) → unmapAnswer h m sp va ≢ unmapped.Refused WriteExecute
 
 module _ (h : ℕ → Bool) (sp : Space) where
   -- AT EVERY MOMENT OF A NIGHT that began strict no address means such a page.
