@@ -1,7 +1,7 @@
 pub mod Flags
 pub mod Walks
 pub mod Extended
-pub mod Agrees
+pub mod WalksAgree
 pub mod Mappings
 pub mod Arch
 pub mod Invariant
