@@ -4,6 +4,7 @@ pub mod Tests
 pub mod Memory
 pub mod Holding
 pub mod Runs
+pub mod Tallies
 pub mod Writes
 pub mod Odds
 pub mod Budget

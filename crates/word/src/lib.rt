@@ -13,8 +13,10 @@ mod run;
 mod scan;
 
 pub use run::read_among;
+pub use run::read_tally;
 pub use run::spans;
 pub use run::write_among;
+pub use run::write_tally;
 pub use scan::besides;
 
 // No budget: all writes are done.

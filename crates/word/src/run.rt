@@ -78,3 +78,67 @@ pub fn write_among(
         }
     }
 }
+
+// A run may keep a word for each of its pages, in its first pages: behind so many words at its beginning, and one for each page. Is there
+// that of page p, which is none of so many pages at its beginning? Where p is a page of the run, its word is one.
+fn tallied(
+    mem: &[u8],
+    origin: u64,
+    first: u64,
+    kept: u64,
+    pages: u64,
+    skip: u64,
+    p: u64,
+) -> bool
+    ensures { λ r. ⌜ r ≡ the.isTallied (now (mem .entry)) origin first kept pages skip p ⌝ }
+{
+    if 510 < skip {
+        return false;
+    }
+    among(mem, origin, first, kept, pages, p, 0)
+}
+
+pub fn read_tally(
+    mem: &[u8],
+    origin: u64,
+    first: u64,
+    kept: u64,
+    pages: u64,
+    skip: u64,
+    p: u64,
+) -> Cell
+    ensures { λ r. ⌜ r ≡ the.tallyOf (now (mem .entry)) origin first kept pages skip p ⌝ }
+{
+    if tallied(mem, origin, first, kept, pages, skip, p) {
+        return Cell::Word(load(
+            mem,
+            (first * 4096 - origin + (skip + pages + (p - first)) * 8) as usize,
+        ));
+    }
+    Cell::Outside
+}
+
+// Sets that word: one write of the budget; where there is none, no write.
+pub fn write_tally(
+    mem: &mut [u8],
+    left: &mut u64,
+    origin: u64,
+    first: u64,
+    kept: u64,
+    pages: u64,
+    skip: u64,
+    p: u64,
+    w: u64,
+)
+    ensures { λ _. ⌜ Wrote origin (the.tallyWrites (now (mem .entry)) origin first kept pages skip p w) (now (left .entry)) (now (left .exit)) (now (mem .entry)) (now (mem .exit)) ⌝ }
+{
+    if tallied(mem, origin, first, kept, pages, skip, p) {
+        if spend(left) {
+            store(
+                mem,
+                (first * 4096 - origin + (skip + pages + (p - first)) * 8) as usize,
+                w,
+            );
+        }
+    }
+}
