@@ -1,6 +1,7 @@
 pub mod Walks
 pub mod Ties
 pub mod Near
+pub mod Saying
 pub mod Way
 pub mod Meaning
 pub mod Sentences

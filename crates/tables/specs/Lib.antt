@@ -1,5 +1,6 @@
 pub mod Walks
 pub mod Roles
+pub mod Saying
 pub mod Near
 pub mod Way
 pub mod Meaning
