@@ -9,13 +9,13 @@ use Rattle.word.proofs.Writes.{every-map, after-other}
 use Rattle.tables.specs.Roles.{Role, book}
 use Rattle.pool.specs.declared.Space.{Space}
 use Rattle.pool.specs.declared.Book.{Book}
-use Rattle.pool.specs.Layout.{signatureAt, pagesAt, rootAt, headAt, freeAt, asideAt, ticketsAt, slotAt, headerWords, bookWords, bookPages}
+use Rattle.pool.specs.Layout.{signatureAt, pagesAt, rootAt, headAt, freeAt, asideAt, ticketsAt, slotAt, headerWords, countAt, bookPages}
 use Rattle.pool.specs.Book.{wordOf, signature, bookOf, slotOf, pageAt, AddsUp}
 use Rattle.pool.specs.Booked.{Lists, Booked, SameBook, Numbered}
 use Rattle.pool.proofs.Far.{word-at}
 use Rattle.pool.proofs.Counts.{slot-in}
 use Rattle.pool.proofs.Lists.{lists-same}
-use Rattle.pool.proofs.Words.{word-page, header-word, slot-word, puts, becomes, puts-word}
+use Rattle.pool.proofs.Words.{word-page, header-listed, slot-listed, listed-word, puts, becomes, puts-word}
 
 -- By its counts -------------------------------------------------------------------------------------------------------------------
 
@@ -42,7 +42,7 @@ module _ (sp : Space) (m : ℕ → ℕ) {n : Book} (e : bookOf m sp ≡ n) where
 module _ {sp : Space} {m m' : ℕ → ℕ} (e : SameBook sp m m') where
   -- a word of the header
   same-header : (k : ℕ) → k < headerWords → m' (wordOf sp k) ≡ m (wordOf sp k)
-  same-header k u = e .words k (header-word (sp .pages) k u)
+  same-header k u = e .words k (header-listed (sp .pages) k u)
 
   pub same-counts : bookOf m' sp ≡ bookOf m sp
   unfolding headAt freeAt asideAt ticketsAt headerWords
@@ -55,7 +55,7 @@ module _ {sp : Space} {m m' : ℕ → ℕ} (e : SameBook sp m m') where
     same-page k u =
         ap (λ (x : Book). m' (wordOf sp (slotAt (slotOf (sp .pages) (x .head) k)))) same-counts
         ∙ e .words (slotAt (slotOf (sp .pages) (bookOf m sp .head) k))
-        (slot-word (sp .pages) _ (slot-in (sp .pages) (bookOf m sp .head) k (b .sound .head-in) (omega (arith, b .sound .room))))
+        (slot-listed (sp .pages) _ (slot-in (sp .pages) (bookOf m sp .head) k (b .sound .head-in) (omega (arith, b .sound .room))))
 
     pub same-numbered : (p n : ℕ) → Numbered m sp p n → Numbered m' sp p n
     same-numbered p n h = numbered-by sp m' same-counts (h .0, h .1, same-page (bookOf m sp .free + h .0) (omega (arith, h .1)) ∙ h .2, h .3)
@@ -77,9 +77,9 @@ module _ (sp : Space) (m : ℕ → ℕ) (xs : List Write) (h : Every (Beside sp)
   pub same-beside : SameBook sp m (after m xs)
   same-beside = record { words = λ k u. rw word-at at (after-other m xs (sp .first + k / 512) (k % 512) (omega arith) (every-map (λ q. apart k q u) xs h)) }
     where
-      apart : (k q : ℕ) → k < bookWords (sp .pages) → Beside sp q → q ≢ sp .first + k / 512
+      apart : (k q : ℕ) → k < countAt (sp .pages) 0 → Beside sp q → q ≢ sp .first + k / 512
       apart k q u (inl v) e = omega arith
-      apart k q u (inr v) e = omega (arith, word-page (sp .pages) k u)
+      apart k q u (inr v) e = omega (arith, word-page (sp .pages) k (listed-word (sp .pages) k u))
 
   pub book-beside : bookOf (after m xs) sp ≡ bookOf m sp
   book-beside = same-counts same-beside

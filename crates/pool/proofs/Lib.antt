@@ -18,3 +18,4 @@ pub mod Makes
 pub mod Alone
 pub mod Interrupted
 pub mod Tickets
+pub mod Counting

@@ -29,7 +29,7 @@ if-so true xs h = h refl
 if-so false xs h = none
 
 -- a word of the book; one of the header, and a slot's
-word-proper : (sp : Space) (k w : ℕ) → k < bookWords (sp .pages) → w < 2 ^ 64 → Proper (OfBook sp) (put sp k w)
+pub word-proper : (sp : Space) (k w : ℕ) → k < bookWords (sp .pages) → w < 2 ^ 64 → Proper (OfBook sp) (put sp k w)
 word-proper sp k w u v = record { in-page = (omega arith, omega (arith, word-page (sp .pages) k u)); in-index = omega arith; in-word = v }
 
 header-proper : (sp : Space) (k w : ℕ) → k < headerWords → w < 2 ^ 64 → Proper (OfBook sp) (put sp k w)

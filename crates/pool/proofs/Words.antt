@@ -2,6 +2,7 @@
 use Prim.Native.Nat.{ℕ, _+_, _/_, _<_, _≤_}
 use mathlib.Core.Bool.{false, cond}
 use mathlib.Core.List.{List, [], _∷_}
+use mathlib.Core.Logic.{_≢_}
 use mathlib.Core.Path.{_≡_, refl, ap, _∙_}
 use native.Mathlib.Decide.{ℕ-discrete}
 use native.Mathlib.Omega.{arith}
@@ -11,7 +12,7 @@ use Rattle.word.specs.Memory.{set}
 use Rattle.word.specs.Writes.{Write, after}
 use Rattle.word.proofs.Set.{set-at, set-other}
 use Rattle.pool.specs.declared.Space.{Space}
-use Rattle.pool.specs.Layout.{headAt, freeAt, asideAt, ticketsAt, headerWords, slotAt, bookWords, bookPages}
+use Rattle.pool.specs.Layout.{headAt, freeAt, asideAt, ticketsAt, headerWords, slotAt, countAt, bookWords, bookPages}
 use Rattle.pool.specs.Book.{wordOf, bookOf}
 use Rattle.pool.specs.Changes.{put}
 use Rattle.pool.proofs.Far.{word-at}
@@ -44,6 +45,31 @@ header-word pages k u = omega arith
 pub slot-word : (pages j : ℕ) → j < pages → slotAt j < bookWords pages
 unfolding bookWords slotAt
 slot-word pages j u = omega arith
+
+-- and come before the counts, which are words of the book too
+pub header-listed : (pages k : ℕ) → k < headerWords → k < countAt pages 0
+unfolding countAt
+header-listed pages k u = omega arith
+
+pub slot-listed : (pages j : ℕ) → j < pages → slotAt j < countAt pages 0
+unfolding countAt slotAt
+slot-listed pages j u = omega arith
+
+pub listed-word : (pages k : ℕ) → k < countAt pages 0 → k < bookWords pages
+unfolding countAt bookWords
+listed-word pages k u = omega arith
+
+pub count-word : (pages j : ℕ) → j < pages → countAt pages j < bookWords pages
+unfolding countAt bookWords
+count-word pages j u = omega arith
+
+pub listed-count : (pages k j : ℕ) → k < countAt pages 0 → k ≢ countAt pages j
+unfolding countAt
+listed-count pages k j u e = omega arith
+
+pub count-once : (pages i j : ℕ) → countAt pages i ≡ countAt pages j → i ≡ j
+unfolding countAt
+count-once pages i j e = omega arith
 
 -- no slot is a word of the header, and two slots are two words
 pub header-slot : (k j : ℕ) → k < headerWords → eqb k (slotAt j) ≡ false

@@ -7,7 +7,7 @@ use lib.Dec.{leb, ltb, eqb}
 use Rattle.word.specs.Memory.{at, set}
 use Rattle.tables.specs.Roles.{Setting, Role, foreign, free, aside, book, root, table}
 use Rattle.pool.specs.declared.Space.{Space}
-use Rattle.pool.specs.Layout.{signatureAt, pagesAt, rootAt, bookWords, bookPages}
+use Rattle.pool.specs.Layout.{signatureAt, pagesAt, rootAt, countAt, bookPages}
 use Rattle.pool.specs.Book.{wordOf, signature, bookOf, pageAt, AddsUp}
 
 -- a pool as the tables see it
@@ -35,9 +35,9 @@ pub record Booked (sp : Space) (m : ℕ → ℕ) (role : ℕ → Role) : Type 0 
 abbrev pub Alone : Space → (ℕ → ℕ) → Type 0
 Alone sp m = (p : ℕ) → sp .first < p → p < sp .first + sp .pages → m (at p signatureAt) ≢ signature
 
--- the two memories have the same words in the book
+-- the two memories have the same words in the book, up to the counts of its pages
 pub record SameBook (sp : Space) (m m' : ℕ → ℕ) : Type 0 where
-  pub words : (k : ℕ) → k < bookWords (sp .pages) → m' (wordOf sp k) ≡ m (wordOf sp k)
+  pub words : (k : ℕ) → k < countAt (sp .pages) 0 → m' (wordOf sp k) ≡ m (wordOf sp k)
 
 -- What the three changes make of the roles -------------------------------------------------------------------------------------
 

@@ -39,7 +39,7 @@ unfoldable pub slotAt : ℕ → ℕ
 unfolding headerWords
 slotAt j = headerWords + j
 
--- the count of page j of the pool, 0 until a later request counts
+-- the count of page j of the pool: where it is a table, how many of its entries say something
 unfoldable pub countAt : ℕ → ℕ → ℕ
 unfolding headerWords
 countAt pages j = headerWords + pages + j

@@ -31,7 +31,7 @@ unfoldable pub takesOf : Space → Book → ℕ → Bool
 takesOf sp b n = addsUpOf (sp .pages) b && leb (b .free + b .aside + n + bookPages (sp .pages) + 1) (sp .pages)
 
 -- the numbers of a pool that lies in a window
-pub record Counted (sp : Space) : Type 0 where
+pub record Bounded (sp : Space) : Type 0 where
   pub low : sp .first < pageCount
   pub small : sp .pages ≤ 2 ^ 32
   pub enough : bookPages (sp .pages) ≤ sp .pages

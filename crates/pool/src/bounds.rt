@@ -20,7 +20,7 @@ pub fn book_of(pages: u64) -> u64
 
 // By one comparison, where the pool's numbers are those of one in a window.
 fn in_pool_by_one(space: Space, p: u64) -> bool
-    requires { ⌜ stand.Counted space ⌝ }
+    requires { ⌜ stand.Bounded space ⌝ }
     ensures { λ r. ⌜ r ≡ the.inPool space p ⌝ }
 {
     let book = book_of(space.pages);

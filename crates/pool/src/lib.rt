@@ -15,6 +15,7 @@ mod header;
 mod layout;
 mod making;
 mod moment;
+mod tallies;
 
 use bounds::book_of;
 pub use bounds::entry;
@@ -34,6 +35,8 @@ pub use making::create;
 pub use moment::Counts;
 pub use moment::Stated;
 pub use moment::state;
+pub use tallies::count;
+pub use tallies::set_count;
 
 // "the-book" in ASCII.
 const SIGNATURE: u64 = 7741528751932270708;

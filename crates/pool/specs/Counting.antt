@@ -1,0 +1,27 @@
+-- THE COUNT OF A TABLE: the book has a word for each page of the pool, and a table's is the number of its entries that say something.
+use Prim.Native.Nat.{ℕ, _-_}
+use mathlib.Core.Bool.{cond}
+use mathlib.Core.List.{List, [], _∷_}
+use Rattle.word.specs.Writes.{Write}
+use Rattle.tables.specs.Roles.{Role}
+use Rattle.tables.specs.Saying.{Tallied}
+use Rattle.pool.specs.declared.Space.{Space}
+use Rattle.pool.specs.Layout.{countAt}
+use Rattle.pool.specs.Book.{wordOf, inPool}
+use Rattle.pool.specs.Changes.{put}
+
+-- the count of page p, as the book has it
+unfoldable pub countOf : (ℕ → ℕ) → Space → ℕ → ℕ
+countOf m sp p = m (wordOf sp (countAt (sp .pages) (p - sp .first)))
+
+-- THE COUNTS ARE TRUE, of every table and of the root
+abbrev pub Counted : Space → (ℕ → ℕ) → (ℕ → Role) → Type 0
+Counted sp m role = Tallied (countOf m sp) m role
+
+-- what reading a count answers: 0 where p is no page of the pool behind its book
+unfoldable pub countIn : (ℕ → ℕ) → Space → ℕ → ℕ
+countIn m sp p = cond (inPool sp p) (countOf m sp p) 0
+
+-- setting it is one write; where there is none, no write
+unfoldable pub countWrites : Space → ℕ → ℕ → List Write
+countWrites sp p w = cond (inPool sp p) (put sp (countAt (sp .pages) (p - sp .first)) w ∷ []) []
