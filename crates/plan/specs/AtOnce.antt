@@ -10,6 +10,7 @@ use Rattle.entry.specs.declared.Entry.{Entry}
 use Rattle.entry.specs.declared.Entry.the-variants as entry
 use Rattle.walk.specs.Walk.{indexOf, entryOf}
 use Rattle.pool.specs.Book.{inPool}
+use Rattle.pool.specs.Counting.{countWrites}
 use Rattle.pool.specs.declared.Space.{Space}
 use Rattle.plan.specs.declared.Reason.the-variants.{Overlap}
 use Rattle.plan.specs.declared.descent.Way.{Way}
@@ -21,7 +22,7 @@ use Rattle.plan.specs.declared.direct.Lead.the-variants as lead
 use Rattle.plan.specs.declared.direct.Once.{Once}
 use Rattle.plan.specs.declared.direct.Once.the-variants as once
 use Rattle.plan.specs.Descend.{Descent, Going, downOf, endOf, wayOf}
-use Rattle.plan.specs.Map.{Placed, Refused, placingOf, leafWrites}
+use Rattle.plan.specs.Map.{Placed, Refused, raisedOf, placingOf, leafWrites}
 
 -- The way ------------------------------------------------------------------------------------------------------------------------
 
@@ -54,19 +55,19 @@ onceOf lead.Page = once.Overlap
 onceOf lead.Nothing = once.Done
 onceOf lead.Stray = once.Unsaid
 
-unfoldable pub onceWrites : ℕ → ℕ → ℕ → Lead → List Write
-onceWrites t i x (lead.Table u) = []
-onceWrites t i x lead.Page = []
-onceWrites t i x lead.Nothing = write t i x ∷ []
-onceWrites t i x lead.Stray = []
+unfoldable pub onceWrites : Space → ℕ → ℕ → ℕ → ℕ → Lead → List Write
+onceWrites sp t i c x (lead.Table u) = []
+onceWrites sp t i c x lead.Page = []
+onceWrites sp t i c x lead.Nothing = write t i x ∷ countWrites sp t c
+onceWrites sp t i c x lead.Stray = []
 
--- nothing was there, in the table in this page, and the word was written
+-- nothing was there, in the table in this page, and the word was written, and the count
 pub record Free (left rest : ℕ) (s after : List ℕ) (sp : Space) (n va x : ℕ) : Type 0 where
   pub table : ℕ
   pub why : wayOf (holds s (sp .origin)) (memory s (sp .origin)) sp va n .why ≡ why.Nothing
   pub level : wayOf (holds s (sp .origin)) (memory s (sp .origin)) sp va n .level ≡ n
   pub last : wayOf (holds s (sp .origin)) (memory s (sp .origin)) sp va n .a ≡ table
-  pub order : Wrote (sp .origin) (write table (indexOf n va) x ∷ []) left rest s after
+  pub order : Wrote (sp .origin) (write table (indexOf n va) x ∷ countWrites sp table (raisedOf (memory s (sp .origin)) sp table)) left rest s after
 
 -- the way stopped at something, and nothing was written
 pub record Taken (left rest : ℕ) (s after : List ℕ) (sp : Space) (n va : ℕ) : Type 0 where
@@ -84,7 +85,7 @@ Found left rest s after sp n va x once.Unsaid = Wrote (sp .origin) [] left rest 
 pub record Done (left rest : ℕ) (s after : List ℕ) (sp : Space) (d : Placed) : Type 0 where
   pub leaf : Leaf
   pub decided : placingOf d ≡ Here leaf
-  pub order : Wrote (sp .origin) (leafWrites leaf) left rest s after
+  pub order : Wrote (sp .origin) (leafWrites sp leaf) left rest s after
 
 -- WHAT IS DONE AT ONCE is what was decided: the one entry is written, or the overlap refused; what is left unsaid has changed nothing
 abbrev pub AtOnce : ℕ → ℕ → List ℕ → List ℕ → Space → Placed → Once → Type 0

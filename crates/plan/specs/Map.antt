@@ -1,5 +1,5 @@
 -- Map: the decision, a function of the memory and what is asked, and the writes of its plan.
-use Prim.Native.Nat.{ℕ, _+_, _-_, _*_, _%_, _≤_, _<_}
+use Prim.Native.Nat.{ℕ, _+_, _-_, _*_, _%_, _^_, _≤_, _<_}
 use mathlib.Core.Bool.{Bool, true, false, cond, _&&_}
 use mathlib.Core.List.{List, [], _∷_, _++_}
 use lib.Dec.{eqb, leb, ltb}
@@ -12,6 +12,7 @@ use Rattle.entry.specs.declared.Made.the-variants as made
 use Rattle.walk.specs.Walk.{canonical, indexOf}
 use Rattle.pool.specs.Book.{namesOf, openedOf, listedOf}
 use Rattle.pool.specs.Changes.{tookWrites}
+use Rattle.pool.specs.Counting.{countIn, countWrites}
 use Rattle.pool.specs.declared.Space.{Space}
 use Rattle.pool.specs.declared.Book.{Book}
 use Rattle.pool.specs.declared.Fit.{Fit}
@@ -121,16 +122,21 @@ pub data Placed : Type 0 where
   Go : Mapping → Placed
   Refused : Reason → Placed
 
-unfoldable pub madeOf : Asked → ℕ → ℕ → ℕ → NewTables → Made → Placed
-madeOf q target level table f made.Refused = Refused FrameRange
-madeOf q target level table f (made.Word w) = Go (record { base = q .base; target = target; level = level; table = table; word = w; fresh = f })
+-- a table's count with one entry more, as a number of 64 bits; a true count is at most 511 where an entry is free
+unfoldable pub raisedOf : (ℕ → ℕ) → Space → ℕ → ℕ
+raisedOf m sp t = (countIn m sp t + 1) % 2 ^ 64
 
-unfoldable pub placeOf : Asked → ℕ → ℕ → ℕ → Supply → Placed
-placeOf q target level table (Lacking y) = Refused y
-placeOf q target level table (Pages f) = madeOf q target level table f (madePage target (q .frame) (q .rights))
+unfoldable pub madeOf : Asked → ℕ → ℕ → ℕ → ℕ → NewTables → Made → Placed
+madeOf q target level table count f made.Refused = Refused FrameRange
+madeOf q target level table count f (made.Word w) =
+    Go (record { base = q .base; target = target; level = level; table = table; count = count; word = w; fresh = f })
+
+unfoldable pub placeOf : Asked → ℕ → ℕ → ℕ → ℕ → Supply → Placed
+placeOf q target level table count (Lacking y) = Refused y
+placeOf q target level table count (Pages f) = madeOf q target level table count f (madePage target (q .frame) (q .rights))
 
 unfoldable pub becauseOf : (ℕ → Bool) → (ℕ → ℕ) → Space → Asked → ℕ → Way → Why → Placed
-becauseOf h m sp q target w why.Nothing = placeOf q target (w .level) (w .a) (sparedOf w (supplyOf h m sp (w .level - target)))
+becauseOf h m sp q target w why.Nothing = placeOf q target (w .level) (w .a) (raisedOf m sp (w .a)) (sparedOf w (supplyOf h m sp (w .level - target)))
 becauseOf h m sp q target w why.Page = Refused Overlap
 becauseOf h m sp q target w why.Table = Refused Overlap
 becauseOf h m sp q target w why.Stray = Refused Stray
@@ -199,9 +205,21 @@ buildOf p =
     ++ (growOf (p .base) (p .target) (p .fresh .c) (reached2 p)
     ++ (write (reached3 p .table) (indexOf (reached3 p .level) (p .base)) (p .word) ∷ [])))
 
--- WHAT MAP WRITES: the tables, the page, and in the book that pages were taken
+-- where more than j pages are needed, that at position j has become a table with one entry
+unfoldable pub newCount : Space → ℕ → ℕ → ℕ → List Write
+newCount sp need j p = cond (leb need j) [] (countWrites sp p 1)
+
+unfoldable pub newCounts : Space → NewTables → List Write
+newCounts sp f = newCount sp (f .need) 0 (f .a) ++ (newCount sp (f .need) 1 (f .b) ++ newCount sp (f .need) 2 (f .c))
+
+-- in the book: that pages were taken, and the counts of the new tables and of the one that was there
+unfoldable pub bookWrites : Space → Mapping → List Write
+bookWrites sp p =
+    cond (ltb 0 (p .fresh .need)) (tookWrites sp (p .fresh .book) (p .fresh .need) ++ newCounts sp (p .fresh)) [] ++ countWrites sp (p .table) (p .count)
+
+-- WHAT MAP WRITES: the tables, the page, and the book
 unfoldable pub writesOf : Space → Mapping → List Write
-writesOf sp p = buildOf p ++ cond (ltb 0 (p .fresh .need)) (tookWrites sp (p .fresh .book) (p .fresh .need)) []
+writesOf sp p = buildOf p ++ bookWrites sp p
 
 -- a refusal writes nothing
 unfoldable pub didOf : Space → Placed → List Write
@@ -216,11 +234,11 @@ makingOf (Refused r) = making.Refused r
 -- The same as the code hands it on: where no table is missing, the one entry and its word ------------------------------------------
 
 abbrev pub leafOf : Mapping → Leaf
-leafOf p = record { table = p .table; index = indexOf (p .level) (p .base); word = p .word }
+leafOf p = record { table = p .table; index = indexOf (p .level) (p .base); count = p .count; word = p .word }
 
 unfoldable pub placingOf : Placed → Placing
 placingOf (Go p) = cond (leb (p .level) (p .target) && eqb (p .fresh .need) 0) (placing.Here (leafOf p)) (placing.Built p)
 placingOf (Refused r) = placing.Refused r
 
-abbrev pub leafWrites : Leaf → List Write
-leafWrites c = write (c .table) (c .index) (c .word) ∷ []
+abbrev pub leafWrites : Space → Leaf → List Write
+leafWrites sp c = write (c .table) (c .index) (c .word) ∷ countWrites sp (c .table) (c .count)

@@ -1,14 +1,14 @@
 -- Unmap: the decision, a function of the memory and what is asked, and the writes of its plan.
-use Prim.Native.Nat.{ℕ, zero, suc, _+_, _<_}
-use mathlib.Core.Bool.{Bool, true, false, cond, _&&_, _||_}
+use Prim.Native.Nat.{ℕ, _+_, _-_, _<_}
+use mathlib.Core.Bool.{Bool, cond}
 use mathlib.Core.List.{List, [], _∷_, _++_}
 use lib.Dec.{eqb, leb, ltb}
-use Rattle.word.specs.Scan.{besidesOf}
 use Rattle.word.specs.Writes.{Write, write}
 use Rattle.walk.specs.Walk.{indexOf}
 use Rattle.pool.specs.Stands.{takesOf}
 use Rattle.pool.specs.Book.{bookOf, openedOf, ticketAfter}
 use Rattle.pool.specs.Changes.{asideWrites, asideBook}
+use Rattle.pool.specs.Counting.{countIn, countWrites}
 use Rattle.pool.specs.declared.Space.{Space}
 use Rattle.pool.specs.declared.Book.{Book}
 use Rattle.pool.specs.declared.Opened.{Opened}
@@ -20,6 +20,8 @@ use Rattle.plan.specs.declared.descent.Way.{Way}
 use Rattle.plan.specs.declared.finding.PageEntry.{PageEntry}
 use Rattle.plan.specs.declared.finding.Sought.{Sought}
 use Rattle.plan.specs.declared.finding.Sought.the-variants as sought
+use Rattle.plan.specs.declared.unmaps.Weighed.{Weighed}
+use Rattle.plan.specs.declared.unmaps.Weighed.the-variants.{Stays, Goes, Bad}
 use Rattle.plan.specs.declared.unmaps.Removal.{Removal}
 use Rattle.plan.specs.declared.unmaps.Removing.{Removing}
 use Rattle.plan.specs.declared.unmaps.Removing.the-variants.{Go, Refused}
@@ -30,30 +32,50 @@ use Rattle.plan.specs.Map.{noBook}
 
 -- Which tables become empty ------------------------------------------------------------------------------------------------------
 
--- how many tables become empty, from the one of the page's entry up; the root stays
-unfoldable pub emptiedOf : (ℕ → Bool) → (ℕ → ℕ) → ℕ → Way → ℕ
-emptiedOf h m va w =
-    cond (leb 3 (w .level)) 0
-    (cond (besidesOf h m (w .a) (indexOf (w .level) va) 512) 0
-    (cond (leb 2 (w .level)) 1
-    (cond (besidesOf h m (w .b) (indexOf (w .level + 1) va) 512) 1
-    (cond (leb 1 (w .level)) 2 (cond (besidesOf h m (w .c) (indexOf 2 va) 512) 2 3)))))
+-- The table in page t, above n that become empty, loses an entry: what its count tells. From the level `top` of the page on it is the root,
+-- which stays. A count that no table can have is bad: 0, and more than 512.
+unfoldable pub weighBy : ℕ → ℕ → ℕ → ℕ → ℕ → Weighed
+weighBy n top level t c =
+    cond (eqb c 0) Bad
+    (cond (ltb 512 c) Bad
+    (cond (ltb 1 c) (Stays n t (c - 1)) (cond (leb top level) (Stays n t (c - 1)) Goes)))
+
+unfoldable pub weighOf : (ℕ → ℕ) → Space → ℕ → ℕ → ℕ → ℕ → Weighed
+weighOf m sp n top level t = weighBy n top level t (countIn m sp t)
+
+-- where it becomes empty, the next one is looked at
+unfoldable pub goesOn : Weighed → Weighed → Weighed
+goesOn Goes y = y
+goesOn Bad y = Bad
+goesOn (Stays n t c) y = Stays n t c
+
+-- WHICH TABLES BECOME EMPTY, from the one of the page's entry up
+unfoldable pub emptiedOf : (ℕ → ℕ) → Space → Way → Weighed
+emptiedOf m sp w =
+    goesOn (weighOf m sp 0 3 (w .level) (w .a))
+    (goesOn (weighOf m sp 1 2 (w .level) (w .b)) (goesOn (weighOf m sp 2 1 (w .level) (w .c)) (weighOf m sp 3 0 (w .level) (w .d))))
 
 -- The decision ---------------------------------------------------------------------------------------------------------------------
 
-unfoldable pub bookedOf : Space → PageEntry → ℕ → Book → Removing
-bookedOf sp s n b = cond (takesOf sp b n) (Go (record { page = s; empties = n; book = b })) (Refused (Pool BadBook))
+unfoldable pub bookedOf : Space → PageEntry → ℕ → ℕ → ℕ → Book → Removing
+bookedOf sp s n t c b = cond (takesOf sp b n) (Go (record { page = s; empties = n; table = t; count = c; book = b })) (Refused (Pool BadBook))
 
-unfoldable pub openOf : Space → PageEntry → ℕ → Opened → Removing
-openOf sp s n (opened.Book b) = bookedOf sp s n b
-openOf sp s n (opened.Refused r) = Refused (Pool r)
+unfoldable pub openOf : Space → PageEntry → ℕ → ℕ → ℕ → Opened → Removing
+openOf sp s n t c (opened.Book b) = bookedOf sp s n t c b
+openOf sp s n t c (opened.Refused r) = Refused (Pool r)
 
 -- a book is needed only where a table becomes empty
-unfoldable pub removeOf : (ℕ → Bool) → (ℕ → ℕ) → Space → PageEntry → ℕ → Removing
-removeOf h m sp s n = cond (eqb n 0) (Go (record { page = s; empties = 0; book = noBook })) (openOf sp s n (openedOf h m sp))
+unfoldable pub removeOf : (ℕ → Bool) → (ℕ → ℕ) → Space → PageEntry → ℕ → ℕ → ℕ → Removing
+removeOf h m sp s n t c = cond (eqb n 0) (Go (record { page = s; empties = 0; table = t; count = c; book = noBook })) (openOf sp s n t c (openedOf h m sp))
+
+-- what the counts tell; one that can't be is refused
+unfoldable pub weighedOf : (ℕ → Bool) → (ℕ → ℕ) → Space → PageEntry → Weighed → Removing
+weighedOf h m sp s (Stays n t c) = removeOf h m sp s n t c
+weighedOf h m sp s Goes = Refused (Pool BadBook)
+weighedOf h m sp s Bad = Refused (Pool BadBook)
 
 unfoldable pub removingOf : (ℕ → Bool) → (ℕ → ℕ) → Space → ℕ → Sought → Removing
-removingOf h m sp va (sought.Found s) = removeOf h m sp s (emptiedOf h m va (s .way))
+removingOf h m sp va (sought.Found s) = weighedOf h m sp s (emptiedOf m sp (s .way))
 removingOf h m sp va (sought.Refused y) = Refused y
 
 -- WHAT UNMAP DECIDES
@@ -79,13 +101,15 @@ book1 sp r = cutBook sp 0 (r .empties) (r .book)
 abbrev pub book2 : Space → Removal → Book
 book2 sp r = cutBook sp 1 (r .empties) (book1 sp r)
 
--- WHAT UNMAP WRITES: the page's entry, then for each table that became empty its parent's entry and the book
+-- WHAT UNMAP WRITES: the page's entry, then for each table that became empty its parent's entry and the book, then the count of the table
+-- that stays
 unfoldable pub writesOf : Space → ℕ → Removal → List Write
 writesOf sp va r =
     (write (r .page .way .a) (indexOf (r .page .way .level) va) 0 ∷ [])
     ++ (cutWrites sp 0 (r .empties) (r .page .way .b) (indexOf (r .page .way .level + 1) va) (r .page .way .a) (r .book)
     ++ (cutWrites sp 1 (r .empties) (r .page .way .c) (indexOf (r .page .way .level + 2) va) (r .page .way .b) (book1 sp r)
-    ++ cutWrites sp 2 (r .empties) (r .page .way .d) (indexOf (r .page .way .level + 3) va) (r .page .way .c) (book2 sp r)))
+    ++ (cutWrites sp 2 (r .empties) (r .page .way .d) (indexOf (r .page .way .level + 3) va) (r .page .way .c) (book2 sp r)
+    ++ countWrites sp (r .table) (r .count))))
 
 unfoldable pub didOf : Space → ℕ → Removing → List Write
 didOf sp va (Go r) = writesOf sp va r

@@ -1,13 +1,17 @@
-// Map: what was decided is carried out. For each missing level, from the top, a page is cleared and then linked; the page's own entry is written last.
+// Map: what was decided is carried out. For each missing level, from the top, a page is cleared and then linked; then the page's own entry is
+// written, and then the book: what was taken, and the counts of the tables that have an entry more.
 ghost use mathlib.Core.Path.{_≡_};
 ghost use Prim.Native.Nat.{_<_};
 ghost use Rattle.word.specs.Memory.{pageCount, memory, holds};
 ghost use Rattle.word.specs.Writes.{Wrote};
+ghost use Rattle.pool.specs.Stands.{standsOf};
+ghost use Rattle.pool.specs.declared.Fit.the-variants.{Fits};
 ghost use Rattle.plan.specs.Map as the;
 use crate::Reason;
 use crate::maps::Asked;
 use crate::maps::Leaf;
 use crate::maps::Mapping;
+use crate::maps::NewTables;
 use crate::maps::Placing;
 use crate::maps::decide_map;
 use pool::Space;
@@ -85,24 +89,57 @@ fn build(mem: &mut [u8], left: &mut u64, origin: u64, m: Mapping)
     );
 }
 
-// Where no table is missing: one write.
+// Where no table is missing: the entry, and its table's count.
 fn carry_here(mem: &mut [u8], left: &mut u64, space: Space, c: Leaf)
-    ensures { λ _. ⌜ Wrote (space .origin) (the.leafWrites c) (now (left .entry)) (now (left .exit)) (now (mem .entry)) (now (mem .exit)) ⌝ }
+    requires { ⌜ standsOf (holds (now mem) (space .origin)) space ≡ Fits ⌝ }
+    ensures { λ _. ⌜ Wrote (space .origin) (the.leafWrites space c) (now (left .entry)) (now (left .exit)) (now (mem .entry)) (now (mem .exit)) ⌝ }
 {
-    word::write(mem, left, space.origin, c.table, c.index, c.word)
+    word::write(mem, left, space.origin, c.table, c.index, c.word);
+    pool::set_count(mem, left, space, c.table, c.count);
 }
 
-// The tables and the page, and then the book.
-fn carry_map(mem: &mut [u8], left: &mut u64, space: Space, m: Mapping)
-    requires { ⌜ the.Buildable m ⌝ }
-    ensures { λ _. ⌜ Wrote (space .origin) (the.writesOf space m) (now (left .entry)) (now (left .exit)) (now (mem .entry)) (now (mem .exit)) ⌝ }
+// Where more than j pages are needed, the one at position j has become a table with one entry.
+fn count_new(mem: &mut [u8], left: &mut u64, space: Space, need: u64, j: u64, p: u64)
+    requires { ⌜ standsOf (holds (now mem) (space .origin)) space ≡ Fits ⌝ }
+    ensures { λ _. ⌜ Wrote (space .origin) (the.newCount space need j p) (now (left .entry)) (now (left .exit)) (now (mem .entry)) (now (mem .exit)) ⌝ }
 {
-    build(mem, left, space.origin, m);
+    if need <= j {
+        return;
+    }
+    pool::set_count(mem, left, space, p, 1);
+}
+
+// The counts of the new tables.
+fn count_all(mem: &mut [u8], left: &mut u64, space: Space, f: NewTables)
+    requires { ⌜ standsOf (holds (now mem) (space .origin)) space ≡ Fits ⌝ }
+    ensures { λ _. ⌜ Wrote (space .origin) (the.newCounts space f) (now (left .entry)) (now (left .exit)) (now (mem .entry)) (now (mem .exit)) ⌝ }
+{
+    count_new(mem, left, space, f.need, 0, f.a);
+    count_new(mem, left, space, f.need, 1, f.b);
+    count_new(mem, left, space, f.need, 2, f.c);
+}
+
+// What the book has of it: what was taken, and the counts.
+fn carry_book(mem: &mut [u8], left: &mut u64, space: Space, m: Mapping)
+    requires { ⌜ standsOf (holds (now mem) (space .origin)) space ≡ Fits ⌝ }
+    ensures { λ _. ⌜ Wrote (space .origin) (the.bookWrites space m) (now (left .entry)) (now (left .exit)) (now (mem .entry)) (now (mem .exit)) ⌝ }
+{
     let f = m.fresh;
     let b = f.book;
     if 0 < f.need {
         pool::took(mem, left, space, b, f.need);
+        count_all(mem, left, space, f);
     }
+    pool::set_count(mem, left, space, m.table, m.count);
+}
+
+// The tables and the page, and then the book.
+fn carry_map(mem: &mut [u8], left: &mut u64, space: Space, m: Mapping)
+    requires { ⌜ the.Buildable m × (standsOf (holds (now mem) (space .origin)) space ≡ Fits) ⌝ }
+    ensures { λ _. ⌜ Wrote (space .origin) (the.writesOf space m) (now (left .entry)) (now (left .exit)) (now (mem .entry)) (now (mem .exit)) ⌝ }
+{
+    build(mem, left, space.origin, m);
+    carry_book(mem, left, space, m);
 }
 
 // Maps, or refuses and writes nothing.

@@ -9,7 +9,7 @@ ghost use Rattle.pool.specs.Stands.{standsOf};
 ghost use Rattle.pool.specs.declared.Fit.the-variants.{Fits};
 ghost use Rattle.plan.specs.declared.descent.Way.{Way};
 ghost use Rattle.plan.specs.Descend.{Going, startOf, downOf};
-ghost use Rattle.plan.specs.Map.{decideOf};
+ghost use Rattle.plan.specs.Map.{raisedOf, decideOf};
 ghost use Rattle.plan.specs.AtOnce as the;
 use crate::maps::Asked;
 use crate::maps::Shape;
@@ -91,16 +91,18 @@ fn last(mem: &[u8], space: Space, target: u64, va: u64) -> Lead
     }
 }
 
-// The entry in the table in page t, of level n, is set where nothing is there.
+// The entry in the table in page t, of level n, is set where nothing is there, and the table's count is raised.
 fn settle(mem: &mut [u8], left: &mut u64, space: Space, n: u64, va: u64, t: u64, x: u64) -> Once
     requires { ⌜ (n < 4) × (standsOf (holds (now mem) (space .origin)) space ≡ Fits) ⌝ }
     ensures { λ r. ⌜ r ≡ the.onceOf (the.leadOf (holds (now (mem .entry)) (space .origin)) (memory (now (mem .entry)) (space .origin)) space va n t) ⌝ }
-    ensures { λ _. ⌜ Wrote (space .origin) (the.onceWrites t (indexOf n va) x (the.leadOf (holds (now (mem .entry)) (space .origin)) (memory (now (mem .entry)) (space .origin)) space va n t)) (now (left .entry)) (now (left .exit)) (now (mem .entry)) (now (mem .exit)) ⌝ }
+    ensures { λ _. ⌜ Wrote (space .origin) (the.onceWrites space t (indexOf n va) (raisedOf (memory (now (mem .entry)) (space .origin)) space t) x (the.leadOf (holds (now (mem .entry)) (space .origin)) (memory (now (mem .entry)) (space .origin)) space va n t)) (now (left .entry)) (now (left .exit)) (now (mem .entry)) (now (mem .exit)) ⌝ }
 {
     let l = follow(mem, space, n, va, t);
     match l {
         Lead::Nothing => {
+            let c = std::num::wrapping_add_u64(pool::count(mem, space, t), 1);
             pool::set_entry(mem, left, space, t, walk::index(n, va), x);
+            pool::set_count(mem, left, space, t, c);
             Once::Done
         }
         Lead::Page => Once::Overlap,

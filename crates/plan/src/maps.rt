@@ -5,6 +5,8 @@ ghost use Rattle.word.specs.Memory.{memory, holds};
 ghost use Rattle.entry.specs.declared.Made.the-variants.{Word};
 ghost use Rattle.entry.specs.Entry.{sizeOf, frameEnd};
 ghost use Rattle.entry.specs.Words as made;
+ghost use Rattle.pool.specs.Stands.{standsOf};
+ghost use Rattle.pool.specs.declared.Fit.the-variants.{Fits};
 ghost use Rattle.plan.specs.declared.descent.Way.{Way};
 ghost use Rattle.plan.specs.Descend.{stopAt};
 ghost use Rattle.plan.specs.Map as the;
@@ -48,20 +50,22 @@ pub enum Supply {
     Lacking(Reason),
 }
 
-// What is written: from the table at a level down, the new tables, and the page's word at the target.
+// What is written: from the table at a level down, which has so many entries then, the new tables, and the page's word at the target.
 pub struct Mapping {
     pub base: u64,
     pub target: u64,
     pub level: u64,
     pub table: u64,
+    pub count: u64,
     pub word: u64,
     pub fresh: NewTables,
 }
 
-// Where no table is missing: the entry, and the page's word.
+// Where no table is missing: the entry, how many its table has then, and the page's word.
 pub struct Leaf {
     pub table: u64,
     pub index: u64,
+    pub count: u64,
     pub word: u64,
 }
 
@@ -221,8 +225,8 @@ fn supplied(mem: &[u8], space: Space, need: u64) -> Supply
 }
 
 // The pages for the missing tables were found.
-fn place(q: Asked, target: u64, level: u64, table: u64, x: u64, s: Supply) -> Placing
-    ensures { λ r. ⌜ (target < level → made.madePage target (q .frame) (q .rights) ≡ Word x → r ≡ the.placingOf (the.placeOf q target level table s)) ⌝ }
+fn place(q: Asked, target: u64, level: u64, table: u64, count: u64, x: u64, s: Supply) -> Placing
+    ensures { λ r. ⌜ (target < level → made.madePage target (q .frame) (q .rights) ≡ Word x → r ≡ the.placingOf (the.placeOf q target level table count s)) ⌝ }
 {
     match s {
         Supply::Lacking(y) => Placing::Refused(y),
@@ -231,6 +235,7 @@ fn place(q: Asked, target: u64, level: u64, table: u64, x: u64, s: Supply) -> Pl
             target: target,
             level: level,
             table: table,
+            count: count,
             word: x,
             fresh: f,
         }),
@@ -239,14 +244,16 @@ fn place(q: Asked, target: u64, level: u64, table: u64, x: u64, s: Supply) -> Pl
 
 // The entry is free.
 fn vacant(mem: &[u8], space: Space, q: Asked, target: u64, x: u64, t: Arrival) -> Placing
-    requires { ⌜ made.madePage target (q .frame) (q .rights) ≡ Word x ⌝ }
-    ensures { λ r. ⌜ ((w : Way) → t ≡ stopAt (q .base) w → r ≡ the.placingOf (the.placeOf q target (w .level) (w .a) (the.sparedOf w (the.supplyOf (holds (now (mem .entry)) (space .origin)) (memory (now (mem .entry)) (space .origin)) space (w .level - target))))) ⌝ }
+    requires { ⌜ (made.madePage target (q .frame) (q .rights) ≡ Word x) × (standsOf (holds (now mem) (space .origin)) space ≡ Fits) ⌝ }
+    ensures { λ r. ⌜ ((w : Way) → t ≡ stopAt (q .base) w → r ≡ the.placingOf (the.placeOf q target (w .level) (w .a) (the.raisedOf (memory (now (mem .entry)) (space .origin)) space (w .a)) (the.sparedOf w (the.supplyOf (holds (now (mem .entry)) (space .origin)) (memory (now (mem .entry)) (space .origin)) space (w .level - target))))) ⌝ }
 {
     let w = t.way;
+    let c = std::num::wrapping_add_u64(pool::count(mem, space, w.a), 1);
     if w.level <= target {
         return Placing::Here(Leaf {
             table: w.a,
             index: t.index,
+            count: c,
             word: x,
         });
     }
@@ -255,13 +262,14 @@ fn vacant(mem: &[u8], space: Space, q: Asked, target: u64, x: u64, t: Arrival) -
         target,
         w.level,
         w.a,
+        c,
         x,
         spared(w, supplied(mem, space, w.level - target)),
     )
 }
 
 fn stopped(mem: &[u8], space: Space, q: Asked, target: u64, x: u64, t: Arrival) -> Placing
-    requires { ⌜ made.madePage target (q .frame) (q .rights) ≡ Word x ⌝ }
+    requires { ⌜ (made.madePage target (q .frame) (q .rights) ≡ Word x) × (standsOf (holds (now mem) (space .origin)) space ≡ Fits) ⌝ }
     ensures { λ r. ⌜ ((w : Way) → t ≡ stopAt (q .base) w → r ≡ the.placingOf (the.stoppedOf (holds (now (mem .entry)) (space .origin)) (memory (now (mem .entry)) (space .origin)) space q target w)) ⌝ }
 {
     let w = t.way;

@@ -1,10 +1,12 @@
-// Unmap: the page's entry is cleared first; then each table that became empty is unlinked, bottom up, and set aside.
+// Unmap: the page's entry is cleared first; then each table that became empty is unlinked, bottom up, and set aside; and the count of the
+// table that stays is lowered. Which tables become empty the counts tell: they are believed, and that they are right is proved.
 ghost use mathlib.Core.Path.{_≡_};
-ghost use mathlib.Core.Bool.{true};
 ghost use Prim.Native.Nat.{_+_, _-_, _<_, _≤_};
 ghost use Rattle.word.specs.Memory.{memory, holds};
 ghost use Rattle.word.specs.Writes.{Wrote};
 ghost use Rattle.walk.specs.Walk.{indexOf};
+ghost use Rattle.pool.specs.Stands.{standsOf};
+ghost use Rattle.pool.specs.declared.Fit.the-variants.{Fits};
 ghost use Rattle.plan.specs.Unmap as the;
 use crate::Reason;
 use crate::descent::Way;
@@ -15,10 +17,22 @@ use pool::Book;
 use pool::Opened;
 use pool::Space;
 
-// The page that goes, how many tables become empty with it, and the book that takes them.
+// What a count tells of a table that loses an entry.
+pub enum Weighed {
+    // so many tables below it become empty, and it stays, in this page, with so many entries
+    Stays(u64, u64, u64),
+    // it becomes empty
+    Goes,
+    // no table has so many entries
+    Bad,
+}
+
+// The page that goes, how many tables become empty with it, the page of the table that stays and its count then, and the book that takes them.
 pub struct Removal {
     pub page: PageEntry,
     pub empties: u64,
+    pub table: u64,
+    pub count: u64,
     pub book: Book,
 }
 
@@ -33,39 +47,57 @@ pub enum Unmapping {
     Refused(Reason),
 }
 
-// How many tables become empty, from the one of the page's entry up; the root stays.
-fn emptied(mem: &[u8], origin: u64, va: u64, i: u64, w: Way) -> u64
-    ensures { λ r. ⌜ (i ≡ indexOf (w .level) va → r ≡ the.emptiedOf (holds (now (mem .entry)) origin) (memory (now (mem .entry)) origin) va w) ⌝ }
+// The table in page t, above n that become empty, loses an entry. It stays where the page's level is `top` or above: it is the root then.
+fn weigh(mem: &[u8], space: Space, n: u64, top: u64, level: u64, t: u64) -> Weighed
+    requires { ⌜ standsOf (holds (now mem) (space .origin)) space ≡ Fits ⌝ }
+    ensures { λ r. ⌜ r ≡ the.weighOf (memory (now (mem .entry)) (space .origin)) space n top level t ⌝ }
 {
-    if 3 <= w.level {
-        return 0;
+    let c = pool::count(mem, space, t);
+    if c == 0 {
+        return Weighed::Bad;
     }
-    if word::besides(mem, origin, w.a, i) {
-        return 0;
+    if 512 < c {
+        return Weighed::Bad;
     }
-    if 2 <= w.level {
-        return 1;
+    if 1 < c {
+        return Weighed::Stays(n, t, c - 1);
     }
-    if word::besides(mem, origin, w.b, walk::index(w.level + 1, va)) {
-        return 1;
+    if top <= level {
+        return Weighed::Stays(n, t, c - 1);
     }
-    if 1 <= w.level {
-        return 2;
-    }
-    if word::besides(mem, origin, w.c, walk::index(2, va)) {
-        return 2;
-    }
-    3
+    Weighed::Goes
+}
+
+// Which tables become empty, from the one of the page's entry up; the root stays.
+fn emptied(mem: &[u8], space: Space, w: Way) -> Weighed
+    requires { ⌜ standsOf (holds (now mem) (space .origin)) space ≡ Fits ⌝ }
+    ensures { λ r. ⌜ r ≡ the.emptiedOf (memory (now (mem .entry)) (space .origin)) space w ⌝ }
+{
+    let a = weigh(mem, space, 0, 3, w.level, w.a);
+    let Weighed::Goes = a else {
+        return a;
+    };
+    let b = weigh(mem, space, 1, 2, w.level, w.b);
+    let Weighed::Goes = b else {
+        return b;
+    };
+    let c = weigh(mem, space, 2, 1, w.level, w.c);
+    let Weighed::Goes = c else {
+        return c;
+    };
+    weigh(mem, space, 3, 0, w.level, w.d)
 }
 
 // The book has room for the tables that become empty.
-fn booked(space: Space, s: PageEntry, n: u64, b: Book) -> Removing
-    ensures { λ r. ⌜ r ≡ the.bookedOf space s n b ⌝ }
+fn booked(space: Space, s: PageEntry, n: u64, t: u64, c: u64, b: Book) -> Removing
+    ensures { λ r. ⌜ r ≡ the.bookedOf space s n t c b ⌝ }
 {
     if pool::takes(space, b, n) {
         return Removing::Go(Removal {
             page: s,
             empties: n,
+            table: t,
+            count: c,
             book: b,
         });
     }
@@ -73,13 +105,15 @@ fn booked(space: Space, s: PageEntry, n: u64, b: Book) -> Removing
 }
 
 // A book is needed only where a table becomes empty.
-fn remove(mem: &[u8], space: Space, s: PageEntry, n: u64) -> Removing
-    ensures { λ r. ⌜ r ≡ the.removeOf (holds (now (mem .entry)) (space .origin)) (memory (now (mem .entry)) (space .origin)) space s n ⌝ }
+fn remove(mem: &[u8], space: Space, s: PageEntry, n: u64, t: u64, c: u64) -> Removing
+    ensures { λ r. ⌜ r ≡ the.removeOf (holds (now (mem .entry)) (space .origin)) (memory (now (mem .entry)) (space .origin)) space s n t c ⌝ }
 {
     if n == 0 {
         return Removing::Go(Removal {
             page: s,
             empties: 0,
+            table: t,
+            count: c,
             book: Book {
                 head: 0,
                 free: 0,
@@ -93,7 +127,18 @@ fn remove(mem: &[u8], space: Space, s: PageEntry, n: u64) -> Removing
     let o = pool::open(mem, sp);
     match o {
         Opened::Refused(r) => Removing::Refused(Reason::Pool(r)),
-        Opened::Book(b) => booked(space, s, n, b),
+        Opened::Book(b) => booked(space, s, n, t, c, b),
+    }
+}
+
+// What the counts of the way tell.
+fn weighed(mem: &[u8], space: Space, s: PageEntry, e: Weighed) -> Removing
+    ensures { λ r. ⌜ r ≡ the.weighedOf (holds (now (mem .entry)) (space .origin)) (memory (now (mem .entry)) (space .origin)) space s e ⌝ }
+{
+    match e {
+        Weighed::Stays(n, t, c) => remove(mem, space, s, n, t, c),
+        Weighed::Goes => Removing::Refused(Reason::Pool(pool::Reason::BadBook)),
+        Weighed::Bad => Removing::Refused(Reason::Pool(pool::Reason::BadBook)),
     }
 }
 
@@ -106,7 +151,7 @@ fn decide_unmap(mem: &[u8], space: Space, va: u64) -> Removing
         Sought::Refused(r) => Removing::Refused(r),
         Sought::Found(p) => {
             let w = p.way;
-            remove(mem, space, p, emptied(mem, space.origin, va, p.index, w))
+            weighed(mem, space, p, emptied(mem, space, w))
         }
     }
 }
@@ -136,7 +181,7 @@ fn cut(
 }
 
 fn carry_unmap(mem: &mut [u8], left: &mut u64, space: Space, va: u64, r: Removal)
-    requires { ⌜ (the.low r) × (r .page .index ≡ indexOf (r .page .way .level) va) ⌝ }
+    requires { ⌜ (the.low r) × (r .page .index ≡ indexOf (r .page .way .level) va) × (standsOf (holds (now mem) (space .origin)) space ≡ Fits) ⌝ }
     ensures { λ _. ⌜ Wrote (space .origin) (the.writesOf space va r) (now (left .entry)) (now (left .exit)) (now (mem .entry)) (now (mem .exit)) ⌝ }
 {
     let s = r.page;
@@ -146,6 +191,7 @@ fn carry_unmap(mem: &mut [u8], left: &mut u64, space: Space, va: u64, r: Removal
     let b0 = r.book;
     word::write(mem, left, space.origin, w.a, s.index, 0);
     if n == 0 {
+        pool::set_count(mem, left, space, r.table, r.count);
         return;
     }
     // A copy, so that the space itself need not lie in memory where nothing becomes empty.
@@ -153,6 +199,7 @@ fn carry_unmap(mem: &mut [u8], left: &mut u64, space: Space, va: u64, r: Removal
     let b1 = cut(mem, left, sp, va, 0, n, w.b, l + 1, w.a, b0);
     let b2 = cut(mem, left, sp, va, 1, n, w.c, l + 2, w.b, b1);
     cut(mem, left, sp, va, 2, n, w.d, l + 3, w.c, b2);
+    pool::set_count(mem, left, sp, r.table, r.count);
 }
 
 // Unmaps, and answers the ticket of the book after it, by the counts before; or refuses and writes nothing.

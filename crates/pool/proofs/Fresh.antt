@@ -10,12 +10,15 @@ use Rattle.word.specs.Memory.{at}
 use Rattle.word.specs.Writes.{Write, after, zeros, Every}
 use Rattle.word.proofs.Writes.{every-append, every-map, every-zeros, after-append, after-other, after-zeros}
 use Rattle.tables.specs.Roles.{Zero}
+use Rattle.tables.specs.Saying.{saying}
+use Rattle.tables.proofs.Saying.{saying-zero}
 use Rattle.pool.specs.declared.Space.{Space}
 use Rattle.pool.specs.declared.Book.{Book}
 use Rattle.pool.specs.Layout.{signatureAt, pagesAt, rootAt, ticketsAt, freeAt, asideAt, headAt, headerWords, slotAt, countAt, bookWords, bookPages}
 use Rattle.pool.specs.Book.{wordOf, signature, bookOf, slotOf, pageAt}
 use Rattle.pool.specs.Changes.{put}
 use Rattle.pool.specs.Create.{fills, blanks, unmarks, bared, slots, headerWrites, newFree, layOut, Roomy}
+use Rattle.pool.specs.Counting.{countOf, Counted}
 use Rattle.pool.specs.Booked.{Lists, Booked, Alone, newRole}
 use Rattle.pool.proofs.Far.{word-at}
 use Rattle.pool.proofs.Counts.{slot-ahead}
@@ -23,7 +26,7 @@ use Rattle.pool.proofs.Words.{word-page, header-word, slot-word, puts, 
 use Rattle.pool.proofs.Rows.{put-same, put-other, row-word, row-other, unmarks-first}
 use Rattle.pool.proofs.Booked.{booked-by}
 use Rattle.pool.proofs.Proper.{OfBook, fills-proper, rest-proper, header-writes-proper, mark-proper}
-use Rattle.pool.proofs.NewRoles.{New, new-book, new-free, book-lies, free-lies, never-aside}
+use Rattle.pool.proofs.NewRoles.{New, new-book, new-free, new-live, book-lies, free-lies, never-aside}
 
 -- The header ----------------------------------------------------------------------------------------------------------------------
 
@@ -154,6 +157,16 @@ module _ (m : ℕ → ℕ) (sp : Space) (r : Roomy sp) (n : New sp) where
       ap (λ (f : ℕ → ℕ). f (at (sp .root) j)) laid-is
       ∙ after-other cleared (put sp signatureAt signature ∷ []) (sp .root) j u (every-map (λ q e x. omega (arith, e .1, n .behind)) (put sp signatureAt signature ∷ []) (mark-proper sp signature (omega arith)))
       ∙ after-zeros headed (sp .root) 512 j u (omega arith)
+
+  -- so its count is true, and there is no other table
+  pub laid-counted : Counted sp (after m (layOut sp)) (newRole sp)
+  unfolding countOf
+  laid-counted = record {
+    tally = λ p l h.
+        let e = new-live n p l h in
+        laid-counts (p - sp .first) (omega (arith, e, n .behind, r .enough))
+        ∙ sym (ap (λ x. saying (after m (layOut sp)) l x 512) e ∙ saying-zero (after m (layOut sp)) l (sp .root) laid-root);
+  }
 
   -- a page of the book but the first begins with a slot or a count
   book-alone : (j : ℕ) → 0 < j → j < bookPages (sp .pages) → after m (layOut sp) (wordOf sp (512 * j)) ≢ signature

@@ -13,16 +13,17 @@ use Rattle.pool.specs.declared.Space.{Space}
 use Rattle.pool.specs.declared.Fit.{Fit}
 use Rattle.pool.specs.declared.Fit.the-variants as fit
 use Rattle.pool.specs.declared.Created.the-variants as created
-use Rattle.pool.specs.Layout.{signatureAt, headAt, headerWords, slotAt, countAt, bookPages}
+use Rattle.pool.specs.Layout.{signatureAt, headAt, headerWords, slotAt, bookPages}
 use Rattle.pool.specs.Book.{wordOf, signature, roomOf}
 use Rattle.pool.specs.Changes.{put}
 use Rattle.pool.specs.Create.{mayCreate, newSpace, fills, blanks, unmarks, bared, slots, headerWrites, newFree, layOut, Roomy, createdOf, createdIn, createWrites, createIn}
+use Rattle.pool.specs.Counting.{Counted}
 use Rattle.pool.specs.Booked.{settingOf, Booked, Alone, newRole}
 use Rattle.pool.proofs.Opening.{Fitting, may-fit, fit-small, fit-inside, roomy}
 use Rattle.pool.proofs.Proper.{OfBook, fills-proper, rest-proper, header-writes-proper, mark-proper}
 use Rattle.pool.proofs.Rows.{unmarks-proper}
 use Rattle.pool.proofs.NewRoles.{New, new-sound}
-use Rattle.pool.proofs.Fresh.{laid-booked, laid-alone, laid-rest, laid-counts, laid-root}
+use Rattle.pool.proofs.Fresh.{laid-booked, laid-alone, laid-rest, laid-counted, laid-root}
 
 -- every write of a layout goes to the pool
 pub laid-proper : (sp : Space) → Roomy sp → New sp → Every (λ p. (sp .first ≤ p) × (p < sp .first + sp .pages)) (layOut sp)
@@ -44,13 +45,13 @@ laid-proper sp r n =
     wide : (xs : List Write) → Every (OfBook sp) xs → Every (λ p. (sp .first ≤ p) × (p < sp .first + sp .pages)) xs
     wide xs h = every-map (λ p k. (k .0, omega (arith, k .1, r .enough))) xs h
 
--- tables that were built, with a true book, in these bytes; every page behind the root is free, and what later requests keep in the book is 0
+-- tables that were built, with a true book, in these bytes; every page behind the root is free, the counts are true, and what later requests keep in the book is 0
 pub record NewPool (s : List ℕ) (sp : Space) : Type 0 where
   pub sound : tables.Sound (settingOf (holds s (sp .origin)) sp) (memory s (sp .origin)) (newRole sp)
   pub booked : Booked sp (memory s (sp .origin)) (newRole sp)
   pub alone : Alone sp (memory s (sp .origin))
   pub rest : (k : ℕ) → headAt < k → k < headerWords → memory s (sp .origin) (wordOf sp k) ≡ 0
-  pub counts : (k : ℕ) → k < sp .pages → memory s (sp .origin) (wordOf sp (countAt (sp .pages) k)) ≡ 0
+  pub counted : Counted sp (memory s (sp .origin)) (newRole sp)
 
 module _ (s : List ℕ) (origin first pages : ℕ) where
   pub fit-fresh : mayCreate (length s) (holds s origin) origin first pages ≡ fit.Fits → NewPool (carried s origin (layOut (newSpace origin first pages))) (newSpace origin first pages)
@@ -61,7 +62,7 @@ module _ (s : List ℕ) (origin first pages : ℕ) where
     booked = rw bytes (laid-booked (memory s origin) sp r n);
     alone = rw bytes (laid-alone (memory s origin) sp r n);
     rest = rw bytes (laid-rest (memory s origin) sp r n);
-    counts = rw bytes (laid-counts (memory s origin) sp r n);
+    counted = rw bytes (laid-counted (memory s origin) sp r n);
   }
     where
       sp : Space

@@ -1,12 +1,12 @@
 -- The roles of a new pool, and that tables with these roles are built: the root is empty, and there is no other table.
-use Prim.Native.Nat.{ℕ, _+_, _^_, _<_, _≤_}
+use Prim.Native.Nat.{ℕ, suc, _+_, _^_, _<_, _≤_}
 use mathlib.Core.Bool.{Bool, true}
 use mathlib.Core.Logic.{_≢_}
 use mathlib.Core.Path.{_≡_, refl, sym, _∙_}
 use native.Mathlib.Decide.{decLe, decLt, ℕ-discrete}
 use native.Mathlib.Omega.{arith}
 use borrow.Author.Tests.{le-leb, lt-leb, lt-ltb, le-ltb, eq-eqb, ne-eqb}
-use Rattle.tables.specs.Roles.{Role, foreign, free, aside, book, root, table, Sound, Zero}
+use Rattle.tables.specs.Roles.{Role, foreign, free, aside, book, root, table, left, Live, Sound, Zero}
 use Rattle.tables.specs.Start.{NewRoles}
 use Rattle.tables.proofs.Start.{fresh-sound}
 use Rattle.pool.specs.declared.Space.{Space}
@@ -135,6 +135,16 @@ module _ {sp : Space} (n : New sp) where
       go r (at-root x) e = x
       go r (beyond x y) e = let z : _≡_ {A = ℕ} 0 1 = cc in absurd (omega arith)
       go r (out x) e = let z : _≡_ {A = ℕ} 0 1 = cc in absurd (omega arith)
+
+  -- walks come to the root alone
+  pub new-live : (p l : ℕ) → Live (newRole sp) p l → p ≡ sp .root
+  new-live p l e = go (newRole sp p) (lies p) e
+    where
+      go : (r : Role) → LiesByRole sp p r → left r ≡ suc l → p ≡ sp .root
+      go r (in-book x y) e = absurd (omega arith)
+      go r (at-root x) e = x
+      go r (beyond x y) e = absurd (omega arith)
+      go r (out x) e = absurd (omega arith)
 
   -- TABLES OF A NEW POOL ARE BUILT, if its pages lie in the window and the root's words are 0
   pub new-sound : (h : ℕ → Bool) (m : ℕ → ℕ) → sp .root < 2 ^ 40 → ((p : ℕ) → sp .first ≤ p → p < sp .first + sp .pages → h p ≡ true) → Zero m (sp .root)
