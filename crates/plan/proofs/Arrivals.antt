@@ -94,18 +94,18 @@ module _ (va : ℕ) (t : Arrival) (w : Way) (e : t ≡ stopAt va w) where
 -- Map --------------------------------------------------------------------------------------------------------------------------------
 
 module _ (q : Asked) (target x : ℕ) (h : ℕ → Bool) (m : ℕ → ℕ) (sp : Space) (t : Arrival) (w : Way) (e : t ≡ stopAt (q .base) w) where
-  pub vacant-here : madePage target (q .frame) (q .rights) ≡ made.Word x → t .way .level ≤ target
-      → placing.Here (record { table = t .way .a; index = t .index; word = x })
-      ≡ map.placingOf (map.placeOf q target (w .level) (w .a) (map.sparedOf w (map.supplyOf h m sp (w .level - target))))
-  vacant-here k u =
+  pub vacant-here : madePage target (q .frame) (q .rights) ≡ made.Word x → t .way .level ≤ target → (c : ℕ) → c ≡ map.raisedOf m sp (t .way .a)
+      → placing.Here (record { table = t .way .a; index = t .index; count = c; word = x })
+      ≡ map.placingOf (map.placeOf q target (w .level) (w .a) (map.raisedOf m sp (w .a)) (map.sparedOf w (map.supplyOf h m sp (w .level - target))))
+  vacant-here k u c ec =
       let a : t .way .a ≡ w .a = ap (λ (y : Way). y .a) (way-is (q .base) t w e) in
-      rw a (place-here q target (w .level) (w .a) x k h m sp w (t .index) (omega (arith, level-is (q .base) t w e)) (index-is (q .base) t w e))
+      rw (ec, a) (place-here q target (w .level) (w .a) (map.raisedOf m sp (w .a)) x k h m sp w (t .index) (omega (arith, level-is (q .base) t w e)) (index-is (q .base) t w e))
 
-  pub vacant-built : (r : Placing) → r ≡ map.placingOf (map.placeOf q target (t .way .level) (t .way .a) (map.sparedOf (t .way) (map.supplyOf h m sp (t .way .level - target))))
-      → r ≡ map.placingOf (map.placeOf q target (w .level) (w .a) (map.sparedOf w (map.supplyOf h m sp (w .level - target))))
-  vacant-built r k = k ∙ ap (λ (y : Way). map.placingOf (map.placeOf q target (y .level) (y .a) (map.sparedOf y (map.supplyOf h m sp (y .level - target))))) (way-is (q .base) t w e)
+  pub vacant-built : (r : Placing) → r ≡ map.placingOf (map.placeOf q target (t .way .level) (t .way .a) (map.raisedOf m sp (t .way .a)) (map.sparedOf (t .way) (map.supplyOf h m sp (t .way .level - target))))
+      → r ≡ map.placingOf (map.placeOf q target (w .level) (w .a) (map.raisedOf m sp (w .a)) (map.sparedOf w (map.supplyOf h m sp (w .level - target))))
+  vacant-built r k = k ∙ ap (λ (y : Way). map.placingOf (map.placeOf q target (y .level) (y .a) (map.raisedOf m sp (y .a)) (map.sparedOf y (map.supplyOf h m sp (y .level - target))))) (way-is (q .base) t w e)
 
-  pub stopped-vacant : t .way .why ≡ why.Nothing → (r : Placing) → r ≡ map.placingOf (map.placeOf q target (w .level) (w .a) (map.sparedOf w (map.supplyOf h m sp (w .level - target))))
+  pub stopped-vacant : t .way .why ≡ why.Nothing → (r : Placing) → r ≡ map.placingOf (map.placeOf q target (w .level) (w .a) (map.raisedOf m sp (w .a)) (map.sparedOf w (map.supplyOf h m sp (w .level - target))))
       → r ≡ map.placingOf (map.stoppedOf h m sp q target w)
   unfolding map.stoppedOf map.becauseOf
   stopped-vacant k r f = f ∙ rw (why-is (q .base) t w e why.Nothing k)

@@ -6,15 +6,21 @@ use mathlib.Core.Path.{_≡_, refl, sym, ap, _∙_, subst}
 use native.Mathlib.Omega.{arith}
 use borrow.Author.Tests.{le-leb}
 use lib.Dec.{leb}
-use Rattle.word.specs.Writes.{Wrote, write}
-use Rattle.word.proofs.Budget.{wrote-then}
+use Rattle.word.specs.Memory.{holds}
+use Rattle.word.specs.Writes.{Write, Wrote, write}
+use Rattle.word.proofs.Budget.{wrote-then, wrote-holds}
 use Rattle.walk.specs.Walk.{indexOf}
 use Rattle.plan.specs.declared.maps.Mapping.{Mapping}
 use Rattle.plan.specs.declared.building.TableReached.{TableReached}
+use Rattle.pool.specs.Book.{roomOf}
+use Rattle.pool.specs.Counting.{countWrites}
+use Rattle.pool.specs.Stands.{standsOf}
+use Rattle.pool.specs.declared.Fit.the-variants.{Fits}
 use Rattle.pool.specs.declared.Space.{Space}
 use Rattle.pool.specs.declared.Book.{Book}
 use Rattle.plan.specs.declared.unmaps.Removal.{Removal}
 use Rattle.plan.specs.Unmap.{cutBook, cutWrites, book1, book2, writesOf}
+use Rattle.plan.proofs.Standing.{stands}
 use Rattle.plan.specs.Map.{nextOf, growOf, reached0, reached1, reached2, reached3, buildOf}
 
 -- Map -------------------------------------------------------------------------------------------------------------------------
@@ -51,26 +57,43 @@ build-wrote m origin n0 n1 n2 n3 n4 x0 x1 x2 x3 x4 s1 s2 s3 i u e1 e2 e3 f1 f2 f
 
 -- Unmap -----------------------------------------------------------------------------------------------------------------------
 
--- the page's entry and the tables that became empty, as the functions of unmap write them
-pub cuts-wrote : (sp : Space) (va : ℕ) (r : Removal) (n0 n1 n2 n3 n4 : ℕ) (x0 x1 x2 x3 x4 : List ℕ) (b1 b2 : Book) (i : ℕ) → i ≡ indexOf (r .page .way .level) va
+-- where a space stands in a window, it stands in every one that writes leave
+pub stands-wrote : (sp : Space) (xs : List Write) (n0 n1 : ℕ) (x0 x1 : List ℕ) → Wrote (sp .origin) xs n0 n1 x0 x1
+    → standsOf (holds x0 (sp .origin)) sp ≡ Fits → standsOf (holds x1 (sp .origin)) sp ≡ Fits
+stands-wrote sp xs n0 n1 x0 x1 f e = rw (wrote-holds (sp .origin) xs n0 n1 x0 x1 f) e
+
+pub room-stands : (h : ℕ → Bool) (sp : Space) → standsOf h sp ≡ Fits → roomOf h (sp .first) (sp .pages) ≡ Fits
+room-stands h sp e = stands h sp e .room
+
+-- the page's entry and the tables that became empty, as the functions of unmap write them, and the count of the table that stays
+pub cuts-wrote : (sp : Space) (va : ℕ) (r : Removal) (n0 n1 n2 n3 n4 n5 : ℕ) (x0 x1 x2 x3 x4 x5 : List ℕ) (b1 b2 : Book) (i : ℕ) → i ≡ indexOf (r .page .way .level) va
+    → standsOf (holds x0 (sp .origin)) sp ≡ Fits
     → Wrote (sp .origin) (write (r .page .way .a) i 0 ∷ []) n0 n1 x0 x1
     → b1 ≡ cutBook sp 0 (r .empties) (r .book) → b2 ≡ cutBook sp 1 (r .empties) b1
     → Wrote (sp .origin) (cutWrites sp 0 (r .empties) (r .page .way .b) (indexOf (r .page .way .level + 1) va) (r .page .way .a) (r .book)) n1 n2 x1 x2
     → Wrote (sp .origin) (cutWrites sp 1 (r .empties) (r .page .way .c) (indexOf (r .page .way .level + 2) va) (r .page .way .b) b1) n2 n3 x2 x3
     → Wrote (sp .origin) (cutWrites sp 2 (r .empties) (r .page .way .d) (indexOf (r .page .way .level + 3) va) (r .page .way .c) b2) n3 n4 x3 x4
-    → Wrote (sp .origin) (writesOf sp va r) n0 n4 x0 x4
+    → (roomOf (holds x4 (sp .origin)) (sp .first) (sp .pages) ≡ Fits → Wrote (sp .origin) (countWrites sp (r .table) (r .count)) n4 n5 x4 x5)
+    → Wrote (sp .origin) (writesOf sp va r) n0 n5 x0 x5
 unfolding writesOf
-cuts-wrote sp va r n0 n1 n2 n3 n4 x0 x1 x2 x3 x4 b1 b2 i g f1 e1 e2 f2 f3 f4 =
+cuts-wrote sp va r n0 n1 n2 n3 n4 n5 x0 x1 x2 x3 x4 x5 b1 b2 i g st f1 e1 e2 f2 f3 f4 f5 =
     let c2 : b2 ≡ book2 sp r = e2 ∙ ap (cutBook sp 1 (r .empties)) e1 in
     let h1 = subst (λ (k : ℕ). Wrote (sp .origin) (write (r .page .way .a) k 0 ∷ []) n0 n1 x0 x1) g f1 in
     let h3 =
     subst (λ (b : Book). Wrote (sp .origin) (cutWrites sp 1 (r .empties) (r .page .way .c) (indexOf (r .page .way .level + 2) va) (r .page .way .b) b) n2 n3 x2 x3) e1 f3 in
     let h4 =
     subst (λ (b : Book). Wrote (sp .origin) (cutWrites sp 2 (r .empties) (r .page .way .d) (indexOf (r .page .way .level + 3) va) (r .page .way .c) b) n3 n4 x3 x4) c2 f4 in
-    wrote-then _ _ _ n0 n1 n4 x0 x1 x4 h1 (wrote-then _ _ _ n1 n2 n4 x1 x2 x4 f2 (wrote-then _ _ _ n2 n3 n4 x2 x3 x4 h3 h4))
+    let s4 = stands-wrote sp _ n3 n4 x3 x4 f4 (stands-wrote sp _ n2 n3 x2 x3 f3 (stands-wrote sp _ n1 n2 x1 x2 f2 (stands-wrote sp _ n0 n1 x0 x1 f1 st))) in
+    wrote-then _ _ _ n0 n1 n5 x0 x1 x5 h1
+    (wrote-then _ _ _ n1 n2 n5 x1 x2 x5 f2 (wrote-then _ _ _ n2 n3 n5 x2 x3 x5 h3 (wrote-then _ _ _ n3 n4 n5 x3 x4 x5 h4 (f5 (room-stands _ sp s4)))))
 
--- the page's entry alone, where no table becomes empty
-pub cuts-none : (sp : Space) (va : ℕ) (r : Removal) (n0 n1 : ℕ) (x0 x1 : List ℕ) (i : ℕ) → r .empties ≡ 0 → i ≡ indexOf (r .page .way .level) va
-    → Wrote (sp .origin) (write (r .page .way .a) i 0 ∷ []) n0 n1 x0 x1 → Wrote (sp .origin) (writesOf sp va r) n0 n1 x0 x1
+-- the page's entry alone and the count, where no table becomes empty
+pub cuts-none : (sp : Space) (va : ℕ) (r : Removal) (n0 n1 n2 : ℕ) (x0 x1 x2 : List ℕ) (i : ℕ) → r .empties ≡ 0 → i ≡ indexOf (r .page .way .level) va
+    → standsOf (holds x0 (sp .origin)) sp ≡ Fits
+    → Wrote (sp .origin) (write (r .page .way .a) i 0 ∷ []) n0 n1 x0 x1
+    → (roomOf (holds x1 (sp .origin)) (sp .first) (sp .pages) ≡ Fits → Wrote (sp .origin) (countWrites sp (r .table) (r .count)) n1 n2 x1 x2)
+    → Wrote (sp .origin) (writesOf sp va r) n0 n2 x0 x2
 unfolding writesOf cutWrites
-cuts-none sp va r n0 n1 x0 x1 i e g f = simp e (subst (λ (k : ℕ). Wrote (sp .origin) (write (r .page .way .a) k 0 ∷ []) n0 n1 x0 x1) g f)
+cuts-none sp va r n0 n1 n2 x0 x1 x2 i e g st f1 f2 =
+    let h1 = subst (λ (k : ℕ). Wrote (sp .origin) (write (r .page .way .a) k 0 ∷ []) n0 n1 x0 x1) g f1 in
+    simp e (wrote-then _ _ _ n0 n1 n2 x0 x1 x2 h1 (f2 (room-stands _ sp (stands-wrote sp _ n0 n1 x0 x1 f1 st))))

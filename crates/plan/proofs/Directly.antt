@@ -24,7 +24,7 @@ use Rattle.plan.specs.declared.direct.Once.the-variants as once
 use Rattle.plan.specs.declared.maps.Asked.{Asked}
 use Rattle.plan.specs.declared.maps.Shape.the-variants.{Level}
 use Rattle.plan.specs.Descend.{Going, startOf, pushOf, stopOf, downOf, endOf, wayOf}
-use Rattle.plan.specs.Map.{Placed, Refused, fitsOf, shapeOf, meetsOf, becauseOf, stoppedOf, fittingOf, standingOf, shapedOf, decideOf, placingOf}
+use Rattle.plan.specs.Map.{Placed, Refused, fitsOf, shapeOf, meetsOf, raisedOf, becauseOf, stoppedOf, fittingOf, standingOf, shapedOf, decideOf, placingOf}
 use Rattle.plan.specs.AtOnce.{leadOf, Comes, onceOf, onceWrites, Found, AtOnce}
 use Rattle.plan.proofs.Leads.{lead-page, lead-nothing, lead-table}
 use Rattle.plan.proofs.Placings.{place-here}
@@ -41,7 +41,7 @@ module _ (left rest : ℕ) (s after : List ℕ) (sp : Space) (n va x t : ℕ)
   stops y v w e = ap endOf (come .trail ∙ e)
 
   pub settled : (l : Lead) → leadOf (holds s (sp .origin)) (memory s (sp .origin)) sp va n t ≡ l
-      → Wrote (sp .origin) (onceWrites t (indexOf n va) x l) left rest s after → Found left rest s after sp n va x (onceOf l)
+      → Wrote (sp .origin) (onceWrites sp t (indexOf n va) (raisedOf (memory s (sp .origin)) sp t) x l) left rest s after → Found left rest s after sp n va x (onceOf l)
   unfolding onceOf onceWrites pushOf
   settled lead.Nothing e f =
       let k = stops why.Nothing _ _ (lead-nothing _ _ sp n va n t (come .way) e) in
@@ -70,8 +70,8 @@ module _ (left rest : ℕ) (s after : List ℕ) (sp : Space) (q : Asked) (n x : 
   unfolding stoppedOf becauseOf
   at-once d once.Done e f =
       record {
-        leaf = record { table = f .table; index = indexOf n (q .base); word = x };
-        decided = rw (e, f .why, f .level, f .last) (sym (place-here q n n (f .table) x made-so H M sp _ (indexOf n (q .base)) (omega arith) refl));
+        leaf = record { table = f .table; index = indexOf n (q .base); count = raisedOf M sp (f .table); word = x };
+        decided = rw (e, f .why, f .level, f .last) (sym (place-here q n n (f .table) (raisedOf M sp (f .table)) x made-so H M sp _ (indexOf n (q .base)) (omega arith) refl));
         order = f .order;
       }
   at-once d once.Overlap e f = (rw (e, f .why) (go _ (f .by)), f .order)

@@ -9,5 +9,6 @@ pub mod Directly
 pub mod Standing
 pub mod Carrying
 pub mod Sparing
+pub mod Weighing
 pub mod Low
 pub mod Unmappings

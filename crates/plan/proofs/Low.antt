@@ -4,10 +4,8 @@ use mathlib.Core.Bool.{Bool, true, false, cond}
 use mathlib.Core.List.{List}
 use mathlib.Core.Path.{_≡_, refl, subst}
 use native.Mathlib.Omega.{arith}
-use borrow.Author.Tests.{leb-false}
 use lib.Dec.{leb, ltb, eqb}
 use Rattle.word.specs.Memory.{holds}
-use Rattle.word.specs.Scan.{besidesOf}
 use Rattle.word.proofs.Memory.{held}
 use Rattle.entry.specs.Words.{madePage}
 use Rattle.entry.specs.declared.Entry.the-variants as entry
@@ -15,7 +13,7 @@ use Rattle.entry.specs.declared.Made.{Made}
 use Rattle.entry.specs.declared.Made.the-variants as made
 use Rattle.walk.specs.Walk.{indexOf}
 use Rattle.pool.specs.Book.{namesOf, openedOf, listedOf, roomOf}
-use Rattle.pool.specs.Stands.{takesOf}
+use Rattle.pool.specs.Stands.{standsOf, takesOf}
 use Rattle.pool.specs.declared.Space.{Space}
 use Rattle.pool.specs.declared.Book.{Book}
 use Rattle.pool.specs.declared.Fit.{Fit}
@@ -26,7 +24,7 @@ use Rattle.pool.specs.declared.Listed.{Listed}
 use Rattle.pool.specs.declared.Listed.the-variants as listed
 use Rattle.pool.proofs.Listing.{listed-usable}
 use Rattle.pool.proofs.Opening as opening
-use Rattle.pool.proofs.Opening.{open-shows, names-room}
+use Rattle.pool.proofs.Opening.{open-shows, names-room, names-stands}
 use Rattle.pool.specs.declared.Reason.the-variants.{BadBook}
 use Rattle.plan.specs.Map as map
 use Rattle.plan.specs.Map.{LowTables, Buildable}
@@ -44,6 +42,8 @@ use Rattle.plan.specs.declared.maps.Shape.the-variants as shape
 use Rattle.plan.specs.declared.finding.PageEntry.{PageEntry}
 use Rattle.plan.specs.declared.finding.Sought.{Sought}
 use Rattle.plan.specs.declared.finding.Sought.the-variants as sought
+use Rattle.plan.specs.declared.unmaps.Weighed.{Weighed}
+use Rattle.plan.specs.declared.unmaps.Weighed.the-variants as weighed
 use Rattle.plan.specs.declared.unmaps.Removal.{Removal}
 use Rattle.plan.specs.declared.unmaps.Removing.the-variants as removing
 use Rattle.plan.specs.Descend.{wayOf}
@@ -52,6 +52,7 @@ use Rattle.plan.specs.declared.descent.Why.{Why}
 use Rattle.plan.specs.declared.descent.Why.the-variants as why
 use Rattle.plan.proofs.Ways.{way-low}
 use Rattle.plan.proofs.Sparing.{spared-same}
+use Rattle.plan.proofs.Weighing.{emptied-is, emptied-low}
 
 -- Map --------------------------------------------------------------------------------------------------------------------------
 
@@ -103,22 +104,22 @@ module _ (h : ℕ → Bool) (m : ℕ → ℕ) (sp : Space) (small : (x : ℕ) �
     none-built : _≡_ {A = ℕ} 0 1 → Buildable p
     none-built z = absurd (omega arith)
 
-    made-low : (target level table : ℕ) (f : NewTables) (x : Made) → level < 4 → LowTables f → map.madeOf q target level table f x ≡ map.Go p → Buildable p
+    made-low : (target level table count : ℕ) (f : NewTables) (x : Made) → level < 4 → LowTables f → map.madeOf q target level table count f x ≡ map.Go p → Buildable p
     unfolding map.madeOf
-    made-low target level table f made.Refused u l e = none-built cc
-    made-low target level table f (made.Word w) u l e =
-        let same : record { base = q .base; target = target; level = level; table = table; word = w; fresh = f } ≡ p = cc in
+    made-low target level table count f made.Refused u l e = none-built cc
+    made-low target level table count f (made.Word w) u l e =
+        let same : record { base = q .base; target = target; level = level; table = table; count = count; word = w; fresh = f } ≡ p = cc in
         subst Buildable same (record { level = u; fresh = l })
 
-    place-low : (target level table : ℕ) (s : Supply) → level < 4 → ((f : NewTables) → s ≡ supply.Pages f → LowTables f) → map.placeOf q target level table s ≡ map.Go p → Buildable p
+    place-low : (target level table count : ℕ) (s : Supply) → level < 4 → ((f : NewTables) → s ≡ supply.Pages f → LowTables f) → map.placeOf q target level table count s ≡ map.Go p → Buildable p
     unfolding map.placeOf
-    place-low target level table (supply.Lacking y) u l e = none-built cc
-    place-low target level table (supply.Pages f) u l e = made-low target level table f (madePage target (q .frame) (q .rights)) u (l f refl) e
+    place-low target level table count (supply.Lacking y) u l e = none-built cc
+    place-low target level table count (supply.Pages f) u l e = made-low target level table count f (madePage target (q .frame) (q .rights)) u (l f refl) e
 
     because-low : (target : ℕ) (w : Way) (y : Why) → w .level < 4 → map.becauseOf h m sp q target w y ≡ map.Go p → Buildable p
     unfolding map.becauseOf
     because-low target w why.Nothing u e =
-        place-low target (w .level) (w .a) (map.sparedOf w (map.supplyOf h m sp (w .level - target))) u
+        place-low target (w .level) (w .a) (map.raisedOf m sp (w .a)) (map.sparedOf w (map.supplyOf h m sp (w .level - target))) u
         (λ f k. supply-low (w .level - target) f (spared-same w (map.supplyOf h m sp (w .level - target)) f k)) e
     because-low target w why.Page u e = none-built cc
     because-low target w why.Table u e = none-built cc
@@ -144,28 +145,25 @@ module _ (h : ℕ → Bool) (m : ℕ → ℕ) (sp : Space) (small : (x : ℕ) �
     unfolding map.decideOf
     map-low e = shaped-low (map.shapeOf (q .size) (q .base) (q .frame)) e
 
+    -- and the space makes sense
+    fitting-stands : (target : ℕ) (x : Fit) → namesOf h m sp ≡ x → map.fittingOf h m sp q target x ≡ map.Go p → standsOf h sp ≡ fit.Fits
+    unfolding map.fittingOf
+    fitting-stands target (fit.Refused r) f e = let z : _≡_ {A = ℕ} 0 1 = cc e in absurd (omega arith)
+    fitting-stands target fit.Fits f e = names-stands h m sp f
+
+    pub map-stands : map.decideOf h m sp q ≡ map.Go p → standsOf h sp ≡ fit.Fits
+    unfolding map.decideOf map.shapedOf map.standingOf
+    map-stands e = go (map.shapeOf (q .size) (q .base) (q .frame)) e
+      where
+        go : (x : Shape) → map.shapedOf h m sp q x ≡ map.Go p → standsOf h sp ≡ fit.Fits
+        go (shape.Bad r) k = let z : _≡_ {A = ℕ} 0 1 = cc k in absurd (omega arith)
+        go (shape.Level n) k = fitting-stands n (namesOf h m sp) refl k
+
 -- a page that lies in a window has such a number
 pub held-low : (s : List ℕ) (origin x : ℕ) → holds s origin x ≡ true → x < 2 ^ 40
 held-low s origin x e = held s origin x e .small
 
 -- Unmap ------------------------------------------------------------------------------------------------------------------------
-
--- no more tables become empty than lie between the page and the root
-emptied-low : (h : ℕ → Bool) (m : ℕ → ℕ) (va : ℕ) (w : Way) → w .level < 4 → w .level + unmap.emptiedOf h m va w < 4
-unfolding unmap.emptiedOf
-emptied-low h m va w u =
-    go (leb 3 (w .level)) (besidesOf h m (w .a) (indexOf (w .level) va) 512) (leb 2 (w .level))
-    (besidesOf h m (w .b) (indexOf (w .level + 1) va) 512) (leb 1 (w .level)) (besidesOf h m (w .c) (indexOf 2 va) 512) refl refl refl
-  where
-    go : (a : Bool) (x : Bool) (b : Bool) (y : Bool) (c : Bool) (z : Bool) → leb 3 (w .level) ≡ a → leb 2 (w .level) ≡ b → leb 1 (w .level) ≡ c
-        → w .level + cond a 0 (cond x 0 (cond b 1 (cond y 1 (cond c 2 (cond z 2 3))))) < 4
-    go true x b y c z ea eb ec = omega arith
-    go false true b y c z ea eb ec = omega arith
-    go false false true y c z ea eb ec = omega (arith, leb-false 3 (w .level) ea)
-    go false false false true c z ea eb ec = omega (arith, leb-false 2 (w .level) eb)
-    go false false false false true z ea eb ec = omega (arith, leb-false 2 (w .level) eb)
-    go false false false false false true ea eb ec = omega (arith, leb-false 1 (w .level) ec)
-    go false false false false false false ea eb ec = omega (arith, leb-false 1 (w .level) ec)
 
 -- what a decision to go shows: the levels, and the index
 pub record GoShows (va : ℕ) (r : Removal) : Type 0 where
@@ -176,42 +174,62 @@ module _ (h : ℕ → Bool) (m : ℕ → ℕ) (sp : Space) (va : ℕ) (r : Remov
   clash : _≡_ {A = ℕ} 0 1 → GoShows va r
   clash z = absurd (omega arith)
 
-  booked-fits : (s : PageEntry) (n : ℕ) → s .way .level + n < 4 → s .index ≡ indexOf (s .way .level) va → (b : Book) → unmap.bookedOf sp s n b ≡ removing.Go r → GoShows va r
+  booked-fits : (s : PageEntry) (n t c : ℕ) → s .way .level + n < 4 → s .index ≡ indexOf (s .way .level) va → (b : Book) → unmap.bookedOf sp s n t c b ≡ removing.Go r → GoShows va r
   unfolding unmap.bookedOf
-  booked-fits s n u i b e = go (takesOf sp b n) e
+  booked-fits s n t c u i b e = go (takesOf sp b n) e
     where
-      go : (t : Bool) → cond t (removing.Go (record { page = s; empties = n; book = b })) (removing.Refused (Pool BadBook)) ≡ removing.Go r
+      go : (x : Bool) → cond x (removing.Go (record { page = s; empties = n; table = t; count = c; book = b })) (removing.Refused (Pool BadBook)) ≡ removing.Go r
           → GoShows va r
       go false k = clash cc
       go true k =
-          let same : record { page = s; empties = n; book = b } ≡ r = cc in
+          let same : record { page = s; empties = n; table = t; count = c; book = b } ≡ r = cc in
           subst (GoShows va) same (record { low = u; index = i })
 
-  opened-fits : (s : PageEntry) (n : ℕ) → s .way .level + n < 4 → s .index ≡ indexOf (s .way .level) va → (x : Opened) → unmap.openOf sp s n x ≡ removing.Go r → GoShows va r
+  opened-fits : (s : PageEntry) (n t c : ℕ) → s .way .level + n < 4 → s .index ≡ indexOf (s .way .level) va → (x : Opened) → unmap.openOf sp s n t c x ≡ removing.Go r → GoShows va r
   unfolding unmap.openOf
-  opened-fits s n u i (opened.Book b) e = booked-fits s n u i b e
-  opened-fits s n u i (opened.Refused y) e = clash cc
+  opened-fits s n t c u i (opened.Book b) e = booked-fits s n t c u i b e
+  opened-fits s n t c u i (opened.Refused y) e = clash cc
 
-  remove-fits : (s : PageEntry) (n : ℕ) → s .way .level + n < 4 → s .index ≡ indexOf (s .way .level) va → unmap.removeOf h m sp s n ≡ removing.Go r → GoShows va r
+  remove-fits : (s : PageEntry) (n t c : ℕ) → s .way .level + n < 4 → s .index ≡ indexOf (s .way .level) va → unmap.removeOf h m sp s n t c ≡ removing.Go r → GoShows va r
   unfolding unmap.removeOf
-  remove-fits s n u i e = go (eqb n 0) e
+  remove-fits s n t c u i e = go (eqb n 0) e
     where
-      go : (t : Bool) → cond t (removing.Go (record { page = s; empties = 0; book = map.noBook })) (unmap.openOf sp s n (openedOf h m sp)) ≡ removing.Go r → GoShows va r
+      go : (x : Bool) → cond x (removing.Go (record { page = s; empties = 0; table = t; count = c; book = map.noBook })) (unmap.openOf sp s n t c (openedOf h m sp)) ≡ removing.Go r → GoShows va r
       go true k =
-          let same : record { page = s; empties = 0; book = map.noBook } ≡ r = cc in
+          let same : record { page = s; empties = 0; table = t; count = c; book = map.noBook } ≡ r = cc in
           subst (GoShows va) same (record { low = omega arith; index = i })
-      go false k = opened-fits s n u i (openedOf h m sp) k
+      go false k = opened-fits s n t c u i (openedOf h m sp) k
+
+  weighed-fits : (s : PageEntry) → s .way .level < 4 → s .index ≡ indexOf (s .way .level) va → (x : Weighed) → unmap.emptiedOf m sp (s .way) ≡ x
+      → unmap.weighedOf h m sp s x ≡ removing.Go r → GoShows va r
+  unfolding unmap.weighedOf
+  weighed-fits s u i weighed.Goes ex e = clash cc
+  weighed-fits s u i (weighed.Stays n t c) ex e = go (eqb c 0) (ltb 512 c) e
+    where
+      go : (x y : Bool) → cond x (removing.Refused (Pool BadBook)) (cond y (removing.Refused (Pool BadBook)) (unmap.removeOf h m sp s n t (c - 1))) ≡ removing.Go r → GoShows va r
+      go true y k = clash cc
+      go false true k = clash cc
+      go false false k = remove-fits s n t (c - 1) (emptied-low m sp (s .way) n t c u (emptied-is m sp (s .way) n t c ex)) i k
 
   sought-fits : (x : Sought) → findOf h m sp va ≡ x → unmap.removingOf h m sp va x ≡ removing.Go r → GoShows va r
   unfolding unmap.removingOf
   sought-fits (sought.Refused y) ex e = clash cc
   sought-fits (sought.Found s) ex e =
       let k = found-at h m sp va s ex in
-      remove-fits s (unmap.emptiedOf h m va (s .way)) (emptied-low h m va (s .way) (k .low)) (k .index) e
+      weighed-fits s (k .low) (k .index) (unmap.emptiedOf m sp (s .way)) refl e
 
   pub unmap-fits : unmap.decideOf h m sp va ≡ removing.Go r → GoShows va r
   unfolding unmap.decideOf
   unmap-fits e = sought-fits (findOf h m sp va) refl e
+
+  -- and that the space makes sense
+  pub unmap-stands : unmap.decideOf h m sp va ≡ removing.Go r → standsOf h sp ≡ fit.Fits
+  unfolding unmap.decideOf unmap.removingOf
+  unmap-stands e = go (findOf h m sp va) refl e
+    where
+      go : (x : Sought) → findOf h m sp va ≡ x → unmap.removingOf h m sp va x ≡ removing.Go r → standsOf h sp ≡ fit.Fits
+      go (sought.Found s) f k = names-stands h m sp (found-at h m sp va s f .names)
+      go (sought.Refused y) f k = let z : _≡_ {A = ℕ} 0 1 = cc in absurd (omega arith)
 
   -- and that the pool lies in the window
   pub unmap-room : unmap.decideOf h m sp va ≡ removing.Go r → roomOf h (sp .first) (sp .pages) ≡ fit.Fits

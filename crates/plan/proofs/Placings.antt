@@ -1,5 +1,5 @@
 -- What map hands on: the entry itself where no table is missing, and else what is to be built.
-use Prim.Native.Nat.{ℕ, _-_, _%_, _^_, _<_, _≤_}
+use Prim.Native.Nat.{ℕ, _+_, _-_, _%_, _^_, _<_, _≤_}
 use mathlib.Core.Bool.{Bool, true, false, cond, _&&_}
 use mathlib.Core.Path.{_≡_, refl, sym, ap, _∙_}
 use native.Mathlib.Omega.{arith}
@@ -12,6 +12,7 @@ use Rattle.entry.specs.declared.Rights.{Rights}
 use Rattle.entry.specs.declared.Made.the-variants as made
 use Rattle.walk.specs.Walk.{indexOf}
 use Rattle.walk.proofs.Digits.{size-pos}
+use Rattle.pool.specs.Counting.{countIn}
 use Rattle.pool.specs.declared.Space.{Space}
 use Rattle.plan.specs.declared.Reason.{Reason}
 use Rattle.plan.specs.declared.descent.Way.{Way}
@@ -23,22 +24,22 @@ use Rattle.plan.specs.declared.maps.Supply.the-variants.{Pages, Lacking}
 use Rattle.plan.specs.declared.maps.Leaf.{Leaf}
 use Rattle.plan.specs.declared.building.Making.the-variants as making
 use Rattle.plan.specs.declared.maps.Placing.the-variants as placing
-use Rattle.plan.specs.Map.{Placed, Go, Refused, supplyOf, apartOf, sparedOf, madeOf, placeOf, nextOf, growOf, buildOf, writesOf, leafOf, leafWrites, didOf, makingOf, placingOf}
+use Rattle.plan.specs.Map.{Placed, Go, Refused, supplyOf, apartOf, sparedOf, raisedOf, madeOf, placeOf, nextOf, growOf, buildOf, takenWrites, writesOf, leafOf, leafWrites, didOf, makingOf, placingOf}
 use Rattle.plan.proofs.Shapes.{Shaped}
 
-module _ (q : Asked) (target level table x : ℕ) where
-  pub place-lacking : (s : Supply) (y : Reason) → s ≡ Lacking y → placing.Refused y ≡ placingOf (placeOf q target level table s)
+module _ (q : Asked) (target level table count x : ℕ) where
+  pub place-lacking : (s : Supply) (y : Reason) → s ≡ Lacking y → placing.Refused y ≡ placingOf (placeOf q target level table count s)
   unfolding placeOf placingOf
   place-lacking s y e = rw e
 
   module _ (made-so : madePage target (q .frame) (q .rights) ≡ made.Word x) where
     pub place-pages : (s : Supply) (f : NewTables) → s ≡ Pages f → target < level
-        → placing.Built (record { base = q .base; target = target; level = level; table = table; word = x; fresh = f }) ≡ placingOf (placeOf q target level table s)
+        → placing.Built (record { base = q .base; target = target; level = level; table = table; count = count; word = x; fresh = f }) ≡ placingOf (placeOf q target level table count s)
     unfolding placeOf madeOf placingOf
     place-pages s f e u = rw e (simp (made-so, lt-leb level target u))
 
     pub place-here : (h : ℕ → Bool) (m : ℕ → ℕ) (sp : Space) (w : Way) (i : ℕ) → level ≤ target → i ≡ indexOf level (q .base)
-        → placing.Here (record { table = table; index = i; word = x }) ≡ placingOf (placeOf q target level table (sparedOf w (supplyOf h m sp (level - target))))
+        → placing.Here (record { table = table; index = i; count = count; word = x }) ≡ placingOf (placeOf q target level table count (sparedOf w (supplyOf h m sp (level - target))))
     unfolding supplyOf sparedOf apartOf placeOf madeOf placingOf
     place-here h m sp w i u e =
         let z : level - target ≡ 0 = omega arith in
@@ -92,14 +93,14 @@ placing-here (Go x) c e = go (leb (x .level) (x .target) && eqb (x .fresh .need)
         record { mapping = x; decided = refl; level = leb-true _ _ (a .0); need = eqb-true _ 0 (a .1); same = cc }
     go false t k = let z : _≡_ {A = ℕ} 0 1 = cc in absurd (omega arith)
 
--- and then that entry is all that is written
-pub leaf-writes : (sp : Space) (p : Mapping) → p .level ≤ p .target → p .fresh .need ≡ 0 → leafWrites (leafOf p) ≡ writesOf sp p
-unfolding writesOf buildOf growOf nextOf
+-- and then that entry and its table's count are all that is written
+pub leaf-writes : (sp : Space) (p : Mapping) → p .level ≤ p .target → p .fresh .need ≡ 0 → leafWrites sp (leafOf p) ≡ writesOf sp p
+unfolding writesOf takenWrites buildOf growOf nextOf
 leaf-writes sp p u v = rw v (simp (le-leb (p .level) (p .target) u))
 
-pub here-did : (sp : Space) (d : Placed) (c : Leaf) → Leafed d c → leafWrites c ≡ didOf sp d
+pub here-did : (sp : Space) (d : Placed) (c : Leaf) → Leafed d c → leafWrites sp c ≡ didOf sp d
 unfolding didOf
-here-did sp d c k = ap leafWrites (k .same) ∙ (leaf-writes sp (k .mapping) (k .level) (k .need) ∙ sym (rw (k .decided)))
+here-did sp d c k = ap (leafWrites sp) (k .same) ∙ (leaf-writes sp (k .mapping) (k .level) (k .need) ∙ sym (rw (k .decided)))
 
 -- What map answers shows what was decided ---------------------------------------------------------------------------------------------
 
@@ -116,3 +117,8 @@ pub making-done : (d : Placed) (k : ℕ) → makingOf d ≡ making.Done k → (p
 unfolding makingOf
 making-done (Refused s) k e = let z : _≡_ {A = ℕ} 0 1 = cc in absurd (omega arith)
 making-done (Go p) k e = (p, refl, cc)
+
+-- a count with one more, as the code computes it
+pub raised-is : (m : ℕ → ℕ) (sp : Space) (t n c : ℕ) → n ≡ countIn m sp t → c ≡ (n + 1) % 2 ^ 64 → c ≡ raisedOf m sp t
+unfolding raisedOf
+raised-is m sp t n c e f = f ∙ ap (λ x. (x + 1) % 2 ^ 64) e

@@ -26,7 +26,7 @@ use Rattle.plan.specs.declared.maps.NewTables.{NewTables}
 use Rattle.plan.specs.declared.maps.Supply.{Supply}
 use Rattle.plan.specs.declared.maps.Supply.the-variants.{Pages, Lacking}
 use Rattle.plan.specs.Descend.{wayOf}
-use Rattle.plan.specs.Map.{Go, Refused, wayHas, apartOf, sparedOf, shapeOf, meetsOf, supplyOf, madeOf, placeOf, becauseOf, stoppedOf, fittingOf, standingOf, shapedOf, decideOf}
+use Rattle.plan.specs.Map.{Go, Refused, wayHas, apartOf, sparedOf, shapeOf, meetsOf, supplyOf, raisedOf, madeOf, placeOf, becauseOf, stoppedOf, fittingOf, standingOf, shapedOf, decideOf}
 use Rattle.plan.specs.Spare.{OnWay, last, second, third, fourth, Spared}
 
 -- what is answered is the supply itself
@@ -179,24 +179,24 @@ module _ (h : ℕ → Bool) (m : ℕ → ℕ) (sp : Space) (q : Asked) (p : Mapp
   not-so : {target : ℕ} {w : Way} → _≡_ {A = ℕ} 0 1 → So target w
   not-so z = absurd (omega arith)
 
-  made-so : (target level table : ℕ) (f : NewTables) (x : Made) → madeOf q target level table f x ≡ Go p → (p .target ≡ target) × (f ≡ p .fresh)
+  made-so : (target level table count : ℕ) (f : NewTables) (x : Made) → madeOf q target level table count f x ≡ Go p → (p .target ≡ target) × (f ≡ p .fresh)
   unfolding madeOf
-  made-so target level table f made.Refused e = let z : _≡_ {A = ℕ} 0 1 = cc in absurd (omega arith)
-  made-so target level table f (made.Word x) e =
-      let same : record { base = q .base; target = target; level = level; table = table; word = x; fresh = f } ≡ p = cc in
+  made-so target level table count f made.Refused e = let z : _≡_ {A = ℕ} 0 1 = cc in absurd (omega arith)
+  made-so target level table count f (made.Word x) e =
+      let same : record { base = q .base; target = target; level = level; table = table; count = count; word = x; fresh = f } ≡ p = cc in
       (sym (ap (λ (y : Mapping). y .target) same), ap (λ (y : Mapping). y .fresh) same)
 
-  place-so : (target level table : ℕ) (w : Way) (s : Supply) → placeOf q target level table (sparedOf w s) ≡ Go p → So target w
+  place-so : (target level table count : ℕ) (w : Way) (s : Supply) → placeOf q target level table count (sparedOf w s) ≡ Go p → So target w
   unfolding placeOf
-  place-so target level table w s e = go (sparedOf w s) refl e
+  place-so target level table count w s e = go (sparedOf w s) refl e
     where
-      go : (x : Supply) → sparedOf w s ≡ x → placeOf q target level table x ≡ Go p → (p .target ≡ target) × Spared w (p .fresh)
+      go : (x : Supply) → sparedOf w s ≡ x → placeOf q target level table count x ≡ Go p → (p .target ≡ target) × Spared w (p .fresh)
       go (Lacking y) k e = let z : _≡_ {A = ℕ} 0 1 = cc in absurd (omega arith)
-      go (Pages f) k e = let t = made-so target level table f (madePage target (q .frame) (q .rights)) e in (t .0, subst (Spared w) (t .1) (spared-so w s f k))
+      go (Pages f) k e = let t = made-so target level table count f (madePage target (q .frame) (q .rights)) e in (t .0, subst (Spared w) (t .1) (spared-so w s f k))
 
   because-so : (target : ℕ) (w : Way) (y : Why) → becauseOf h m sp q target w y ≡ Go p → So target w
   unfolding becauseOf
-  because-so target w why.Nothing e = place-so target (w .level) (w .a) w (supplyOf h m sp (w .level - target)) e
+  because-so target w why.Nothing e = place-so target (w .level) (w .a) (raisedOf m sp (w .a)) w (supplyOf h m sp (w .level - target)) e
   because-so target w why.Page e = not-so cc
   because-so target w why.Table e = not-so cc
   because-so target w why.Stray e = not-so cc

@@ -212,14 +212,13 @@ newCount sp need j p = cond (leb need j) [] (countWrites sp p 1)
 unfoldable pub newCounts : Space → NewTables → List Write
 newCounts sp f = newCount sp (f .need) 0 (f .a) ++ (newCount sp (f .need) 1 (f .b) ++ newCount sp (f .need) 2 (f .c))
 
--- in the book: that pages were taken, and the counts of the new tables and of the one that was there
-unfoldable pub bookWrites : Space → Mapping → List Write
-bookWrites sp p =
-    cond (ltb 0 (p .fresh .need)) (tookWrites sp (p .fresh .book) (p .fresh .need) ++ newCounts sp (p .fresh)) [] ++ countWrites sp (p .table) (p .count)
+-- in the book: that pages were taken, and the counts of the new tables
+unfoldable pub takenWrites : Space → NewTables → List Write
+takenWrites sp f = cond (eqb (f .need) 0) [] (tookWrites sp (f .book) (f .need) ++ newCounts sp f)
 
--- WHAT MAP WRITES: the tables, the page, and the book
+-- WHAT MAP WRITES: the tables and the page, and in the book what was taken, and the count of the table that was there
 unfoldable pub writesOf : Space → Mapping → List Write
-writesOf sp p = buildOf p ++ bookWrites sp p
+writesOf sp p = buildOf p ++ (takenWrites sp (p .fresh) ++ countWrites sp (p .table) (p .count))
 
 -- a refusal writes nothing
 unfoldable pub didOf : Space → Placed → List Write

@@ -21,7 +21,7 @@ use Rattle.plan.specs.declared.finding.PageEntry.{PageEntry}
 use Rattle.plan.specs.declared.finding.Sought.{Sought}
 use Rattle.plan.specs.declared.finding.Sought.the-variants as sought
 use Rattle.plan.specs.declared.unmaps.Weighed.{Weighed}
-use Rattle.plan.specs.declared.unmaps.Weighed.the-variants.{Stays, Goes, Bad}
+use Rattle.plan.specs.declared.unmaps.Weighed.the-variants.{Stays, Goes}
 use Rattle.plan.specs.declared.unmaps.Removal.{Removal}
 use Rattle.plan.specs.declared.unmaps.Removing.{Removing}
 use Rattle.plan.specs.declared.unmaps.Removing.the-variants.{Go, Refused}
@@ -32,13 +32,10 @@ use Rattle.plan.specs.Map.{noBook}
 
 -- Which tables become empty ------------------------------------------------------------------------------------------------------
 
--- The table in page t, above n that become empty, loses an entry: what its count tells. From the level `top` of the page on it is the root,
--- which stays. A count that no table can have is bad: 0, and more than 512.
+-- The table in page t, above n that become empty, loses an entry: what its count tells. Where the page's level is below `top` it is not the
+-- root, and becomes empty if that was its only one.
 unfoldable pub weighBy : ℕ → ℕ → ℕ → ℕ → ℕ → Weighed
-weighBy n top level t c =
-    cond (eqb c 0) Bad
-    (cond (ltb 512 c) Bad
-    (cond (ltb 1 c) (Stays n t (c - 1)) (cond (leb top level) (Stays n t (c - 1)) Goes)))
+weighBy n top level t c = cond (eqb c 1) (cond (ltb level top) Goes (Stays n t c)) (Stays n t c)
 
 unfoldable pub weighOf : (ℕ → ℕ) → Space → ℕ → ℕ → ℕ → ℕ → Weighed
 weighOf m sp n top level t = weighBy n top level t (countIn m sp t)
@@ -46,7 +43,6 @@ weighOf m sp n top level t = weighBy n top level t (countIn m sp t)
 -- where it becomes empty, the next one is looked at
 unfoldable pub goesOn : Weighed → Weighed → Weighed
 goesOn Goes y = y
-goesOn Bad y = Bad
 goesOn (Stays n t c) y = Stays n t c
 
 -- WHICH TABLES BECOME EMPTY, from the one of the page's entry up
@@ -68,11 +64,10 @@ openOf sp s n t c (opened.Refused r) = Refused (Pool r)
 unfoldable pub removeOf : (ℕ → Bool) → (ℕ → ℕ) → Space → PageEntry → ℕ → ℕ → ℕ → Removing
 removeOf h m sp s n t c = cond (eqb n 0) (Go (record { page = s; empties = 0; table = t; count = c; book = noBook })) (openOf sp s n t c (openedOf h m sp))
 
--- what the counts tell; one that can't be is refused
+-- what the counts tell; no table has none or more than 512 entries, and such a count is refused
 unfoldable pub weighedOf : (ℕ → Bool) → (ℕ → ℕ) → Space → PageEntry → Weighed → Removing
-weighedOf h m sp s (Stays n t c) = removeOf h m sp s n t c
 weighedOf h m sp s Goes = Refused (Pool BadBook)
-weighedOf h m sp s Bad = Refused (Pool BadBook)
+weighedOf h m sp s (Stays n t c) = cond (eqb c 0) (Refused (Pool BadBook)) (cond (ltb 512 c) (Refused (Pool BadBook)) (removeOf h m sp s n t (c - 1)))
 
 unfoldable pub removingOf : (ℕ → Bool) → (ℕ → ℕ) → Space → ℕ → Sought → Removing
 removingOf h m sp va (sought.Found s) = weighedOf h m sp s (emptiedOf m sp (s .way))

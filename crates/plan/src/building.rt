@@ -119,18 +119,17 @@ fn count_all(mem: &mut [u8], left: &mut u64, space: Space, f: NewTables)
     count_new(mem, left, space, f.need, 2, f.c);
 }
 
-// What the book has of it: what was taken, and the counts.
-fn carry_book(mem: &mut [u8], left: &mut u64, space: Space, m: Mapping)
+// What was taken, and the counts of the new tables.
+fn carry_taken(mem: &mut [u8], left: &mut u64, space: Space, f: NewTables)
     requires { ⌜ standsOf (holds (now mem) (space .origin)) space ≡ Fits ⌝ }
-    ensures { λ _. ⌜ Wrote (space .origin) (the.bookWrites space m) (now (left .entry)) (now (left .exit)) (now (mem .entry)) (now (mem .exit)) ⌝ }
+    ensures { λ _. ⌜ Wrote (space .origin) (the.takenWrites space f) (now (left .entry)) (now (left .exit)) (now (mem .entry)) (now (mem .exit)) ⌝ }
 {
-    let f = m.fresh;
-    let b = f.book;
-    if 0 < f.need {
-        pool::took(mem, left, space, b, f.need);
-        count_all(mem, left, space, f);
+    if f.need == 0 {
+        return;
     }
-    pool::set_count(mem, left, space, m.table, m.count);
+    let b = f.book;
+    pool::took(mem, left, space, b, f.need);
+    count_all(mem, left, space, f);
 }
 
 // The tables and the page, and then the book.
@@ -139,7 +138,8 @@ fn carry_map(mem: &mut [u8], left: &mut u64, space: Space, m: Mapping)
     ensures { λ _. ⌜ Wrote (space .origin) (the.writesOf space m) (now (left .entry)) (now (left .exit)) (now (mem .entry)) (now (mem .exit)) ⌝ }
 {
     build(mem, left, space.origin, m);
-    carry_book(mem, left, space, m);
+    carry_taken(mem, left, space, m.fresh);
+    pool::set_count(mem, left, space, m.table, m.count);
 }
 
 // Maps, or refuses and writes nothing.

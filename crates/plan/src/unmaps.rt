@@ -19,12 +19,10 @@ use pool::Space;
 
 // What a count tells of a table that loses an entry.
 pub enum Weighed {
-    // so many tables below it become empty, and it stays, in this page, with so many entries
+    // so many tables below it become empty, and it stays, in this page; its count
     Stays(u64, u64, u64),
     // it becomes empty
     Goes,
-    // no table has so many entries
-    Bad,
 }
 
 // The page that goes, how many tables become empty with it, the page of the table that stays and its count then, and the book that takes them.
@@ -47,25 +45,19 @@ pub enum Unmapping {
     Refused(Reason),
 }
 
-// The table in page t, above n that become empty, loses an entry. It stays where the page's level is `top` or above: it is the root then.
+// The table in page t, above n that become empty, loses an entry. Where the page's level is below `top` it is not the root, and becomes empty if
+// that was its only one.
 fn weigh(mem: &[u8], space: Space, n: u64, top: u64, level: u64, t: u64) -> Weighed
     requires { ⌜ standsOf (holds (now mem) (space .origin)) space ≡ Fits ⌝ }
     ensures { λ r. ⌜ r ≡ the.weighOf (memory (now (mem .entry)) (space .origin)) space n top level t ⌝ }
 {
     let c = pool::count(mem, space, t);
-    if c == 0 {
-        return Weighed::Bad;
+    if c == 1 {
+        if level < top {
+            return Weighed::Goes;
+        }
     }
-    if 512 < c {
-        return Weighed::Bad;
-    }
-    if 1 < c {
-        return Weighed::Stays(n, t, c - 1);
-    }
-    if top <= level {
-        return Weighed::Stays(n, t, c - 1);
-    }
-    Weighed::Goes
+    Weighed::Stays(n, t, c)
 }
 
 // Which tables become empty, from the one of the page's entry up; the root stays.
@@ -131,14 +123,21 @@ fn remove(mem: &[u8], space: Space, s: PageEntry, n: u64, t: u64, c: u64) -> Rem
     }
 }
 
-// What the counts of the way tell.
-fn weighed(mem: &[u8], space: Space, s: PageEntry, e: Weighed) -> Removing
+// What the counts of the way tell. No table has none or more than 512 entries: such a count is refused.
+fn by_counts(mem: &[u8], space: Space, s: PageEntry, e: Weighed) -> Removing
     ensures { λ r. ⌜ r ≡ the.weighedOf (holds (now (mem .entry)) (space .origin)) (memory (now (mem .entry)) (space .origin)) space s e ⌝ }
 {
     match e {
-        Weighed::Stays(n, t, c) => remove(mem, space, s, n, t, c),
         Weighed::Goes => Removing::Refused(Reason::Pool(pool::Reason::BadBook)),
-        Weighed::Bad => Removing::Refused(Reason::Pool(pool::Reason::BadBook)),
+        Weighed::Stays(n, t, c) => {
+            if c == 0 {
+                return Removing::Refused(Reason::Pool(pool::Reason::BadBook));
+            }
+            if 512 < c {
+                return Removing::Refused(Reason::Pool(pool::Reason::BadBook));
+            }
+            remove(mem, space, s, n, t, c - 1)
+        }
     }
 }
 
@@ -151,7 +150,7 @@ fn decide_unmap(mem: &[u8], space: Space, va: u64) -> Removing
         Sought::Refused(r) => Removing::Refused(r),
         Sought::Found(p) => {
             let w = p.way;
-            weighed(mem, space, p, emptied(mem, space, w))
+            by_counts(mem, space, p, emptied(mem, space, w))
         }
     }
 }

@@ -12,9 +12,9 @@ use borrow.Author.Tests.{le-leb, lt-leb, lt-ltb, ltb-true, ltb-false}
 use lib.Dec.{leb, ltb}
 use lib.ListN.{length, take, length-append}
 use lib.Seq.{take-nil}
-use Rattle.word.specs.Memory.{written}
+use Rattle.word.specs.Memory.{holds, written}
 use Rattle.word.specs.Writes.{Write, write, Wrote, carried, zeros, endless, upTo, restOf}
-use Rattle.word.proofs.Writes.{carried-append, length-carried}
+use Rattle.word.proofs.Writes.{carried-append, length-carried, holds-carried}
 
 pub up-to-all : (left : ℕ) (xs : List Write) → endless ≤ left → upTo left xs ≡ xs
 unfolding upTo
@@ -122,6 +122,9 @@ stopped origin xs k rest s t u f = f .bytes ∙ ap (carried s origin) (up-to-few
 
 pub length-wrote : (origin : ℕ) (xs : List Write) (l r : ℕ) (s t : List ℕ) → Wrote origin xs l r s t → length t ≡ length s
 length-wrote origin xs l r s t f = ap length (f .bytes) ∙ length-carried s origin (upTo l xs)
+
+pub wrote-holds : (origin : ℕ) (xs : List Write) (l r : ℕ) (s t : List ℕ) → Wrote origin xs l r s t → holds t origin ≡ holds s origin
+wrote-holds origin xs l r s t f = ap (λ (x : List ℕ). holds x origin) (f .bytes) ∙ holds-carried s origin (upTo l xs)
 
 -- what `spend` finds and leaves
 pub spent-all : (n : ℕ) → endless ≤ n → (true ≡ ltb 0 n) × (n ≡ cond (leb endless n) n (n - 1))

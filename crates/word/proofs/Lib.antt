@@ -6,5 +6,4 @@ pub mod Holding
 pub mod Runs
 pub mod Tallies
 pub mod Writes
-pub mod Odds
 pub mod Budget

@@ -1,5 +1,4 @@
 pub mod Bytes
 pub mod Memory
 pub mod Writes
-pub mod Scan
 pub mod Runs

@@ -10,14 +10,12 @@ ghost use Rattle.word.specs.Memory.{holds, readOf, written};
 ghost use Rattle.word.specs.Writes.{Wrote, write, zeros, endless};
 
 mod run;
-mod scan;
 
 pub use run::read_among;
 pub use run::read_tally;
 pub use run::spans;
 pub use run::write_among;
 pub use run::write_tally;
-pub use scan::besides;
 
 // No budget: all writes are done.
 pub const ENDLESS: u64 = 18446744073709551615;

@@ -1,34 +1,36 @@
-use borrow.Author.Tests.{lt-ltb, le-ltb}
-use Rattle.word.proofs.Budget.{wrote-none, wrote-then}
 use Rattle.plan.specs.Map.{writesOf}
+use Rattle.word.proofs.Budget.{wrote-then}
+use Rattle.plan.proofs.Carrying.{stands-wrote, room-stands}
 use borrow.Author.Needs.{needs}
 use Rattle.plan.proofs.building.carry_map.Statement.{statement}
 use Rattle.plan.proofs.building.carry_map.Tie as tie
 use Rattle.plan.proofs.building.carry_map.Reads as reads
 use Rattle.plan.proofs.building.carry_map.Lts as lts
 use Rattle.plan.proofs.building.build.Reads as build-reads
-use Rattle.pool.proofs.took.Reads as took-reads
+use Rattle.plan.proofs.building.carry_taken.Reads as carry-taken-reads
+use Rattle.pool.proofs.set_count.Reads as set-count-reads
 
+-- src/building.rt:140:5
 build-requires : tie.Need-build-requires
 build-requires c κs = search needs
 
-took-requires : tie.Need-took-requires
-took-requires c κs = search needs
+-- src/building.rt:141:5
+carry-taken-requires : tie.Need-carry-taken-requires
+carry-taken-requires c κs = stands-wrote _ _ _ _ _ _ (c .before .before .before .before .build .ensures) (c .before .before .before .before .before .before .before .before .pre .1)
 
+-- src/building.rt:142:5
+set-count-requires : tie.Need-set-count-requires
+set-count-requires c κs = search needs
+
+-- src/building.rt:136:1
 same-length : tie.Need-same-length
 same-length c = search needs
 
+-- src/building.rt:136:1
 returns : tie.Need-returns
 unfolding writesOf
-returns c = simp (lt-ltb _ _ (c .before .before .before .before .before .if1 .taken)) (wrote-then _ _ _ _ _ _ _ _ _ (c .before .before .before .before .before .before .before .before .before .before .before .build .ensures) (c .before .before .took .ensures))
-
-same-length-2 : tie.Need-same-length-2
-same-length-2 c = search needs
-
-returns-2 : tie.Need-returns-2
-unfolding writesOf
-returns-2 c = simp (le-ltb _ _ (c .if1 .left)) (wrote-then _ _ _ _ _ _ _ _ _ (c .before .before .before .before .before .before .build .ensures) (wrote-none _ _ _))
+returns c = wrote-then _ _ _ _ _ _ _ _ _ (c .before .before .before .before .before .before .before .before .before .before .before .before .build .ensures) (wrote-then _ _ _ _ _ _ _ _ _ (c .before .before .before .before .before .before .before .carry-taken .ensures) (c .before .before .set-count .ensures (room-stands _ _ (stands-wrote _ _ _ _ _ _ (c .before .before .before .before .before .before .before .carry-taken .ensures) (stands-wrote _ _ _ _ _ _ (c .before .before .before .before .before .before .before .before .before .before .before .before .build .ensures) (c .before .before .before .before .before .before .before .before .before .before .before .before .before .before .before .before .pre .1))))))
 
 pub carry-map-spec : {M : Type 1} → statement M
 carry-map-spec =
-    tie.close (tie.spec build-requires took-requires same-length returns same-length-2 returns-2)
+    tie.close (tie.spec build-requires carry-taken-requires set-count-requires same-length returns)

@@ -1,4 +1,4 @@
-use Rattle.plan.proofs.Low.{map-low, held-low}
+use Rattle.plan.proofs.Low.{map-low, map-stands, held-low}
 use mathlib.Core.Path.{sym, _∙_}
 use Rattle.word.proofs.Budget.{wrote-none, wrote-as}
 use Rattle.plan.specs.Map.{didOf, makingOf}
@@ -22,13 +22,13 @@ enum-known-d-2 : tie.Need-enum-known-d-2
 enum-known-d-2 c = search needs
 
 carry-here-requires : tie.Need-carry-here-requires
-carry-here-requires c κs = search needs
+carry-here-requires c κs = map-stands _ _ _ (held-low _ _) _ _ (placing-here _ _ (sym (c .before .before .before .before .before .decide-map .ensures) ∙ c .before .before .before .d2 .given .1) .decided)
 
 enum-known-d-3 : tie.Need-enum-known-d-3
 enum-known-d-3 c = search needs
 
 carry-map-requires : tie.Need-carry-map-requires
-carry-map-requires c κs = map-low _ _ _ (held-low _ _) _ _ (placing-built _ _ (sym (c .before .before .before .before .before .decide-map .ensures) ∙ c .before .before .before .d3 .given .1))
+carry-map-requires c κs = let e = placing-built _ _ (sym (c .before .before .before .before .before .decide-map .ensures) ∙ c .before .before .before .d3 .given .1) in (map-low _ _ _ (held-low _ _) _ _ e, map-stands _ _ _ (held-low _ _) _ _ e)
 
 same-length : tie.Need-same-length
 same-length c = search needs

@@ -31,7 +31,7 @@ descend-requires : tie.Need-descend-requires
 descend-requires c κs = names-stands _ _ _ (sym (c .before .before .before .before .names .ensures) ∙ c .before .before .enum-told .given .1)
 
 stopped-requires : tie.Need-stopped-requires
-stopped-requires c κs = search needs
+stopped-requires c κs = (c .before .before .before .before .before .before .before .pre, names-stands _ _ _ (sym (c .before .before .before .before .before .names .ensures) ∙ c .before .before .before .enum-told .given .1))
 
 returns-2 : tie.Need-returns-2
 unfolding standingOf fittingOf placingOf

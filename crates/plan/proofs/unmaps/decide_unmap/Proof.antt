@@ -1,5 +1,6 @@
 use Rattle.plan.proofs.Found.{found-at}
 use Rattle.plan.specs.Unmap.{decideOf, removingOf}
+use Rattle.pool.proofs.Opening.{names-stands}
 use mathlib.Core.Path.{_≡_, sym, _∙_}
 use borrow.Author.Needs.{needs}
 use Rattle.plan.proofs.unmaps.decide_unmap.Statement.{statement}
@@ -7,31 +8,38 @@ use Rattle.plan.proofs.unmaps.decide_unmap.Tie as tie
 use Rattle.plan.proofs.unmaps.decide_unmap.Reads as reads
 use Rattle.plan.proofs.unmaps.decide_unmap.Lts as lts
 use Rattle.plan.proofs.finding.find.Reads as find-reads
+use Rattle.plan.proofs.unmaps.by_counts.Reads as by-counts-reads
 use Rattle.plan.proofs.unmaps.emptied.Reads as emptied-reads
-use Rattle.plan.proofs.unmaps.remove.Reads as remove-reads
 
+-- src/unmaps.rt:149:9
 find-requires : tie.Need-find-requires
 find-requires c κs = search needs
 
+-- src/unmaps.rt:151:25
 enum-known-s : tie.Need-enum-known-s
 enum-known-s c = search needs
 
+-- src/unmaps.rt:152:23
 enum-known-s-2 : tie.Need-enum-known-s-2
 enum-known-s-2 c = search needs
 
+-- src/unmaps.rt:154:38
 emptied-requires : tie.Need-emptied-requires
-emptied-requires c κs = search needs
+emptied-requires c κs = names-stands _ _ _ (found-at _ _ _ _ _ (sym (c .before .before .before .before .find .ensures) ∙ c .before .before .s2 .given .1) .names)
 
-remove-requires : tie.Need-remove-requires
-remove-requires c κs = search needs
+-- src/unmaps.rt:154:13
+by-counts-requires : tie.Need-by-counts-requires
+by-counts-requires c κs = search needs
 
+-- src/unmaps.rt:146:1
 returns : tie.Need-returns
 unfolding decideOf removingOf
 returns c = rw (sym (c .before .before .before .find .ensures) ∙ c .before .s .given .1)
 
+-- src/unmaps.rt:146:1
 returns-2 : tie.Need-returns-2
 unfolding decideOf removingOf
-returns-2 c = let e = sym (c .before .before .before .before .before .before .find .ensures) ∙ c .before .before .before .before .s2 .given .1 in rw (e, c .remove .ensures, c .before .emptied .ensures (found-at _ _ _ _ _ e .index))
+returns-2 c = let e = sym (c .before .before .before .before .before .before .find .ensures) ∙ c .before .before .before .before .s2 .given .1 in rw (e, c .by-counts .ensures, c .before .emptied .ensures)
 
 pub decide-unmap-spec : {M : Type 1} → statement M
 decide-unmap-spec =
@@ -41,6 +49,6 @@ decide-unmap-spec =
     enum-known-s
     enum-known-s-2
     emptied-requires
-    remove-requires
+    by-counts-requires
     returns
     returns-2)

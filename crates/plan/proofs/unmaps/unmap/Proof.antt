@@ -1,8 +1,8 @@
+use Rattle.plan.proofs.Low.{unmap-fits, unmap-stands, unmap-room}
 use Rattle.pool.proofs.Opening.{now-is}
 use mathlib.Core.Path.{sym, _∙_}
 use Rattle.word.proofs.Budget.{wrote-none}
 use Rattle.plan.specs.Unmap.{didOf, unmappingOf}
-use Rattle.plan.proofs.Low.{unmap-fits, unmap-room}
 use borrow.Author.Needs.{needs}
 use Rattle.plan.proofs.unmaps.unmap.Statement.{statement}
 use Rattle.plan.proofs.unmaps.unmap.Tie as tie
@@ -29,7 +29,7 @@ ticket-after-requires : tie.Need-ticket-after-requires
 ticket-after-requires c κs = search needs
 
 carry-unmap-requires : tie.Need-carry-unmap-requires
-carry-unmap-requires c κs = let f = unmap-fits _ _ _ _ _ (sym (c .before .before .before .before .before .before .before .before .decide-unmap .ensures) ∙ c .before .before .before .before .before .before .d2 .given .1) in (f .low, f .index)
+carry-unmap-requires c κs = let e = sym (c .before .before .before .before .before .before .before .before .decide-unmap .ensures) ∙ c .before .before .before .before .before .before .d2 .given .1 in let f = unmap-fits _ _ _ _ _ e in (f .low, f .index, unmap-stands _ _ _ _ _ e)
 
 same-length : tie.Need-same-length
 same-length c = search needs

@@ -1,0 +1,37 @@
+use Rattle.plan.specs.Map.{takenWrites}
+use Rattle.word.proofs.Budget.{wrote-none, wrote-then}
+use borrow.Author.Tests.{eq-eqb, ne-eqb}
+use Rattle.plan.proofs.Carrying.{stands-wrote}
+use borrow.Author.Needs.{needs}
+use Rattle.plan.proofs.building.carry_taken.Statement.{statement}
+use Rattle.plan.proofs.building.carry_taken.Tie as tie
+use Rattle.plan.proofs.building.carry_taken.Reads as reads
+use Rattle.plan.proofs.building.carry_taken.Lts as lts
+use Rattle.plan.proofs.building.count_all.Reads as count-all-reads
+use Rattle.pool.proofs.took.Reads as took-reads
+
+-- src/building.rt:128:9
+returns : tie.Need-returns
+unfolding takenWrites
+returns c = simp (eq-eqb _ _ (c .if1 .taken)) (wrote-none _ _ _)
+
+-- src/building.rt:131:5
+took-requires : tie.Need-took-requires
+took-requires c κs = search needs
+
+-- src/building.rt:132:5
+count-all-requires : tie.Need-count-all-requires
+count-all-requires c κs = stands-wrote _ _ _ _ _ _ (c .before .before .before .before .took .ensures) (c .before .before .before .before .before .before .before .before .before .before .before .pre)
+
+-- src/building.rt:123:1
+same-length : tie.Need-same-length
+same-length c = search needs
+
+-- src/building.rt:123:1
+returns-2 : tie.Need-returns-2
+unfolding takenWrites
+returns-2 c = simp (ne-eqb _ _ (c .before .before .before .before .before .before .before .before .before .before .before .if1 .left)) (wrote-then _ _ _ _ _ _ _ _ _ (c .before .before .before .before .before .before .before .took .ensures) (c .before .before .count-all .ensures))
+
+pub carry-taken-spec : {M : Type 1} → statement M
+carry-taken-spec =
+    tie.close (tie.spec returns took-requires count-all-requires same-length returns-2)

@@ -1,0 +1,31 @@
+use Rattle.plan.specs.Map.{newCount}
+use Rattle.word.proofs.Budget.{wrote-none}
+use borrow.Author.Tests.{le-leb, lt-leb}
+use Rattle.plan.proofs.Carrying.{room-stands}
+use borrow.Author.Needs.{needs}
+use Rattle.plan.proofs.building.count_new.Statement.{statement}
+use Rattle.plan.proofs.building.count_new.Tie as tie
+use Rattle.plan.proofs.building.count_new.Reads as reads
+use Rattle.plan.proofs.building.count_new.Lts as lts
+use Rattle.pool.proofs.set_count.Reads as set-count-reads
+
+-- src/building.rt:107:9
+returns : tie.Need-returns
+unfolding newCount
+returns c = simp (le-leb _ _ (c .if1 .taken)) (wrote-none _ _ _)
+
+-- src/building.rt:109:5
+set-count-requires : tie.Need-set-count-requires
+set-count-requires c κs = search needs
+
+-- src/building.rt:102:1
+same-length : tie.Need-same-length
+same-length c = search needs
+
+-- src/building.rt:102:1
+returns-2 : tie.Need-returns-2
+unfolding newCount
+returns-2 c = simp (lt-leb _ _ (c .before .before .before .before .before .if1 .left)) (c .before .before .set-count .ensures (room-stands _ _ (c .before .before .before .before .before .before .before .pre)))
+
+pub count-new-spec : {M : Type 1} → statement M
+count-new-spec = tie.close (tie.spec returns set-count-requires same-length returns-2)
