@@ -1,41 +1,49 @@
 -- Unmap, all the way: after the page's entry each empty table is unlinked and set aside; and that this is what is written.
 use Prim.Native.Nat.{ℕ, zero, suc, _+_, _^_, _<_, _≤_}
-use mathlib.Core.Bool.{Bool, true}
+use mathlib.Core.Bool.{Bool}
 use mathlib.Core.List.{List, [], _∷_, _++_, append-assoc, append-nil}
-use mathlib.Core.Logic.{_⊎_, inl, inr}
+use mathlib.Core.Logic.{_⊎_, inl, inr, _≢_}
 use mathlib.Core.Path.{_≡_, refl, sym, ap, ap₂, _∙_}
 use native.Mathlib.Omega.{arith}
 use borrow.Author.Tests.{le-leb, lt-leb}
 use Rattle.word.specs.Memory.{set}
 use Rattle.word.specs.Writes.{Write, write, after, Every}
 use Rattle.word.proofs.Writes.{every-one}
+use Rattle.entry.specs.Entry.{everything}
+use Rattle.entry.specs.declared.Entry.the-variants.{Nothing}
+use Rattle.entry.proofs.Fields.{says-absent}
 use Rattle.walk.specs.Walk.{indexOf}
 use Rattle.walk.proofs.Digits.{index-lt}
 use Rattle.walk.specs.declared.Found.the-variants as found
-use Rattle.tables.specs.Roles.{Role, aside}
+use Rattle.tables.specs.Roles.{Role, aside, left, entryAt}
+use Rattle.tables.specs.OneWrite.{LiveEntry}
 use Rattle.tables.specs.Way.{Comes}
 use Rattle.tables.proofs.Way.{comes-left}
+use Rattle.tables.proofs.OneWrite.{page-something, table-something}
+use Rattle.tables.proofs.Saying.{tallied-fewer}
 use Rattle.tables.proofs.Up.{Stays, up-start, up-bare, up-holds, unmap-done}
 use Rattle.tables.specs.Operation.{Changed}
 use Rattle.pool.proofs.Alone.{Unmarking, unmarking-one, unmarking-append, aside-unmarking}
 use Rattle.pool.specs.Book.{bookOf}
 use Rattle.pool.specs.Booked.{settingOf}
 use Rattle.pool.specs.Changes.{asideBook}
+use Rattle.pool.specs.Counting.{countWrites}
 use Rattle.pool.specs.declared.Space.{Space}
 use Rattle.pool.specs.declared.Book.{Book}
+use Rattle.pool.proofs.Counting.{uncounting-beside}
 use Rattle.pool.proofs.Booked.{Beside, book-beside, numbered-beside, booked-beside}
 use Rattle.plan.specs.declared.descent.Way.{Way}
 use Rattle.plan.specs.declared.finding.PageEntry.{PageEntry}
 use Rattle.plan.specs.declared.unmaps.Removal.{Removal}
-use Rattle.word.specs.Scan.{besidesOf}
 use Rattle.plan.specs.Unmap.{cutWrites, cutBook, book1, book2, writesOf}
 use Rattle.effect.specs.UnmapDone.{asideMore}
 use Rattle.effect.specs.Whole.{Whole}
-use Rattle.effect.proofs.Emptying.{tableAt, levelAt, Empty, Emptied, keeps-no, keeps-yes}
+use Rattle.plan.proofs.Weighing.{tableAt, levelAt, Empty, Emptied}
+use Rattle.effect.proofs.Emptying.{count-alone, count-others}
 use Rattle.effect.proofs.Located.{Located}
 use Rattle.effect.proofs.Rising.{aside-none, aside-one, aside-more, Rising, cutting, rising-step}
 use Rattle.effect.proofs.Trace.{NamesTable}
-use Rattle.effect.proofs.Wholes.{root-low, live-in, live-held, in-beside, in-of-pool}
+use Rattle.effect.proofs.Wholes.{root-low, live-in, in-beside, in-of-pool}
 
 -- One cut of a plan ----------------------------------------------------------------------------------------------------------------
 
@@ -63,6 +71,9 @@ gather2 x a b c a' b' e f g = rw (e, f, g) (ap (λ y. x ++ (a' ++ y)) (append-ni
 
 gather3 : (x a b c a' b' c' : List Write) → a ≡ a' → b ≡ b' → c ≡ c' → x ++ (a ++ (b ++ c)) ≡ ((x ++ a') ++ b') ++ c'
 gather3 x a b c a' b' c' e f g = rw (e, f, g) (sym (append-assoc x a' (b' ++ c')) ∙ sym (append-assoc (x ++ a') b' c'))
+
+regroup : (x a b c d : List Write) → x ++ (a ++ (b ++ (c ++ d))) ≡ (x ++ (a ++ (b ++ c))) ++ d
+regroup x a b c d = simp append-assoc
 
 -- a number up to 3
 four : (P : ℕ → Type 0) (n : ℕ) → n ≤ 3 → (n ≡ 0 → P 0) → (n ≡ 1 → P 1) → (n ≡ 2 → P 2) → (n ≡ 3 → P 3) → P n
@@ -96,9 +107,9 @@ pub cutRoles : (ℕ → Role) → Way → ℕ → ℕ → Role
 cutRoles role y zero = role
 cutRoles role y (suc j) = set (cutRoles role y j) (tableAt y j) aside
 
--- the removal of a page, with n tables
-abbrev pub removal : PageEntry → ℕ → Book → Removal
-removal s n b = record { page = s; empties = n; book = b }
+-- the removal of a page, with n tables; the table t stays, with c entries
+abbrev pub removal : PageEntry → ℕ → ℕ → ℕ → Book → Removal
+removal s n t c b = record { page = s; empties = n; table = t; count = c; book = b }
 
 module _ {h : ℕ → Bool} {sp : Space} {m : ℕ → ℕ} {role : ℕ → Role} (w : Whole h sp m role) (va : ℕ) (s : PageEntry) (k : Located (settingOf h sp) m role va s) where
   -- the tables of the way name each other, and the walk comes to each
@@ -112,8 +123,16 @@ module _ {h : ℕ → Bool} {sp : Space} {m : ℕ → ℕ} {role : ℕ → Role}
   comes-at zero u = k .comes
   comes-at (suc j) u = names-at j (omega arith) .comes
 
-  held-at : (j : ℕ) → levelAt (s .way) j < 4 → h (tableAt (s .way) j) ≡ true
-  held-at j u = live-held w (comes-left (w .sound .built) (comes-at j u))
+  pub live-at : (j : ℕ) → levelAt (s .way) j < 4 → left (role (tableAt (s .way) j)) ≡ suc (levelAt (s .way) j)
+  live-at j u = comes-left (w .sound .built) (comes-at j u)
+
+  -- the entry by which it came to the next one, or to the page
+  pub says-at : (j : ℕ) → levelAt (s .way) j < 4 → entryAt m (levelAt (s .way) j) (tableAt (s .way) j) (indexOf (levelAt (s .way) j) va) ≢ Nothing
+  says-at zero u = page-something (s .frame) (k .rights) (k .entry)
+  says-at (suc j) u = table-something (tableAt (s .way) j) everything (names-at j (omega arith) .names)
+
+  spot : LiveEntry role (s .way .a) (s .way .level) (indexOf (s .way .level) va)
+  spot = record { live = k .live; fits = index-lt (s .way .level) va }
 
   beside : Every (Beside sp) (clear va (s .way))
   beside = every-one (s .way .a) (indexOf (s .way .level) va) 0 (in-beside (live-in w (k .live))) (index-lt (s .way .level) va) (omega arith)
@@ -127,10 +146,12 @@ module _ {h : ℕ → Bool} {sp : Space} {m : ℕ → ℕ} {role : ℕ → Role}
     fate = λ p. inl refl;
     on-way = λ p. inl refl;
     numbers = numbered-beside sp m (clear va (s .way)) beside (w .booked);
+    tally = unfold after in tallied-fewer (w .counted) spot 0 (says-at 0 (k .low)) (says-absent (s .way .level) 0 (omega arith));
+    uncounting = uncounting-beside (clear va (s .way)) beside;
   }
 
   -- AS FAR AS THEY ARE EMPTY
-  pub risen : (j : ℕ) → Empty h m va (s .way) j
+  pub risen : (j : ℕ) → Empty m sp (s .way) j
       → Rising h sp m role va (s .way .level) j (cuts sp m va (s .way) j) (cutRoles role (s .way) j) (levelAt (s .way) j) (tableAt (s .way) j)
   unfolding cuts cutRoles
   risen zero f = risen-first
@@ -138,26 +159,28 @@ module _ {h : ℕ → Bool} {sp : Space} {m : ℕ → ℕ} {role : ℕ → Role}
       let d = risen j (λ i u. f i (omega arith)) in
       let e = f j (omega arith) in
       rising-step (root-low w) (w .small) d (tableAt (s .way) (suc j)) (names-at j (e .0))
-      (up-bare (d .up) (keeps-no h m (tableAt (s .way) j) (indexOf (levelAt (s .way) j) va) (held-at j (omega (arith, e .0))) 512 (e .1)))
+      (up-bare (d .up)
+      (count-alone w (live-at j (omega (arith, e .0))) (indexOf (levelAt (s .way) j) va) (index-lt (levelAt (s .way) j) va) (says-at j (omega (arith, e .0))) (e .1)))
 
   -- the level of the table that stays
-  pub last-level : (n : ℕ) → Empty h m va (s .way) n → levelAt (s .way) n < 4
+  pub last-level : (n : ℕ) → Empty m sp (s .way) n → levelAt (s .way) n < 4
   last-level zero f = k .low
   last-level (suc n) f = omega (arith, f n (omega arith) .0)
 
   -- DONE, at the table that stays
-  pub cut-changed : (n : ℕ) → Emptied h m va (s .way) n
+  pub cut-changed : (n t c : ℕ) → Emptied m sp (s .way) n t c
       → Changed (settingOf h sp) m role va (s .way .level) found.Nothing (cuts sp m va (s .way) n) (after m (cuts sp m va (s .way) n)) (cutRoles role (s .way) n)
-  cut-changed n e = unmap-done (d .up) (stay (e .stays))
+  cut-changed n t c e = unmap-done (d .up) (stay (e .stays))
     where
       d : Rising h sp m role va (s .way .level) n (cuts sp m va (s .way) n) (cutRoles role (s .way) n) (levelAt (s .way) n) (tableAt (s .way) n)
       d = risen n (e .empty)
 
-      stay : (3 ≤ levelAt (s .way) n) ⊎ (besidesOf h m (tableAt (s .way) n) (indexOf (levelAt (s .way) n) va) 512 ≡ true)
+      stay : (3 ≤ levelAt (s .way) n) ⊎ (c ≢ 1)
           → Stays (after m (cuts sp m va (s .way) n)) (levelAt (s .way) n) (tableAt (s .way) n)
       stay (inl u) = inr (omega (arith, last-level n (e .empty)))
       stay (inr x) =
-          let o = keeps-yes h m (tableAt (s .way) n) (indexOf (levelAt (s .way) n) va) (held-at n (last-level n (e .empty))) 512 x in
+          let u = last-level n (e .empty) in
+          let o = count-others w (live-at n u) (indexOf (levelAt (s .way) n) va) (index-lt (levelAt (s .way) n) va) (says-at n u) (λ y. x (e .count ∙ y)) in
           inl (up-holds (d .up) (o .0) (o .1) (o .2) (o .3))
 
   -- The plan's own list ------------------------------------------------------------------------------------------------------------
@@ -170,30 +193,30 @@ module _ {h : ℕ → Bool} {sp : Space} {m : ℕ → ℕ} {role : ℕ → Role}
   unfolding bookThen cuts
   book-first = book-beside sp m (clear va (s .way)) beside
 
-  book-next : (j : ℕ) → Empty h m va (s .way) (suc j) → asideBook sp (bookThen j) ≡ bookThen (suc j)
+  book-next : (j : ℕ) → Empty m sp (s .way) (suc j) → asideBook sp (bookThen j) ≡ bookThen (suc j)
   unfolding bookThen
   book-next j f =
       let d = risen j (λ i u. f i (omega arith)) in
       aside-one sp (after m (cuts sp m va (s .way) j)) (d .booked) ∙ ap (asideMore 1) (d .book) ∙ aside-more j (bookOf m sp) ∙ sym (risen (suc j) f .book)
 
-  module _ (n : ℕ) (b : Book) (f : Empty h m va (s .way) n) (e : 0 < n → b ≡ bookOf m sp) where
+  module _ (n t c : ℕ) (b : Book) (f : Empty m sp (s .way) n) (e : 0 < n → b ≡ bookOf m sp) where
     zeroth : 0 < n → b ≡ bookThen 0
     zeroth u = e u ∙ sym book-first
 
-    first : 0 < n → book1 sp (removal s n b) ≡ bookThen 1
+    first : 0 < n → book1 sp (removal s n t c b) ≡ bookThen 1
     first u = cut-book sp 0 n b u ∙ ap (asideBook sp) (zeroth u) ∙ book-next 0 (λ j v. f j (omega arith))
 
-    second : 1 < n → book2 sp (removal s n b) ≡ bookThen 2
-    second u = cut-book sp 1 n (book1 sp (removal s n b)) u ∙ ap (asideBook sp) (first (omega arith)) ∙ book-next 1 (λ j v. f j (omega arith))
+    second : 1 < n → book2 sp (removal s n t c b) ≡ bookThen 2
+    second u = cut-book sp 1 n (book1 sp (removal s n t c b)) u ∙ ap (asideBook sp) (first (omega arith)) ∙ book-next 1 (λ j v. f j (omega arith))
 
     abbrev C0 : List Write
     C0 = cutWrites sp 0 n (s .way .b) (indexOf (s .way .level + 1) va) (s .way .a) b
 
     abbrev C1 : List Write
-    C1 = cutWrites sp 1 n (s .way .c) (indexOf (s .way .level + 2) va) (s .way .b) (book1 sp (removal s n b))
+    C1 = cutWrites sp 1 n (s .way .c) (indexOf (s .way .level + 2) va) (s .way .b) (book1 sp (removal s n t c b))
 
     abbrev C2 : List Write
-    C2 = cutWrites sp 2 n (s .way .d) (indexOf (s .way .level + 3) va) (s .way .c) (book2 sp (removal s n b))
+    C2 = cutWrites sp 2 n (s .way .d) (indexOf (s .way .level + 3) va) (s .way .c) (book2 sp (removal s n t c b))
 
     is0 : 0 < n → C0 ≡ cutting sp (s .way .b) (indexOf (suc (s .way .level)) va) (s .way .a) (bookThen 0)
     is0 u = cut-is sp 0 n _ _ _ _ _ _ u (ap (λ x. indexOf x va) (omega arith)) (zeroth u)
@@ -221,6 +244,8 @@ module _ {h : ℕ → Bool} {sp : Space} {m : ℕ → ℕ} {role : ℕ → Role}
     list3 z = gather3 (clear va (s .way)) C0 C1 C2 _ _ _ (is0 (omega arith)) (is1 (omega arith)) (is2 (omega arith))
 
     -- WHAT UNMAP WRITES, table by table
-    pub writes-are : n ≤ 3 → writesOf sp va (removal s n b) ≡ cuts sp m va (s .way) n
+    pub writes-are : n ≤ 3 → writesOf sp va (removal s n t c b) ≡ cuts sp m va (s .way) n ++ countWrites sp t c
     unfolding writesOf
-    writes-are u = four (λ x. clear va (s .way) ++ (C0 ++ (C1 ++ C2)) ≡ cuts sp m va (s .way) x) n u list0 list1 list2 list3
+    writes-are u =
+        regroup (clear va (s .way)) C0 C1 C2 (countWrites sp t c)
+        ∙ ap (λ x. x ++ countWrites sp t c) (four (λ x. clear va (s .way) ++ (C0 ++ (C1 ++ C2)) ≡ cuts sp m va (s .way) x) n u list0 list1 list2 list3)

@@ -34,7 +34,7 @@ use Rattle.plan.specs.declared.descent.Why.the-variants as why
 use Rattle.plan.specs.declared.maps.Asked.{Asked}
 use Rattle.plan.specs.declared.maps.NewTables.{NewTables}
 use Rattle.plan.specs.declared.maps.Mapping.{Mapping}
-use Rattle.plan.specs.Map.{Go, Refused, noBook, shapeOf, meetsOf, nthOf, freshThree, freshOf, stockOf, supplyOf, sparedOf, madeOf, placeOf, becauseOf, stoppedOf, fittingOf, standingOf, shapedOf, decideOf, linkOf, nextOf, growOf, reached0, reached1, reached2, reached3, buildOf, writesOf}
+use Rattle.plan.specs.Map.{Go, Refused, noBook, shapeOf, meetsOf, nthOf, freshThree, freshOf, stockOf, supplyOf, sparedOf, raisedOf, madeOf, placeOf, becauseOf, stoppedOf, fittingOf, standingOf, shapedOf, decideOf, linkOf, nextOf, growOf, reached0, reached1, reached2, reached3, buildOf, writesOf}
 use Rattle.plan.specs.declared.building.TableReached.{TableReached}
 use Rattle.plan.specs.declared.maps.Shape.{Shape}
 use Rattle.plan.specs.declared.maps.Shape.the-variants as shape
@@ -43,7 +43,7 @@ use Rattle.plan.specs.declared.maps.Supply.the-variants.{Pages, Lacking}
 use Rattle.plan.specs.Descend.{wayOf}
 use Rattle.plan.proofs.Sparing.{spared-same}
 use Rattle.effect.specs.OfPool.{OfPool}
-use Rattle.effect.proofs.MapBook.{bookWrites, book-writes-proper}
+use Rattle.effect.proofs.MapBook.{map-book-proper}
 use Rattle.effect.proofs.MapBuilt.{page-word-small}
 use Rattle.effect.proofs.WayInPool.{way-through}
 use Rattle.effect.proofs.Wholes.{in-of-pool}
@@ -128,6 +128,7 @@ module _ (h : ℕ → Bool) (m : ℕ → ℕ) (sp : Space) (need : ℕ) (f : New
 pub record MapWent (h : ℕ → Bool) (sp : Space) (p : Mapping) : Type 0 where
   pub fits : Fitting h (sp .first) (sp .pages)
   pub table : OfPool sp (p .table)
+  pub count : p .count < 2 ^ 64
   pub word : p .word < 2 ^ 64
   pub spares : Spares sp (p .level - p .target) (p .fresh)
 
@@ -135,16 +136,16 @@ module _ (h : ℕ → Bool) (m : ℕ → ℕ) (sp : Space) (q : Asked) (p : Mapp
   clash : _≡_ {A = ℕ} 0 1 → MapWent h sp p
   clash z = absurd (omega arith)
 
-  module _ (s : Fitting h (sp .first) (sp .pages)) (target level table : ℕ) where
+  module _ (s : Fitting h (sp .first) (sp .pages)) (target level table count : ℕ) (few : count < 2 ^ 64) where
     made-went : (f : NewTables) (x : Made) → OfPool sp table → Spares sp (level - target) f → madePage target (q .frame) (q .rights) ≡ x
-        → madeOf q target level table f x ≡ Go p → MapWent h sp p
+        → madeOf q target level table count f x ≡ Go p → MapWent h sp p
     unfolding madeOf
     made-went f made.Refused t k w e = clash cc
     made-went f (made.Word x) t k w e =
-        let same : record { base = q .base; target = target; level = level; table = table; word = x; fresh = f } ≡ p = cc e in
-        subst (MapWent h sp) same (record { fits = s; table = t; word = made-lt target (q .frame) x (q .rights) w; spares = k })
+        let same : record { base = q .base; target = target; level = level; table = table; count = count; word = x; fresh = f } ≡ p = cc e in
+        subst (MapWent h sp) same (record { fits = s; table = t; count = few; word = made-lt target (q .frame) x (q .rights) w; spares = k })
 
-    place-went : (x : Supply) → OfPool sp table → supplyOf h m sp (level - target) ≡ x → placeOf q target level table x ≡ Go p → MapWent h sp p
+    place-went : (x : Supply) → OfPool sp table → supplyOf h m sp (level - target) ≡ x → placeOf q target level table count x ≡ Go p → MapWent h sp p
     unfolding placeOf
     place-went (Lacking y) t k e = clash cc
     place-went (Pages f) t k e =
@@ -154,9 +155,9 @@ module _ (h : ℕ → Bool) (m : ℕ → ℕ) (sp : Space) (q : Asked) (p : Mapp
   unfolding becauseOf placeOf
   because-went s target w why.Nothing t e = spared (sparedOf w (supplyOf h m sp (w .level - target))) refl e
     where
-      spared : (x : Supply) → sparedOf w (supplyOf h m sp (w .level - target)) ≡ x → placeOf q target (w .level) (w .a) x ≡ Go p → MapWent h sp p
+      spared : (x : Supply) → sparedOf w (supplyOf h m sp (w .level - target)) ≡ x → placeOf q target (w .level) (w .a) (raisedOf m sp (w .a)) x ≡ Go p → MapWent h sp p
       spared (Lacking y) k e = clash cc
-      spared (Pages f) k e = place-went s target (w .level) (w .a) (Pages f) (t refl) (spared-same w (supplyOf h m sp (w .level - target)) f k) e
+      spared (Pages f) k e = place-went s target (w .level) (w .a) (raisedOf m sp (w .a)) (unfold raisedOf in omega arith) (Pages f) (t refl) (spared-same w (supplyOf h m sp (w .level - target)) f k) e
   because-went s target w why.Page t e = clash cc
   because-went s target w why.Table t e = clash cc
   because-went s target w why.Stray t e = clash cc
@@ -253,8 +254,7 @@ module _ {h : ℕ → Bool} (sp : Space) (p : Mapping) (k : MapWent h sp p) wher
   went-in : Every (OfPool sp) (writesOf sp p)
   unfolding writesOf
   went-in =
-      every-append (buildOf p) (bookWrites sp (p .fresh .book) (p .fresh .need)) build-in
-      (book-in-pool sp (k .fits) _ (book-writes-proper sp (p .fresh .book) (p .fresh .need)))
+      every-append (buildOf p) _ build-in (book-in-pool sp (k .fits) _ (map-book-proper sp p (k .count)))
 
 -- MAP WRITES TO THE POOL
 pub map-in-pool : (h : ℕ → Bool) (m : ℕ → ℕ) (sp : Space) (q : Asked) (p : Mapping) → decideOf h m sp q ≡ Go p → Every (OfPool sp) (writesOf sp p)

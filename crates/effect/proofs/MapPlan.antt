@@ -25,7 +25,7 @@ use Rattle.plan.specs.declared.descent.Way.{Way}
 use Rattle.plan.specs.declared.maps.Asked.{Asked}
 use Rattle.plan.specs.declared.maps.NewTables.{NewTables}
 use Rattle.plan.specs.declared.maps.Mapping.{Mapping}
-use Rattle.plan.specs.Map.{Go, Refused, fitsOf, shapeOf, meetsOf, noBook, nthOf, freshThree, freshOf, stockOf, supplyOf, sparedOf, madeOf, placeOf, stoppedOf, fittingOf, standingOf, shapedOf, decideOf}
+use Rattle.plan.specs.Map.{Go, Refused, fitsOf, shapeOf, meetsOf, noBook, nthOf, freshThree, freshOf, stockOf, supplyOf, sparedOf, raisedOf, madeOf, placeOf, stoppedOf, fittingOf, standingOf, shapedOf, decideOf}
 use Rattle.plan.specs.declared.maps.Shape.the-variants.{Level, Bad}
 use Rattle.plan.specs.declared.maps.Supply.the-variants.{Pages, Lacking}
 use Rattle.plan.specs.Descend.{wayOf}
@@ -115,6 +115,7 @@ pub record Planned (h : ℕ → Bool) (sp : Space) (m : ℕ → ℕ) (q : Asked)
   pub above : p .target ≤ p .level
   pub comes : Comes (settingOf h sp) m (q .base) (suc (p .level)) (p .table)
   pub nothing : entryAt m (p .level) (p .table) (indexOf (p .level) (q .base)) ≡ Nothing
+  pub count-is : p .count ≡ raisedOf m sp (p .table)
   pub word-is : p .word ≡ pageWord (p .target) (q .frame) (q .rights)
   pub supplied : Supplied m sp (p .level - p .target) (p .fresh)
 
@@ -213,10 +214,10 @@ module _ {h : ℕ → Bool} {sp : Space} {m : ℕ → ℕ} {role : ℕ → Role}
       -- it stops where nothing is, and there are pages for the tables that are missing
       pub room-decides : (x : Way) → Traced (settingOf h sp) m (q .base) l x → l ≤ x .level
           → entryAt m (x .level) (x .a) (indexOf (x .level) (q .base)) ≡ Nothing → (s : NewTables) → supplyOf h m sp (x .level - l) ≡ Pages s → Supplied m sp (x .level - l) s
-          → (p : Mapping) × (placeOf q l (x .level) (x .a) (sparedOf x (supplyOf h m sp (x .level - l))) ≡ Go p) × Planned h sp m q p
+          → (p : Mapping) × (placeOf q l (x .level) (x .a) (raisedOf m sp (x .a)) (sparedOf x (supplyOf h m sp (x .level - l))) ≡ Go p) × Planned h sp m q p
       unfolding placeOf madeOf
       room-decides x t u n s e o = (
-        record { base = q .base; target = l; level = x .level; table = x .a; word = pageWord l (q .frame) (q .rights); fresh = s },
+        record { base = q .base; target = l; level = x .level; table = x .a; count = raisedOf m sp (x .a); word = pageWord l (q .frame) (q .rights); fresh = s },
         rw (e, spares x s (supply-spared (q .base) l x t (x .level - l) s o), page-made l q f),
-        record { fitted = f; apart = k; base-is = refl; low = t .low; above = u; comes = t .comes; nothing = n; word-is = refl; supplied = o },
+        record { fitted = f; apart = k; base-is = refl; low = t .low; above = u; comes = t .comes; nothing = n; count-is = refl; word-is = refl; supplied = o },
       )

@@ -24,7 +24,7 @@ use Rattle.plan.specs.declared.descent.Way.{Way}
 use Rattle.plan.specs.declared.descent.Why.{Why}
 use Rattle.plan.specs.declared.maps.Asked.{Asked}
 use Rattle.plan.specs.declared.maps.Mapping.{Mapping}
-use Rattle.plan.specs.Map.{Placed, Go, Refused, fitsOf, supplyOf, sparedOf, placeOf, becauseOf, stoppedOf, shapedOf, decideOf}
+use Rattle.plan.specs.Map.{Placed, Go, Refused, fitsOf, supplyOf, sparedOf, raisedOf, placeOf, becauseOf, stoppedOf, shapedOf, decideOf}
 use Rattle.plan.specs.Descend.{wayOf}
 use Rattle.effect.specs.MapDone.{Fitted, Misses}
 use Rattle.effect.specs.MapRefused.{OfLevel, Meets, FrameApart, SomeMapped, Cause, no-size, base-unaligned, frame-unaligned, base-range, frame-high, frame-in-pool, mapped, no-room}
@@ -82,7 +82,7 @@ apart-or-meets h sp q = go (decLt (sp .first * 4096) (q .frame + q .size)) (decL
 -- what is decided where the tests of numbers hold: by how the way of the base ends
 data Ending (h : ℕ → Bool) (sp : Space) (m : ℕ → ℕ) (q : Asked) (l : ℕ) : Placed → Type 0 where
   bare : (x : Way) → l ≤ x .level → Traced (settingOf h sp) m (q .base) l x → entryAt m (x .level) (x .a) (indexOf (x .level) (q .base)) ≡ Nothing
-      → Ending h sp m q l (placeOf q l (x .level) (x .a) (sparedOf x (supplyOf h m sp (x .level - l))))
+      → Ending h sp m q l (placeOf q l (x .level) (x .a) (raisedOf m sp (x .a)) (sparedOf x (supplyOf h m sp (x .level - l))))
   occupied : SomeMapped h sp m q → Ending h sp m q l (Refused Overlap)
 
 -- WHAT IS DECIDED: a refusal for its cause, or a plan
@@ -150,7 +150,7 @@ module _ {h : ℕ → Bool} {sp : Space} {m : ℕ → ℕ} {role : ℕ → Role}
         go d (occupied k) = refuses Overlap (mapped l f c k)
         go d (bare x v t e) = supply (decLe (x .level - l) (bookOf m sp .free))
           where
-            supply : Dec (x .level - l ≤ bookOf m sp .free) → MapVerdict h sp m q (placeOf q l (x .level) (x .a) (sparedOf x (supplyOf h m sp (x .level - l))))
+            supply : Dec (x .level - l ≤ bookOf m sp .free) → MapVerdict h sp m q (placeOf q l (x .level) (x .a) (raisedOf m sp (x .a)) (sparedOf x (supplyOf h m sp (x .level - l))))
             supply (yes u) =
                 let s = supplies w (x .level - l) u in
                 let r = room-decides w q l f c x t v e (s .0) (s .1) (s .2) in

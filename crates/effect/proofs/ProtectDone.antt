@@ -22,10 +22,14 @@ use Rattle.tables.specs.Roles.{Role}
 use Rattle.tables.specs.Operation.{Changed}
 use Rattle.tables.proofs.Operation.{changed-sound}
 use Rattle.tables.proofs.Down.{protect-done}
+use Rattle.tables.proofs.OneWrite.{page-something}
+use Rattle.tables.proofs.Saying.{tallied-as, tallied-still}
 use Rattle.pool.specs.Book.{bookOf, ticketIn}
 use Rattle.pool.proofs.Alone.{unmarking-one, alone-after}
 use Rattle.pool.specs.Booked.{settingOf}
 use Rattle.pool.specs.declared.Space.{Space}
+use Rattle.pool.specs.Counting.{countOf, Counted}
+use Rattle.pool.proofs.Counting.{uncounting-beside, counts-stay}
 use Rattle.pool.proofs.Booked.{Beside, book-beside, numbered-beside, booked-beside}
 use Rattle.pool.proofs.Counts.{InPool}
 use Rattle.pool.proofs.Tickets.{ticket-sound}
@@ -72,7 +76,7 @@ module _ {h : ℕ → Bool} {sp : Space} {m : ℕ → ℕ} {role : ℕ → Role}
     had = k .rights;
     before = k .means;
     changed = done;
-    whole = record { stands = w .stands; small = w .small; sound = changed-sound done; booked = booked-beside sp m xs beside (w .booked); alone = alone-after sp m xs (unmarking-one q i v (page-unmarked l v _ _ says-it)) (w .alone) };
+    whole = record { stands = w .stands; small = w .small; sound = changed-sound done; booked = booked-beside sp m xs beside (w .booked); counted = counted; alone = alone-after sp m xs (unmarking-one q i v (page-unmarked l v _ _ says-it)) (w .alone) };
     kept = rw (← k .traced .word) (with-rights-kept (s .way .word) r);
     marks = rw (← k .traced .word) (with-rights-marks (s .way .word) r);
     proper = every-one q i v (in-of-pool here) (index-lt l va) (with-rights-lt (s .way .word) r);
@@ -104,6 +108,12 @@ module _ {h : ℕ → Bool} {sp : Space} {m : ℕ → ℕ} {role : ℕ → Role}
 
       says-it : says l v ≡ entry.Page (s .frame) r
       says-it = with-rights-says l (s .way .word) r ∙ ap (regranted r) (ap (says l) (k .traced .word) ∙ k .entry) ∙ unfold regranted in refl
+
+      -- the entry says a page still, and no count is written
+      counted : Counted sp (after m xs) role
+      counted =
+          tallied-as (countOf (after m xs) sp) (λ p j e. counts-stay sp m xs (uncounting-beside xs beside) p (live-in w e))
+          (tallied-still (w .counted) (record { live = k .live; fits = index-lt l va }) v (page-something (s .frame) (k .rights) (k .entry)) (page-something (s .frame) r says-it))
 
       clean-it : Clean l v
       clean-it = rights-clean l (s .way .word) r (k .low) (subst (Clean l) (sym (k .traced .word)) (w .sound .built .clean q l i (k .live) (index-lt l va)))

@@ -1,9 +1,9 @@
 -- Unmap, table by table: the page's entry is cleared, and then one table after the other is unlinked and set aside, as far as they are empty.
-use Prim.Native.Nat.{ℕ, suc, _+_, _^_, _<_, _≤_}
+use Prim.Native.Nat.{ℕ, suc, _+_, _-_, _^_, _<_, _≤_}
 use mathlib.Core.Bool.{Bool}
 use mathlib.Core.List.{List, [], _∷_, _++_, append-assoc}
-use mathlib.Core.Logic.{_⊎_, inl, inr}
-use mathlib.Core.Path.{_≡_, sym, ap, _∙_, subst, subst₂}
+use mathlib.Core.Logic.{_⊎_, inl, inr, _≢_}
+use mathlib.Core.Path.{_≡_, refl, sym, ap, _∙_, subst, subst₂}
 use native.Mathlib.Decide.{ℕ-discrete}
 use native.Mathlib.Omega.{arith}
 use Rattle.word.specs.Memory.{set}
@@ -11,18 +11,27 @@ use Rattle.word.specs.Writes.{Write, write, after, Every}
 use Rattle.word.proofs.Writes.{every-one, every-append}
 use Rattle.word.proofs.Set.{set-at, set-other}
 use Rattle.entry.specs.Entry.{everything}
+use Rattle.entry.specs.declared.Entry.the-variants.{Table}
+use Rattle.entry.proofs.Fields.{says-absent}
 use Rattle.walk.specs.Walk.{indexOf}
 use Rattle.walk.proofs.Digits.{index-lt}
-use Rattle.tables.specs.Roles.{Role, aside, table, left, Bare}
+use Rattle.tables.specs.Roles.{Role, aside, table, left, entryAt, Bare}
+use Rattle.tables.specs.OneWrite.{LiveEntry}
+use Rattle.tables.specs.Saying.{Tallied}
 use Rattle.tables.specs.Way.{Comes, onto}
 use Rattle.tables.proofs.Way.{onto-role}
+use Rattle.tables.proofs.Clearing.{LeavesTables, spare-untouched}
+use Rattle.tables.proofs.OneWrite.{table-something}
+use Rattle.tables.proofs.Saying.{tallied-same, tallied-as, tallied-fewer, tallied-unlinked}
 use Rattle.tables.proofs.Up.{Up, up-step, up-spare}
 use Rattle.pool.specs.Book.{bookOf, ticketOf}
 use Rattle.pool.specs.Booked.{settingOf, Booked, Numbered}
 use Rattle.pool.specs.Changes.{asideWrites, asideBook}
+use Rattle.pool.specs.Counting.{countOf}
 use Rattle.pool.specs.declared.Space.{Space}
 use Rattle.pool.specs.declared.Book.{Book}
 use Rattle.pool.proofs.Booked.{Beside, book-beside, numbered-beside, booked-beside}
+use Rattle.pool.proofs.Counting.{Uncounting, uncounting-append, uncounting-beside, aside-uncounted}
 use Rattle.pool.proofs.Counts.{InPool, pool-in, is-sound}
 use Rattle.pool.proofs.Pages.{built-owned}
 use Rattle.pool.proofs.Proper.{OfBook, aside-proper}
@@ -46,7 +55,8 @@ pub aside-one : (sp : Space) (m : ℕ → ℕ) {role : ℕ → Role} → Booked 
 unfolding asideBook
 aside-one sp m b = rw (is-sound (sp .pages) (bookOf m sp) (b .sound))
 
--- THE WAY UP, with the book: from m₀ on xs was written, n tables were unlinked and set aside, and t may be empty.
+-- THE WAY UP, with the book: from m₀ on xs was written, n tables were unlinked and set aside, and t, which may be empty, has one entry less
+-- than the book has it; no count was written.
 pub record Rising (h : ℕ → Bool) (sp : Space) (m₀ : ℕ → ℕ) (role₀ : ℕ → Role) (va l n : ℕ) (xs : List Write) (role : ℕ → Role) (k t : ℕ) : Type 0 where
   pub up : Up (settingOf h sp) m₀ role₀ va l xs (after m₀ xs) role k t
   pub booked : Booked sp (after m₀ xs) role
@@ -55,6 +65,8 @@ pub record Rising (h : ℕ → Bool) (sp : Space) (m₀ : ℕ → ℕ) (role₀ 
   pub fate : (p : ℕ) → (role p ≡ role₀ p) ⊎ SetAside sp role₀ role (after m₀ xs) (ticketOf (bookOf m₀ sp)) (ticketOf (bookOf m₀ sp) + n) p
   pub on-way : (p : ℕ) → (role p ≡ role₀ p) ⊎ Comes (settingOf h sp) m₀ va (left (role₀ p)) p
   pub numbers : (p j : ℕ) → Numbered m₀ sp p j → Numbered (after m₀ xs) sp p j
+  pub tally : Tallied (set (countOf m₀ sp) t (countOf m₀ sp t - 1)) (after m₀ xs) role
+  pub uncounting : Uncounting sp xs
 
 -- what is written when the table t, named by entry i of page r, is unlinked and set aside
 abbrev pub cutting : Space → ℕ → ℕ → ℕ → Book → List Write
@@ -180,6 +192,47 @@ module _ {h : ℕ → Bool} {sp : Space} {m₀ : ℕ → ℕ} {role₀ : ℕ →
       go (no e) (inl o) = inl (set-other role t aside p e ∙ o)
       go (no e) (inr o) = inr o
 
+  -- the parent has an entry less, and the table is counted no more
+  names-now : entryAt m (suc k) r i ≡ Table t everything
+  names-now = d .up .turns .built .up t (suc k) r i named .2
+
+  spot : LiveEntry role r (suc k) i
+  spot = record { live = d .up .turns .built .up t (suc k) r i named .0; fits = index-lt (suc k) va }
+
+  apart : t ≢ r
+  apart e = omega (arith, ap left named, spot .live, ap (λ x. left (role x)) e)
+
+  c₀ : ℕ → ℕ
+  c₀ = countOf m₀ sp
+
+  -- the numbers then, with the child's
+  c₁ : ℕ → ℕ
+  c₁ = set (set c₀ t (c₀ t - 1)) r (set c₀ t (c₀ t - 1) r - 1)
+
+  fewer : Tallied c₁ unlinked-memory (set role t aside)
+  unfolding c₁ c₀ unlinked-memory after
+  fewer = tallied-unlinked t aside refl (tallied-fewer (d .tally) spot 0 (table-something t everything names-now) (says-absent (suc k) 0 (omega arith)))
+
+  leaves : LeavesTables (settingOf h sp) unlinked-memory (set role t aside) ys
+  unfolding unlinked-memory after
+  leaves = spare-untouched ys (up-step r everything (d .up) (names .comes) (names .names) bare .turns .built) (book-spares done ys ys-book)
+
+  tally-then : Tallied (set c₀ r (c₀ r - 1)) (after unlinked-memory ys) (set role t aside)
+  unfolding c₁
+  tally-then = tallied-as (set c₀ r (c₀ r - 1)) same (tallied-same (after unlinked-memory ys) (leaves .words) fewer)
+    where
+      same : (p l : ℕ) → left (set role t aside p) ≡ suc l → set c₀ r (c₀ r - 1) p ≡ set (set c₀ t (c₀ t - 1)) r (set c₀ t (c₀ t - 1) r - 1) p
+      same p l e = go (ℕ-discrete r p) (ℕ-discrete t p)
+        where
+          go : Dec (r ≡ p) → Dec (t ≡ p) → set c₀ r (c₀ r - 1) p ≡ set (set c₀ t (c₀ t - 1)) r (set c₀ t (c₀ t - 1) r - 1) p
+          go (yes x) y =
+              set-at c₀ r (c₀ r - 1) p x
+              ∙ sym (set-at (set c₀ t (c₀ t - 1)) r (set c₀ t (c₀ t - 1) r - 1) p x ∙ ap (λ v. v - 1) (set-other c₀ t (c₀ t - 1) r apart))
+          go (no x) (yes y) = absurd (omega (arith, e, ap left (set-at role t aside p y)))
+          go (no x) (no y) =
+              set-other c₀ r (c₀ r - 1) p x
+              ∙ sym (set-other (set c₀ t (c₀ t - 1)) r (set c₀ t (c₀ t - 1) r - 1) p x ∙ set-other c₀ t (c₀ t - 1) p y)
+
   -- ONE TABLE MORE
   pub rising-step : Rising h sp m₀ role₀ va l (suc n) (xs ++ cutting sp r i t (bookOf m sp)) (set role t aside) (suc k) r
   rising-step = record {
@@ -190,4 +243,6 @@ module _ {h : ℕ → Bool} {sp : Space} {m₀ : ℕ → ℕ} {role₀ : ℕ →
     fate = subst (λ y. (p : ℕ) → (set role t aside p ≡ role₀ p) ⊎ SetAside sp role₀ (set role t aside) y (ticketOf (bookOf m₀ sp)) (ticketOf (bookOf m₀ sp) + suc n) p) memory-is (unfold end in fate-then);
     on-way = on-way-then;
     numbers = λ p j e. subst (λ y. Numbered y sp p j) memory-is (unfold end in kept-number p j (d .numbers p j e));
+    tally = subst (λ y. Tallied (set (countOf m₀ sp) r (countOf m₀ sp r - 1)) y (set role t aside)) memory-is (unfold c₀ in tally-then);
+    uncounting = subst (Uncounting sp) list-is (uncounting-append (xs ++ (write r i 0 ∷ [])) ys (uncounting-append xs (write r i 0 ∷ []) (d .uncounting) (uncounting-beside (write r i 0 ∷ []) beside)) (unfold ys in aside-uncounted sp (bookOf unlinked-memory sp) t));
   }

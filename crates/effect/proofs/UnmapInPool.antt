@@ -1,11 +1,11 @@
 -- UNMAP, OF ANY BYTES: whatever it decides, it writes words of 64 bits to pages of the pool and nowhere else.
-use Prim.Native.Nat.{ℕ, _+_, _^_, _<_, _≤_}
+use Prim.Native.Nat.{ℕ, _+_, _-_, _^_, _<_, _≤_}
 use mathlib.Core.Bool.{Bool, true, false, cond}
 use mathlib.Core.List.{[], _∷_}
 use mathlib.Core.Path.{_≡_, refl, subst}
 use native.Mathlib.Omega.{arith}
-use borrow.Author.Tests.{leb-false}
-use lib.Dec.{leb, eqb}
+use borrow.Author.Tests.{leb-false, ltb-false, eqb-false}
+use lib.Dec.{leb, ltb, eqb}
 use Rattle.word.specs.Writes.{write, Every, none}
 use Rattle.word.proofs.Writes.{every-one, every-append}
 use Rattle.walk.specs.Walk.{indexOf}
@@ -19,62 +19,76 @@ use Rattle.pool.specs.declared.Opened.{Opened}
 use Rattle.pool.specs.declared.Opened.the-variants as opened
 use Rattle.pool.specs.declared.Reason.the-variants.{BadBook}
 use Rattle.pool.proofs.Opening.{Fitting, names-shows}
+use Rattle.pool.proofs.Counting.{count-proper}
 use Rattle.pool.proofs.Proper.{aside-proper}
 use Rattle.plan.specs.declared.Reason.the-variants.{Pool}
 use Rattle.plan.specs.declared.finding.PageEntry.{PageEntry}
 use Rattle.plan.specs.declared.finding.Sought.{Sought}
 use Rattle.plan.specs.declared.finding.Sought.the-variants as sought
+use Rattle.plan.specs.declared.unmaps.Weighed.{Weighed}
+use Rattle.plan.specs.declared.unmaps.Weighed.the-variants as weighed
 use Rattle.plan.specs.declared.unmaps.Removal.{Removal}
 use Rattle.plan.specs.declared.unmaps.Removing.the-variants.{Go, Refused}
 use Rattle.plan.specs.Find.{findOf}
 use Rattle.plan.specs.Map.{noBook}
-use Rattle.plan.specs.Unmap.{emptiedOf, bookedOf, openOf, removeOf, removingOf, decideOf, book1, book2, cutWrites, writesOf}
+use Rattle.plan.specs.Unmap.{emptiedOf, bookedOf, openOf, removeOf, weighedOf, removingOf, decideOf, book1, book2, cutWrites, writesOf}
 use Rattle.plan.proofs.Found.{FoundAt, found-at}
 use Rattle.effect.specs.OfPool.{OfPool}
-use Rattle.effect.proofs.Emptying.{tableAt, level-at, emptied}
+use Rattle.plan.proofs.Weighing.{tableAt, level-at, emptied-is}
 use Rattle.effect.proofs.MapInPool.{book-in-pool}
 use Rattle.effect.proofs.WayInPool.{WayInPool, entry-in-pool}
 use Rattle.effect.proofs.Wholes.{in-of-pool}
 
 -- The decision ---------------------------------------------------------------------------------------------------------------------
 
--- WHAT A DECISION SHOWS: a page was found, and the tables that become empty lie below the root
+-- WHAT A DECISION SHOWS: a page was found, the tables that become empty lie below the root, and the count is one that a table can have
 pub record UnmapWent (h : ℕ → Bool) (m : ℕ → ℕ) (sp : Space) (va : ℕ) (r : Removal) : Type 0 where
   pub found : FoundAt h m sp va (r .page)
   pub below : (j : ℕ) → j < r .empties → j + r .page .way .level ≤ 2
+  pub count : r .count < 512
 
 module _ (h : ℕ → Bool) (m : ℕ → ℕ) (sp : Space) (va : ℕ) (r : Removal) where
   clash : _≡_ {A = ℕ} 0 1 → UnmapWent h m sp va r
   clash z = absurd (omega arith)
 
-  module _ (s : PageEntry) (n : ℕ) (f : FoundAt h m sp va s) (u : (j : ℕ) → j < n → j + s .way .level ≤ 2) where
-    open-went : (x : Opened) → openOf sp s n x ≡ Go r → UnmapWent h m sp va r
+  module _ (s : PageEntry) (n t c : ℕ) (f : FoundAt h m sp va s) (u : (j : ℕ) → j < n → j + s .way .level ≤ 2) (few : c < 512) where
+    open-went : (x : Opened) → openOf sp s n t c x ≡ Go r → UnmapWent h m sp va r
     unfolding openOf bookedOf
     open-went (opened.Refused y) e = clash cc
     open-went (opened.Book b) e = go (takesOf sp b n) e
       where
-        go : (t : Bool) → cond t (Go (record { page = s; empties = n; book = b })) (Refused (Pool BadBook)) ≡ Go r → UnmapWent h m sp va r
+        go : (x : Bool) → cond x (Go (record { page = s; empties = n; table = t; count = c; book = b })) (Refused (Pool BadBook)) ≡ Go r → UnmapWent h m sp va r
         go false k = clash cc
         go true k =
-            let same : record { page = s; empties = n; book = b } ≡ r = cc in
-            subst (UnmapWent h m sp va) same (record { found = f; below = u })
+            let same : record { page = s; empties = n; table = t; count = c; book = b } ≡ r = cc in
+            subst (UnmapWent h m sp va) same (record { found = f; below = u; count = few })
 
-    remove-went : removeOf h m sp s n ≡ Go r → UnmapWent h m sp va r
+    remove-went : removeOf h m sp s n t c ≡ Go r → UnmapWent h m sp va r
     unfolding removeOf
     remove-went e = go (eqb n 0) e
       where
-        go : (t : Bool) → cond t (Go (record { page = s; empties = 0; book = noBook })) (openOf sp s n (openedOf h m sp)) ≡ Go r → UnmapWent h m sp va r
+        go : (x : Bool) → cond x (Go (record { page = s; empties = 0; table = t; count = c; book = noBook })) (openOf sp s n t c (openedOf h m sp)) ≡ Go r → UnmapWent h m sp va r
         go true k =
-            let same : record { page = s; empties = 0; book = noBook } ≡ r = cc in
-            subst (UnmapWent h m sp va) same (record { found = f; below = λ j v. absurd (omega arith) })
+            let same : record { page = s; empties = 0; table = t; count = c; book = noBook } ≡ r = cc in
+            subst (UnmapWent h m sp va) same (record { found = f; below = λ j v. absurd (omega arith); count = few })
         go false k = open-went (openedOf h m sp) k
+
+  weighed-went : (s : PageEntry) → FoundAt h m sp va s → (x : Weighed) → emptiedOf m sp (s .way) ≡ x → weighedOf h m sp s x ≡ Go r → UnmapWent h m sp va r
+  unfolding weighedOf
+  weighed-went s f weighed.Goes ex e = clash cc
+  weighed-went s f (weighed.Stays n t c) ex e = go (eqb c 0) (ltb 512 c) refl refl e
+    where
+      go : (x y : Bool) → eqb c 0 ≡ x → ltb 512 c ≡ y → cond x (Refused (Pool BadBook)) (cond y (Refused (Pool BadBook)) (removeOf h m sp s n t (c - 1))) ≡ Go r → UnmapWent h m sp va r
+      go true y a b k = clash cc
+      go false true a b k = clash cc
+      go false false a b k =
+          remove-went s n t (c - 1) f (λ j u. omega (arith, emptied-is m sp (s .way) n t c ex .empty j u .0, level-at (s .way) j))
+          (omega (arith, eqb-false c 0 a, ltb-false 512 c b)) k
 
   sought-went : (x : Sought) → findOf h m sp va ≡ x → removingOf h m sp va x ≡ Go r → UnmapWent h m sp va r
   unfolding removingOf
   sought-went (sought.Refused y) f e = clash cc
-  sought-went (sought.Found s) f e =
-      remove-went s (emptiedOf h m va (s .way)) (found-at h m sp va s f)
-      (λ j u. omega (arith, emptied h m va (s .way) .empty j u .0, level-at (s .way) j)) e
+  sought-went (sought.Found s) f e = weighed-went s (found-at h m sp va s f) (emptiedOf m sp (s .way)) refl e
 
   pub unmap-went : decideOf h m sp va ≡ Go r → UnmapWent h m sp va r
   unfolding decideOf
@@ -115,7 +129,8 @@ module _ {h : ℕ → Bool} {m : ℕ → ℕ} (sp : Space) (va : ℕ) (r : Remov
       (every-one (r .page .way .a) (indexOf (r .page .way .level) va) 0 page-in (index-lt (r .page .way .level) va) (omega arith))
       (every-append _ _ (cut-in sp fits 0 (r .empties) (r .page .way .b) (indexOf (r .page .way .level + 1) va) (r .page .way .a) (r .book) (index-lt _ va) (emptied-in 0))
       (every-append _ _ (cut-in sp fits 1 (r .empties) (r .page .way .c) (indexOf (r .page .way .level + 2) va) (r .page .way .b) (book1 sp r) (index-lt _ va) (emptied-in 1))
-      (cut-in sp fits 2 (r .empties) (r .page .way .d) (indexOf (r .page .way .level + 3) va) (r .page .way .c) (book2 sp r) (index-lt _ va) (emptied-in 2))))
+      (every-append _ _ (cut-in sp fits 2 (r .empties) (r .page .way .d) (indexOf (r .page .way .level + 3) va) (r .page .way .c) (book2 sp r) (index-lt _ va) (emptied-in 2))
+      (book-in-pool sp fits _ (count-proper sp (r .table) (r .count) (omega (arith, k .count)))))))
 
 -- UNMAP WRITES TO THE POOL
 pub unmap-in-pool : (h : ℕ → Bool) (m : ℕ → ℕ) (sp : Space) (va : ℕ) (r : Removal) → decideOf h m sp va ≡ Go r → Every (OfPool sp) (writesOf sp va r)

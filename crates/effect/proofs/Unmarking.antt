@@ -14,11 +14,12 @@ use Rattle.entry.specs.declared.Entry.the-variants as entry
 use Rattle.entry.proofs.Fields.{says-absent}
 use Rattle.walk.specs.Walk.{indexOf}
 use Rattle.pool.specs.Book.{signature}
+use Rattle.pool.specs.Counting.{countWrites}
 use Rattle.pool.specs.declared.Space.{Space}
-use Rattle.pool.proofs.Alone.{Unmarking, none, unmarking-one, unmarking-append, unmarking-zeros, unmarking-if, took-unmarking}
+use Rattle.pool.proofs.Alone.{Unmarking, none, unmarking-one, unmarking-append, unmarking-zeros, unmarking-if, count-unmarking, took-unmarking}
 use Rattle.plan.specs.declared.maps.Mapping.{Mapping}
 use Rattle.plan.specs.declared.building.TableReached.{TableReached}
-use Rattle.plan.specs.Map.{linkOf, growOf, buildOf, writesOf, reached0, reached1, reached2, reached3}
+use Rattle.plan.specs.Map.{linkOf, growOf, buildOf, newCount, newCounts, takenWrites, writesOf, reached0, reached1, reached2, reached3}
 
 -- a word that says a page is present, and the signature is not
 pub page-unmarked : (n w f : ℕ) (g : Rights) → says n w ≡ entry.Page f g → w ≢ signature
@@ -40,13 +41,25 @@ grow-unmarking va target p s = go (leb (s .level) target)
     go true = none
     go false = unmarking-append (zeros p 512) _ (unmarking-zeros p 512) (unmarking-one (s .table) (indexOf (s .level) va) (linkOf p) (link-unmarked p))
 
--- MAP, whose page's word is none
-pub map-unmarking : (sp : Space) (p : Mapping) → p .word ≢ signature → Unmarking (writesOf sp p)
-unfolding writesOf buildOf
-map-unmarking sp p d =
+new-unmarking : (sp : Space) (need j p : ℕ) → Unmarking (newCount sp need j p)
+unfolding newCount
+new-unmarking sp need j p = go (leb need j)
+  where
+    go : (b : Bool) → Unmarking (cond b [] (countWrites sp p 1))
+    go true = none
+    go false = count-unmarking sp p 1 (λ e. omega arith)
+
+-- MAP, whose page's word is none, nor is the count
+pub map-unmarking : (sp : Space) (p : Mapping) → p .word ≢ signature → p .count ≢ signature → Unmarking (writesOf sp p)
+unfolding writesOf buildOf takenWrites newCounts
+map-unmarking sp p d c =
     unmarking-append (buildOf p) _
     (unmarking-append _ _ (grow-unmarking (p .base) (p .target) (p .fresh .a) (reached0 p))
     (unmarking-append _ _ (grow-unmarking (p .base) (p .target) (p .fresh .b) (reached1 p))
     (unmarking-append _ _ (grow-unmarking (p .base) (p .target) (p .fresh .c) (reached2 p))
     (unmarking-one (reached3 p .table) (indexOf (reached3 p .level) (p .base)) (p .word) d))))
-    (unmarking-if (ltb 0 (p .fresh .need)) _ (λ e. took-unmarking sp (p .fresh .book) (p .fresh .need)))
+    (unmarking-append _ _
+    (unmarking-append _ _ (unmarking-if (ltb 0 (p .fresh .need)) _ (λ e. took-unmarking sp (p .fresh .book) (p .fresh .need)))
+    (unmarking-append _ _ (new-unmarking sp (p .fresh .need) 0 (p .fresh .a))
+    (unmarking-append _ _ (new-unmarking sp (p .fresh .need) 1 (p .fresh .b)) (new-unmarking sp (p .fresh .need) 2 (p .fresh .c)))))
+    (count-unmarking sp (p .table) (p .count) c))

@@ -20,7 +20,7 @@ use Rattle.plan.specs.Descend.{Descent, Going, Stopped}
 use Rattle.plan.specs.declared.finding.PageEntry.{PageEntry}
 use Rattle.plan.specs.Descend.{pushOf, stopOf, atEntryOf, arriveOf, stepDownOf, downOf, endOf, noWay, wayOf}
 use Rattle.plan.proofs.Found.{FoundAt}
-use Rattle.effect.proofs.Emptying.{tableAt}
+use Rattle.plan.proofs.Weighing.{tableAt}
 
 -- a way down to level n: its tables lie in the pool, and those below the root were named by an entry
 pub record WayInPool (sp : Space) (n : ℕ) (w : Way) : Type 0 where

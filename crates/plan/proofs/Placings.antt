@@ -24,7 +24,7 @@ use Rattle.plan.specs.declared.maps.Supply.the-variants.{Pages, Lacking}
 use Rattle.plan.specs.declared.maps.Leaf.{Leaf}
 use Rattle.plan.specs.declared.building.Making.the-variants as making
 use Rattle.plan.specs.declared.maps.Placing.the-variants as placing
-use Rattle.plan.specs.Map.{Placed, Go, Refused, supplyOf, apartOf, sparedOf, raisedOf, madeOf, placeOf, nextOf, growOf, buildOf, takenWrites, writesOf, leafOf, leafWrites, didOf, makingOf, placingOf}
+use Rattle.plan.specs.Map.{Placed, Go, Refused, supplyOf, apartOf, sparedOf, raisedOf, madeOf, placeOf, nextOf, growOf, buildOf, newCount, newCounts, takenWrites, writesOf, leafOf, leafWrites, didOf, makingOf, placingOf}
 use Rattle.plan.proofs.Shapes.{Shaped}
 
 module _ (q : Asked) (target level table count x : ℕ) where
@@ -95,7 +95,7 @@ placing-here (Go x) c e = go (leb (x .level) (x .target) && eqb (x .fresh .need)
 
 -- and then that entry and its table's count are all that is written
 pub leaf-writes : (sp : Space) (p : Mapping) → p .level ≤ p .target → p .fresh .need ≡ 0 → leafWrites sp (leafOf p) ≡ writesOf sp p
-unfolding writesOf takenWrites buildOf growOf nextOf
+unfolding writesOf takenWrites newCounts newCount buildOf growOf nextOf
 leaf-writes sp p u v = rw v (simp (le-leb (p .level) (p .target) u))
 
 pub here-did : (sp : Space) (d : Placed) (c : Leaf) → Leafed d c → leafWrites sp c ≡ didOf sp d

@@ -214,7 +214,7 @@ newCounts sp f = newCount sp (f .need) 0 (f .a) ++ (newCount sp (f .need) 1 (f .
 
 -- in the book: that pages were taken, and the counts of the new tables
 unfoldable pub takenWrites : Space → NewTables → List Write
-takenWrites sp f = cond (eqb (f .need) 0) [] (tookWrites sp (f .book) (f .need) ++ newCounts sp f)
+takenWrites sp f = cond (ltb 0 (f .need)) (tookWrites sp (f .book) (f .need)) [] ++ newCounts sp f
 
 -- WHAT MAP WRITES: the tables and the page, and in the book what was taken, and the count of the table that was there
 unfoldable pub writesOf : Space → Mapping → List Write

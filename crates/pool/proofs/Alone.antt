@@ -15,9 +15,10 @@ use Rattle.word.proofs.Tests.{and-both}
 use Rattle.pool.specs.declared.Space.{Space}
 use Rattle.pool.specs.declared.Book.{Book}
 use Rattle.pool.specs.Layout.{signatureAt}
-use Rattle.pool.specs.Book.{signature, addsUpOf}
+use Rattle.pool.specs.Book.{signature, inPool, addsUpOf}
 use Rattle.pool.specs.Booked.{Alone}
 use Rattle.pool.specs.Changes.{tookWrites, asideWrites, releaseWrites}
+use Rattle.pool.specs.Counting.{countWrites}
 use Rattle.pool.proofs.Counts.{adds-up-is, slot-in}
 
 -- no write of the list is of the signature
@@ -50,6 +51,10 @@ alone-after sp m (x ∷ xs) (more d h) k = alone-after sp (set m (at (x .page) (
     go : (p : ℕ) → sp .first < p → p < sp .first + sp .pages → Dec (at (x .page) (x .index) ≡ at p signatureAt) → set m (at (x .page) (x .index)) (x .word) (at p signatureAt) ≢ signature
     go p u v (yes e) f = d (sym (set-at m (at (x .page) (x .index)) (x .word) (at p signatureAt) e) ∙ f)
     go p u v (no n) f = k p u v (sym (set-other m (at (x .page) (x .index)) (x .word) (at p signatureAt) n) ∙ f)
+
+pub count-unmarking : (sp : Space) (p w : ℕ) → w ≢ signature → Unmarking (countWrites sp p w)
+unfolding countWrites
+count-unmarking sp p w d = unmarking-if (inPool sp p) _ (λ e. more d none)
 
 -- Changes of the book, whatever it counts ------------------------------------------------------------------------------------------
 

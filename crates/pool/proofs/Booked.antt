@@ -66,6 +66,9 @@ module _ {sp : Space} {m m' : ℕ → ℕ} (e : SameBook sp m m') where
         booked-by sp m' same-counts (same-header signatureAt (omega arith) ∙ b .marked) (same-header pagesAt (omega arith) ∙ b .sized)
         (same-header rootAt (omega arith) ∙ b .rooted) (b .sound) (lists-same same-page (b .lists)) (b .in-book) (b .no-other)
 
+pub same-then : {sp : Space} {m m' m'' : ℕ → ℕ} → SameBook sp m m' → SameBook sp m' m'' → SameBook sp m m''
+same-then a b = record { words = λ k u. b .words k u ∙ a .words k u }
+
 -- Writes elsewhere ----------------------------------------------------------------------------------------------------------------
 
 -- a page that is not the book's

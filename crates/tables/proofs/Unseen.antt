@@ -80,7 +80,7 @@ idle-left root h = absurd h
 idle-left (table n q i) h = absurd h
 
 module _ (role role' : ℕ → Role) (h : Shifted role role') where
-  shift-left : (p : ℕ) → left (role' p) ≡ left (role p)
+  pub shift-left : (p : ℕ) → left (role' p) ≡ left (role p)
   shift-left p = go (h p)
     where
       go : (role' p ≡ role p) ⊎ (Unwalked (role p) × Unwalked (role' p)) → left (role' p) ≡ left (role p)

@@ -1,6 +1,7 @@
-use Rattle.plan.specs.Map.{takenWrites}
+use Rattle.plan.specs.Map.{newCount, newCounts, takenWrites}
+use borrow.Author.Tests.{lt-ltb}
+use native.Mathlib.Omega.{arith}
 use Rattle.word.proofs.Budget.{wrote-none, wrote-then}
-use borrow.Author.Tests.{eq-eqb, ne-eqb}
 use Rattle.plan.proofs.Carrying.{stands-wrote}
 use borrow.Author.Needs.{needs}
 use Rattle.plan.proofs.building.carry_taken.Statement.{statement}
@@ -12,8 +13,8 @@ use Rattle.pool.proofs.took.Reads as took-reads
 
 -- src/building.rt:128:9
 returns : tie.Need-returns
-unfolding takenWrites
-returns c = simp (eq-eqb _ _ (c .if1 .taken)) (wrote-none _ _ _)
+unfolding takenWrites newCounts newCount
+returns c = rw (c .if1 .taken) (wrote-none _ _ _)
 
 -- src/building.rt:131:5
 took-requires : tie.Need-took-requires
@@ -30,7 +31,7 @@ same-length c = search needs
 -- src/building.rt:123:1
 returns-2 : tie.Need-returns-2
 unfolding takenWrites
-returns-2 c = simp (ne-eqb _ _ (c .before .before .before .before .before .before .before .before .before .before .before .if1 .left)) (wrote-then _ _ _ _ _ _ _ _ _ (c .before .before .before .before .before .before .before .took .ensures) (c .before .before .count-all .ensures))
+returns-2 c = let u = c .before .before .before .before .before .before .before .before .before .before .before .if1 .left in simp (lt-ltb 0 (c .before .before .before .before .before .before .before .before .before .before .before .before .before .before .args .f .need) (omega (arith, u))) (wrote-then _ _ _ _ _ _ _ _ _ (c .before .before .before .before .before .before .before .took .ensures) (c .before .before .count-all .ensures))
 
 pub carry-taken-spec : {M : Type 1} → statement M
 carry-taken-spec =
