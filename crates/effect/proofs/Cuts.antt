@@ -160,7 +160,7 @@ module _ {h : ℕ → Bool} {sp : Space} {m : ℕ → ℕ} {role : ℕ → Role}
       let e = f j (omega arith) in
       rising-step (root-low w) (w .small) d (tableAt (s .way) (suc j)) (names-at j (e .0))
       (up-bare (d .up)
-      (count-alone w (live-at j (omega (arith, e .0))) (indexOf (levelAt (s .way) j) va) (index-lt (levelAt (s .way) j) va) (says-at j (omega (arith, e .0))) (e .1)))
+      (count-alone w (tableAt (s .way) j) (levelAt (s .way) j) (live-at j (omega (arith, e .0))) (indexOf (levelAt (s .way) j) va) (index-lt (levelAt (s .way) j) va) (says-at j (omega (arith, e .0))) (e .1)))
 
   -- the level of the table that stays
   pub last-level : (n : ℕ) → Empty m sp (s .way) n → levelAt (s .way) n < 4
@@ -180,7 +180,7 @@ module _ {h : ℕ → Bool} {sp : Space} {m : ℕ → ℕ} {role : ℕ → Role}
       stay (inl u) = inr (omega (arith, last-level n (e .empty)))
       stay (inr x) =
           let u = last-level n (e .empty) in
-          let o = count-others w (live-at n u) (indexOf (levelAt (s .way) n) va) (index-lt (levelAt (s .way) n) va) (says-at n u) (λ y. x (e .count ∙ y)) in
+          let o = count-others w (tableAt (s .way) n) (levelAt (s .way) n) (live-at n u) (indexOf (levelAt (s .way) n) va) (index-lt (levelAt (s .way) n) va) (says-at n u) (λ y. x (e .count ∙ y)) in
           inl (up-holds (d .up) (o .0) (o .1) (o .2) (o .3))
 
   -- The plan's own list ------------------------------------------------------------------------------------------------------------

@@ -30,7 +30,7 @@ count-tells m sp p l i t u h = (
     go (yes v) f = omega (arith, some-saying m l p 512 i u h)
     go (no v) f = let k = others-saying m l p 512 i (omega arith) in absurd (k .3 (f (k .0) (k .1) (k .2)))
 
-module _ {h : ℕ → Bool} {sp : Space} {m : ℕ → ℕ} {role : ℕ → Role} (w : Whole h sp m role) {p l : ℕ} (live : left (role p) ≡ suc l) where
+module _ {h : ℕ → Bool} {sp : Space} {m : ℕ → ℕ} {role : ℕ → Role} (w : Whole h sp m role) (p l : ℕ) (live : left (role p) ≡ suc l) where
   -- the count that is read is that of the book, and it is true
   pub count-is : countIn m sp p ≡ countOf m sp p
   count-is = count-in sp p (live-in w live) m

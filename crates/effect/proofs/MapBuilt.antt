@@ -8,6 +8,7 @@ use mathlib.Core.Path.{_≡_, refl, sym, ap, _∙_, subst}
 use native.Mathlib.Omega.{arith}
 use borrow.Author.Tests.{leb-true, leb-false}
 use lib.Dec.{leb, ltb}
+use Rattle.word.specs.Memory.{at, set}
 use Rattle.word.specs.Writes.{Write, write, after, Every}
 use Rattle.word.proofs.Writes.{every-one, every-append, every-map, after-append}
 use Rattle.entry.specs.Entry.{sizeOf, says}
@@ -267,10 +268,14 @@ module _ {h : ℕ → Bool} {sp : Space} {m : ℕ → ℕ} {role : ℕ → Role}
   spot : LiveEntry (grown3 .roles) (reached3 p .table) (reached3 p .level) (indexOf (reached3 p .level) (p .base))
   spot = record { live = comes-left (grown3 .down .built) (grown3 .down .comes); fits = index-lt (reached3 p .level) (p .base) }
 
+  page-memory : set (grown3 .now) (at (reached3 p .table) (indexOf (reached3 p .level) (p .base))) (p .word) ≡ after m (buildOf p)
+  unfolding after
+  page-memory = ap (λ (y : ℕ → ℕ). after y page) (grown3 .down .now) ∙ (sym (after-append m ((grow1 ++ grow2) ++ grow3) page) ∙ ap (after m) build-is)
+
   page-written : Tallied now (after m (buildOf p)) (grown3 .roles)
   page-written =
-      subst (λ y. Tallied now y (grown3 .roles)) (unfold after in (ap (λ (y : ℕ → ℕ). after y page) (grown3 .down .now) ∙ sym (after-append m ((grow1 ++ grow2) ++ grow3) page) ∙ ap (after m) build-is))
-      (unfold after in tallied-more (grown3 .tally) spot (p .word) (grown3 .nothing) (page-something (q .frame) (q .rights) (rw there word-says)))
+      subst (λ y. Tallied now y (grown3 .roles)) page-memory
+      (tallied-more (grown3 .tally) spot (p .word) (grown3 .nothing) (page-something (q .frame) (q .rights) (rw there word-says)))
 
   took-leaves : LeavesTables (settingOf h sp) (after m (buildOf p)) (grown3 .roles) took
   took-leaves = spare-untouched took (built .turns .built) took-spares

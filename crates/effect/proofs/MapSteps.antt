@@ -187,6 +187,12 @@ module _ {h : ℕ → Bool} {sp : Space} {m : ℕ → ℕ} {role : ℕ → Role}
       here : MayBeTable h sp p
       here = free-place p (g .down .unused p new)
 
+      small : p < 2 ^ 40
+      small = omega (arith, here .home .upto, w .small)
+
+      apart : t ≢ p
+      apart x = omega (arith, ap left new, ap (λ y. left (g .roles y)) x, comes-left (g .down .built) (g .down .comes))
+
       walked : left (g .roles t) ≡ suc (suc l)
       walked = comes-left (g .down .built) (g .down .comes)
 
@@ -203,12 +209,6 @@ module _ {h : ℕ → Bool} {sp : Space} {m : ℕ → ℕ} {role : ℕ → Role}
       -- the table at the top was no free page
       off : top ≢ p
       off x = omega (arith, live, ap (λ y. left (role y)) x, ap left (g .down .unused p new))
-
-      small : p < 2 ^ 40
-      small = omega (arith, here .home .upto, w .small)
-
-      apart : t ≢ p
-      apart x = omega (arith, ap left new, ap (λ y. left (g .roles y)) x, comes-left (g .down .built) (g .down .comes))
 
   -- ONE STEP of the plan
   pub grown-step : (more p : ℕ) (xs : List Write) (s : TableReached) → Grows (suc more) xs s

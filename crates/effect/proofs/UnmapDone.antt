@@ -119,7 +119,7 @@ module _ {h : ℕ → Bool} {sp : Space} {m : ℕ → ℕ} {role : ℕ → Role}
         last = last-level w va s k n (e .empty)
 
         small : c ≤ 512
-        small = omega (arith, e .count, count-most w (live-at w va s k n last))
+        small = omega (arith, e .count, count-most w (tableAt (s .way) n) (levelAt (s .way) n) (live-at w va s k n last))
 
         ks-book : Every (OfBook sp) ks
         ks-book = count-proper sp t (c - 1) (omega (arith, small))
@@ -141,7 +141,7 @@ module _ {h : ℕ → Bool} {sp : Space} {m : ℕ → ℕ} {role : ℕ → Role}
 
         -- the count that was read is that of the book
         was : countOf m sp (tableAt (s .way) n) ≡ c
-        was = sym (e .count ∙ count-is w (live-at w va s k n last))
+        was = sym (e .count ∙ count-is w (tableAt (s .way) n) (levelAt (s .way) n) (live-at w va s k n last))
 
         live-pool : (p l : ℕ) → left (role' p) ≡ suc l → InPool sp p
         live-pool p l x = pool-in sp p (live-in-pool (d .up .turns .built) (d .booked) x .0)
@@ -226,13 +226,13 @@ module _ {h : ℕ → Bool} {sp : Space} {m : ℕ → ℕ} {role : ℕ → Role}
         go (no z) = rw (ne-eqb n 0 z, book-opens w, takes n e)
 
     -- what the counts tell of the way
-    empties : ℕ
+    pub empties : ℕ
     empties = emptied m sp (s .way) .0
 
-    stays : ℕ
+    pub stays : ℕ
     stays = emptied m sp (s .way) .1
 
-    count : ℕ
+    pub count : ℕ
     count = emptied m sp (s .way) .2
 
     told : Emptied m sp (s .way) empties stays count
@@ -245,15 +245,16 @@ module _ {h : ℕ → Bool} {sp : Space} {m : ℕ → ℕ} {role : ℕ → Role}
     -- it is one that a table can have
     count-can : (1 ≤ count) × (count ≤ 512)
     count-can = (
-      omega (arith, told .count, count-some w (live-at w va s k empties last) (indexOf (levelAt (s .way) empties) va) (index-lt (levelAt (s .way) empties) va) (says-at w va s k empties last)),
-      omega (arith, told .count, count-most w (live-at w va s k empties last)),
+      omega (arith, told .count, count-some w (tableAt (s .way) empties) (levelAt (s .way) empties) (live-at w va s k empties last) (indexOf (levelAt (s .way) empties) va) (index-lt (levelAt (s .way) empties) va) (says-at w va s k empties last)),
+      omega (arith, told .count, count-most w (tableAt (s .way) empties) (levelAt (s .way) empties) (live-at w va s k empties last)),
     )
 
     weighs : weighedOf h m sp s (emptiedOf m sp (s .way)) ≡ Go (removal s empties stays (count - 1) (bookRead m sp empties))
     unfolding weighedOf empties stays count
     weighs =
         let can = count-can in
-        rw (emptied m sp (s .way) .3) (simp (ne-eqb _ 0 (λ e. omega (arith, e, can .0)), le-ltb 512 _ (can .1)) (removes _ _ _ (told .empty)))
+        rw (emptied m sp (s .way) .3) (simp (ne-eqb (emptied m sp (s .way) .2) 0 (λ e. omega (arith, e, can .0)), le-ltb 512 (emptied m sp (s .way) .2) (can .1))
+        (removes (emptied m sp (s .way) .0) (emptied m sp (s .way) .1) (emptied m sp (s .way) .2 - 1) (told .empty)))
 
     pub unmap-decided : findOf h m sp va ≡ sought.Found s → decideOf h m sp va ≡ Go (removal s empties stays (count - 1) (bookRead m sp empties))
     unfolding decideOf removingOf
