@@ -3,15 +3,19 @@ use Prim.Native.Nat.{ℕ, suc, _^_, _<_}
 use mathlib.Core.Bool.{Bool, true}
 use mathlib.Core.List.{List}
 use mathlib.Core.Logic.{inr}
-use mathlib.Core.Path.{_≡_}
+use mathlib.Core.Path.{_≡_, sym, _∙_}
 use native.Mathlib.Omega.{arith}
+use Rattle.word.specs.Memory.{at}
 use Rattle.word.specs.Writes.{Write, Every}
 use Rattle.word.proofs.Writes.{every-map}
+use Rattle.entry.specs.Entry.{says}
 use Rattle.walk.specs.Walk.{canonical}
 use Rattle.tables.specs.Roles.{Role, left}
 use Rattle.tables.proofs.Clearing.{Spare, book-spare}
+use Rattle.tables.proofs.Saying.{saying-same}
 use Rattle.pool.specs.Book.{bookOf, namesOf, openedOf}
 use Rattle.pool.specs.Booked.{settingOf, Booked, Owned}
+use Rattle.pool.specs.Counting.{countOf, Counted}
 use Rattle.pool.specs.declared.Space.{Space}
 use Rattle.pool.specs.declared.Fit.the-variants as fit
 use Rattle.pool.specs.declared.Opened.the-variants as opened
@@ -53,6 +57,12 @@ module _ {h : ℕ → Bool} {sp : Space} {m : ℕ → ℕ} {role : ℕ → Role}
 
   pub live-held : {q l : ℕ} → left (role q) ≡ suc l → h q ≡ true
   live-held e = live-in-pool (w .sound .built) (w .booked) e .1
+
+  -- the counts are true of another memory with the same counts, where the tables say the same
+  pub counted-alike : (m' : ℕ → ℕ) → ((q l i : ℕ) → left (role q) ≡ suc l → i < 512 → says l (m' (at q i)) ≡ says l (m (at q i)))
+      → ((q : ℕ) → InPool sp q → countOf m' sp q ≡ countOf m sp q) → Counted sp m' role
+  counted-alike m' same counts =
+      record { tally = λ p l e. counts p (live-in e) ∙ (w .counted .tally p l e ∙ sym (saying-same m m' l p 512 (λ j u. same p l j e u))) }
 
   -- every page of the pool lies in the window, so that what is proved of memory holds of the bytes
   pub pool-held : (q : ℕ) → OfPool sp q → h q ≡ true

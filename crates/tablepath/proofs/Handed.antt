@@ -1,4 +1,4 @@
--- A map that makes no table: the answer, and the one write.
+-- A map that makes no table: the answer, and the two writes.
 use Prim.Native.Nat.{ℕ}
 use mathlib.Core.Bool.{Bool}
 use mathlib.Core.Path.{_≡_, sym, ap, _∙_}
@@ -15,6 +15,6 @@ module _ (h : ℕ → Bool) (m : ℕ → ℕ) (sp : Space) (q : Asked) (c : Leaf
   unfolding mapAnswer mapSaid
   here-answer = sym (rw (k .decided) (ap mapped.Done (k .need)))
 
-  pub here-writes : map.leafWrites c ≡ mapWrites h m sp q
+  pub here-writes : map.leafWrites sp c ≡ mapWrites h m sp q
   unfolding mapWrites
   here-writes = here-did sp (map.decideOf h m sp q) c k

@@ -1,6 +1,6 @@
 -- ONE HANDLE. Where a space is whole, every call that names its first page with other pages or another root, or begins at another page of its
 -- pool, is refused and writes nothing. A call that is not refused found a book with exactly its numbers; and it leaves every other space.
-use Prim.Native.Nat.{ℕ, _+_, _*_, _/_, _%_, _<_, _≤_}
+use Prim.Native.Nat.{ℕ, _+_, _-_, _*_, _/_, _%_, _<_, _≤_}
 use mathlib.Core.Bool.{Bool, true}
 use mathlib.Core.List.{List, []}
 use mathlib.Core.Logic.{_⊎_, inl, inr, _≢_}
@@ -15,9 +15,10 @@ use Rattle.entry.specs.Clean.{Clean}
 use Rattle.entry.specs.Entry.{says}
 use Rattle.tables.specs.Roles.{Role, left}
 use Rattle.tables.proofs.Unseen.{TablesAlike, alike-sound}
-use Rattle.pool.specs.Layout.{signatureAt, pagesAt, rootAt}
+use Rattle.pool.specs.Layout.{signatureAt, pagesAt, rootAt, countAt, bookWords}
 use Rattle.pool.specs.Book.{wordOf, signature, roomOf, headedOf, rootedIn, namesIn, namesOf, openedOf, openedIn}
 use Rattle.pool.specs.Booked.{settingOf, SameBook}
+use Rattle.pool.specs.Counting.{countOf}
 use Rattle.pool.specs.declared.Space.{Space}
 use Rattle.pool.specs.declared.Fit.{Fit}
 use Rattle.pool.specs.declared.Fit.the-variants as fit
@@ -25,7 +26,8 @@ use Rattle.pool.specs.declared.Reason.{Reason as PoolReason}
 use Rattle.pool.proofs.Far.{word-at}
 use Rattle.pool.proofs.Booked.{booked-same}
 use Rattle.pool.proofs.Opening.{names-shows, fit-inside}
-use Rattle.pool.proofs.Words.{word-in}
+use Rattle.pool.proofs.Counts.{InPool}
+use Rattle.pool.proofs.Words.{word-in, listed-word, count-word}
 use Rattle.plan.specs.Find.{findOf, soughtOf}
 use Rattle.plan.specs.Map as map
 use Rattle.plan.specs.Unmap as unmap
@@ -42,6 +44,7 @@ use Rattle.tablepath.specs.Answers.{mapAnswer, mapWrites, mapSaid, unmap
 use Rattle.tablepath.specs.Calls.{Call, callWrites}
 use Rattle.tablepath.specs.Calls as calls
 use Rattle.tablepath.specs.Handles.{Refuses, Rejected, NamedNot, RefusedFor, BookAt, Disjoint}
+use Rattle.effect.proofs.Wholes.{counted-alike}
 use Rattle.tablepath.proofs.InPool.{call-in-pool}
 use Rattle.tablepath.specs.Looks.{WholeBytes}
 
@@ -132,6 +135,7 @@ same-whole {h} {sp} {m} {role} m' w same = record {
   small = w .small;
   sound = alike-sound (w .sound .built) m' alike (w .sound .filled);
   booked = booked-same book (w .booked);
+  counted = counted-alike w m' (λ q l i e u. alike q l i e u .0 l) count;
   alone = λ p u v e. w .alone p u v (sym (same p signatureAt (omega arith, v) (unfold signatureAt in omega arith)) ∙ e);
 }
   where
@@ -141,8 +145,14 @@ same-whole {h} {sp} {m} {role} m' w same = record {
         let e = same q i (home .from, home .upto) u in
         (λ j. ap (says j) e, λ z. e ∙ z, λ j c. subst (Clean j) (sym e) c)
 
+    word : (k : ℕ) → k < bookWords (sp .pages) → m' (wordOf sp k) ≡ m (wordOf sp k)
+    word k u = let i = word-in sp k u in rw (← word-at (sp .first) k) (same (sp .first + k / 512) (k % 512) (omega arith, omega (arith, i .1, w .booked .sound .room)) (omega arith))
+
     book : SameBook sp m m'
-    book = record { words = λ k u. let i = word-in sp k u in rw (← word-at (sp .first) k) (same (sp .first + k / 512) (k % 512) (omega arith, omega (arith, i .1, w .booked .sound .room)) (omega arith)) }
+    book = record { words = λ k u. word k (listed-word (sp .pages) k u) }
+
+    count : (p : ℕ) → InPool sp p → countOf m' sp p ≡ countOf m sp p
+    count p u = unfold countOf in word (countAt (sp .pages) (p - sp .first)) (count-word (sp .pages) (p - sp .first) (omega (arith, u .behind, u .before-end)))
 
 -- a call writes nothing of another pool
 module _ (h : ℕ → Bool) (m : ℕ → ℕ) (sp other : Space) (d : Disjoint sp other) (c : Call) where

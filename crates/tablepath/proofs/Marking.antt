@@ -1,6 +1,6 @@
 -- THE SAME BUT FOR MARKS, in the pool: what the code saw of memory, and memory itself against what the writes alone make of it. All that holds
 -- between operations holds of the one as of the other.
-use Prim.Native.Nat.{ℕ, _+_, _/_, _%_, _<_, _≤_}
+use Prim.Native.Nat.{ℕ, _+_, _-_, _/_, _%_, _<_, _≤_}
 use mathlib.Core.Bool.{Bool}
 use mathlib.Core.List.{List, [], _∷_, _++_}
 use mathlib.Core.Logic.{_⊎_, inl, inr, _≢_}
@@ -24,13 +24,16 @@ use Rattle.tables.proofs.Meaning.{live-home}
 use Rattle.tables.proofs.Unseen.{TablesAlike, alike-sound}
 use Rattle.tables.specs.Discipline.{walkerOf}
 use Rattle.tables.specs.Clearing.{eventsOf}
-use Rattle.pool.specs.Layout.{signatureAt, bookPages}
+use Rattle.pool.specs.Layout.{signatureAt, countAt, bookPages}
 use Rattle.pool.specs.Book.{wordOf}
 use Rattle.pool.specs.Book as book
 use Rattle.pool.specs.Booked.{settingOf, SameBook}
-use Rattle.pool.proofs.Words.{word-in}
+use Rattle.pool.specs.Counting.{countOf}
+use Rattle.pool.proofs.Counts.{InPool}
+use Rattle.pool.proofs.Words.{word-in, listed-word, count-word}
 use Rattle.pool.specs.declared.Space.{Space}
 use Rattle.pool.proofs.Booked.{booked-same}
+use Rattle.effect.proofs.Wholes.{counted-alike}
 use Rattle.effect.specs.Whole.{Whole}
 use Rattle.tablepath.specs.Calls.{callWrites, PoolWord, Remarked, Saw, Act, actWrites, wrote, Others}
 
@@ -174,8 +177,16 @@ module _ (sp : Space) where
   -- The book is the same.
   pub saw-book : {m n : ℕ → ℕ} → Saw sp m n → bookPages (sp .pages) ≤ sp .pages → SameBook sp m n
   saw-book {m} {n} k fits = record {
-    words = λ j u. let i = word-in sp j u in remarked-book sp (wordOf sp j) (m (wordOf sp j)) (n (wordOf sp j)) (i .0) (i .1) (k (wordOf sp j) (i .0, omega (arith, i .1, fits)));
+    words = λ j u. let i = word-in sp j (listed-word (sp .pages) j u) in remarked-book sp (wordOf sp j) (m (wordOf sp j)) (n (wordOf sp j)) (i .0) (i .1) (k (wordOf sp j) (i .0, omega (arith, i .1, fits)));
   }
+
+  -- and so are the counts
+  saw-count : {m n : ℕ → ℕ} → Saw sp m n → bookPages (sp .pages) ≤ sp .pages → (p : ℕ) → InPool sp p → countOf n sp p ≡ countOf m sp p
+  unfolding countOf
+  saw-count {m} {n} k fits p u =
+      let a = countAt (sp .pages) (p - sp .first) in
+      let i = word-in sp a (count-word (sp .pages) (p - sp .first) (omega (arith, u .behind, u .before-end))) in
+      remarked-book sp (wordOf sp a) (m (wordOf sp a)) (n (wordOf sp a)) (i .0) (i .1) (k (wordOf sp a) (i .0, omega (arith, i .1, fits)))
 
 module _ (h : ℕ → Bool) (sp : Space) where
   -- In our cells the two show the same; and what others do is fair.
@@ -209,6 +220,7 @@ module _ (h : ℕ → Bool) (sp : Space) where
     small = w .small;
     sound = alike-sound (w .sound .built) n (saw-alike k (w .sound .built)) (w .sound .filled);
     booked = booked-same (saw-book sp k (book-fits w)) (w .booked);
+    counted = counted-alike w n (λ q l i e u. saw-alike k (w .sound .built) q l i e u .0 l) (saw-count sp k (book-fits w));
     alone = λ p u v e. alone p u v e (k (at p signatureAt) (omega (arith, page-of p signatureAt (omega arith)), omega (arith, page-of p signatureAt (omega arith))));
   }
     where

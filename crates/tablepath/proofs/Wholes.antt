@@ -80,6 +80,7 @@ module _ (s : List ℕ) (origin first pages : ℕ) where
           small = fit-small s origin first pages f;
           sound = k .1 .sound;
           booked = k .1 .booked;
+          counted = k .1 .counted;
           alone = k .1 .alone;
         },
       )
