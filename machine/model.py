@@ -36,7 +36,7 @@ class Tables:
         return self.words[self.at(page, index)]
 
     def header(self, k):
-        return self.word(self.start, k)
+        return self.word(self.start + k // 512, k % 512)
 
     def walk(self, va):
         """(base, size, frame, rights) of the page that the address has, or None; what is no address is said to be none."""
@@ -92,6 +92,17 @@ class Tables:
     def put(self, k, word):
         return self.at(self.start, k), word
 
+    def counter(self, table):
+        """The word of the book that counts the entries of a table."""
+        return HEADER + self.pages + table - self.start
+
+    def count(self, table):
+        return self.header(self.counter(table))
+
+    def miscounted(self):
+        """The tables whose count is not the number of their entries that say something."""
+        return [page for page in self.linked() if self.count(page) != sum(self.word(page, i) & 1 for i in range(512))]
+
     # What each stores, as (word's number in the window, word); None where it should refuse.
 
     def map(self, base, frame, size, rights):
@@ -106,18 +117,19 @@ class Tables:
         free = self.header(FREE_AT)
         if word & 1 or free < missing:
             return None
-        stores, table, level = [], way[-1], 3 - (len(way) - 1)
+        stores, new_counts, table, level = [], [], way[-1], 3 - (len(way) - 1)
         for k in range(missing):
             new = self.word(self.start + self.slot(k) // 512, self.slot(k) % 512)
             stores += [(self.at(new, i), 0) for i in range(512)]
             stores.append((self.at(table, base >> 12 + 9 * level & 511), new << 12 | 7))
             table, level = new, level - 1
+            new_counts.append(self.put(self.counter(new), 1))
         writable, user, noexec = rights & 1, rights >> 1 & 1, rights >> 2 & 1
         word = frame | 1 | writable << 1 | user << 2 | (128 if target else 0) | noexec << 63
         stores.append((self.at(table, base >> 12 + 9 * target & 511), word))
         if missing:
             stores += [self.put(HEAD_AT, self.slot(missing) - HEADER), self.put(FREE_AT, free - missing)]
-        return stores
+        return [*stores, *new_counts, self.put(self.counter(way[-1]), self.count(way[-1]) + 1)]
 
     def starts(self, base):
         found = self.walk(base)
@@ -139,7 +151,7 @@ class Tables:
             slot = self.slot(self.header(FREE_AT) + aside)
             stores += [(self.at(way[-1], gone), 0), self.put(slot, child), self.put(ASIDE_AT, aside + 1)]
             aside += 1
-        return stores
+        return [*stores, self.put(self.counter(way[-1]), self.count(way[-1]) - 1)]
 
     def protect(self, base, rights):
         found = self.starts(base)

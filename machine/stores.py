@@ -2,7 +2,7 @@
 """stores PROGRAM [PREFIX]: random operations of the library's x86-64 code, and every store of each held to what it should be:
 one aligned store of 8 bytes for each planned write, in the planned order; after every single store the tables mean to each sampled
 address what they meant before the operation or what they mean after it, and it turns at one store only; no store into a page that
-is set aside; none outside the pool. Bases are of both halves and of the hole between them. No load is beyond the window, and an entry of a linked table is loaded once in an operation, by one
+is set aside; none outside the pool; and then the count of each table is the number of its entries that are present. Bases are of both halves and of the hole between them. No load is beyond the window, and an entry of a linked table is loaded once in an operation, by one
 load; but a map that could not be done at once begins anew at the root, before any store. Look-up loads each entry of the way once, whole, from
 the root down, and nothing else; entry loads one; and neither they nor state store anything. The last line counts the operations."""
 import os
@@ -106,6 +106,8 @@ class Night:
         self.held(what, before, planned or [], samples, old, new)
         if bytes(self.code.window()) != bytes(tables.words.cast('B')):
             raise Wrong(f'{what} left bytes that no recorded store put there')
+        if tables.miscounted():
+            raise Wrong(f'{what} leaves a count that is wrong')
         self.keep(operation, arguments, planned, before)
         if planned is not None and operation in ('tp_raw_unmap', 'tp_raw_protect') and answer[-1] != tables.ticket():
             raise Wrong(f'{what} answered the ticket {answer[-1]}, not {tables.ticket()}')

@@ -156,6 +156,23 @@ impl<'a> Pool<'a> {
         self.tables.len() as u64 - 1
     }
 
+    /// The word of the book that counts the entries of the table at this place.
+    #[inline]
+    fn counter(&self, place: usize) -> usize {
+        SLOTS + self.pages as usize + self.book.len() + place
+    }
+
+    /// How many entries of the table say something.
+    #[inline]
+    fn count(&self, place: usize) -> u64 {
+        get(&self.book.as_flattened()[self.counter(place)])
+    }
+
+    #[inline]
+    fn set_count(&mut self, place: usize, count: u64) {
+        self.write(self.counter(place), count);
+    }
+
     #[inline]
     fn write(&mut self, word: usize, to: u64) {
         put(&mut self.book.as_flattened_mut()[word], to);
@@ -171,17 +188,6 @@ impl<'a> Pool<'a> {
         }
         Ok(place)
     }
-}
-
-/// Is no entry of the table present but this one, which is?
-#[inline]
-fn is_lone(table: &Table, index: usize) -> bool {
-    // In blocks: a table with many entries shows at once, and an empty one is read fast.
-    let mut blocks = table.as_chunks::<16>().0.iter().enumerate();
-    blocks.all(|(number, block)| {
-        let found: u64 = block.iter().map(|entry| get(entry) & 1).sum();
-        found == u64::from(number == index / 16)
-    })
 }
 
 /// Makes a pool of these pages, with its book and an empty root, and answers the root's physical address.
@@ -240,7 +246,7 @@ pub fn map(mem: &mut [u8], space: &Space, base: u64, frame: u64, size: u64, righ
     if frame > LIMIT - size {
         return Err(Reason::FrameRange);
     }
-    let pool = Pool::of(mem, space)?;
+    let mut pool = Pool::of(mem, space)?;
     if frame < space.pool + space.pages * PAGE && space.pool < frame + size {
         return Err(Reason::FrameInPool);
     }
@@ -269,6 +275,8 @@ pub fn map(mem: &mut [u8], space: &Space, base: u64, frame: u64, size: u64, righ
     };
     if level == target {
         put(entry, page);
+        let count = pool.count(at);
+        pool.set_count(at, count.wrapping_add(1));
         return Ok(0);
     }
     grow(pool, &way, level, target, base, page)
@@ -300,6 +308,11 @@ fn grow(mut pool: Pool, way: &[usize], level: usize, target: usize, base: u64, p
     put(&mut pool.tables[at][index(target, base)], page);
     pool.write(HEAD, book.turn(need as u64));
     pool.write(FREE, book.free - need as u64);
+    for place in &new[..need] {
+        pool.set_count(*place, 1);
+    }
+    let count = pool.count(way[level]);
+    pool.set_count(way[level], count.wrapping_add(1));
     Ok(need as u64)
 }
 
@@ -308,12 +321,19 @@ pub fn unmap(mem: &mut [u8], space: &Space, base: u64) -> Result<Unmapped, Reaso
     let mut pool = Pool::of(mem, space)?;
     let Spot { level, word, way } = pool.find(base)?;
     let mut empty = 0;
-    while level + empty < ROOT_LEVEL && is_lone(&pool.tables[way[level + empty]], index(level + empty, base)) {
+    let mut count = pool.count(way[level]);
+    while level + empty < ROOT_LEVEL && count == 1 {
         empty += 1;
+        count = pool.count(way[level + empty]);
+    }
+    // No table has none or more than 512.
+    if count == 0 || count > 512 {
+        return Err(Reason::BadBook);
     }
     let (frame, size) = (frame(level, word), size(level));
     if empty == 0 {
         put(&mut pool.tables[way[level]][index(level, base)], 0);
+        pool.set_count(way[level], count - 1);
         return Ok(Unmapped { frame, size, aside: 0, ticket: pool.ticket() });
     }
     let book = pool.open()?;
@@ -329,6 +349,7 @@ pub fn unmap(mem: &mut [u8], space: &Space, base: u64) -> Result<Unmapped, Reaso
         aside += 1;
         pool.write(ASIDE, aside);
     }
+    pool.set_count(way[level + empty], count - 1);
     Ok(Unmapped { frame, size, aside: empty as u64, ticket: book.tickets + aside })
 }
 

@@ -70,13 +70,20 @@ impl Memory {
         }
     }
 
-    /// Is no entry of the table present but this one, which is?
+    /// How many entries of the table say something, in the book.
     #[inline]
-    unsafe fn is_lone(self, table: u64, index: usize) -> bool {
-        (0..32).all(|block| {
-            let found: u64 = (0..16).map(|entry| self.get(table, 16 * block + entry) & 1).sum();
-            found == u64::from(block == index / 16)
-        })
+    unsafe fn counter(self, space: &Space, table: u64) -> *mut u64 {
+        self.entry(space.pool, SLOTS + (space.pages + (table - space.pool) / PAGE) as usize)
+    }
+
+    #[inline]
+    unsafe fn count(self, space: &Space, table: u64) -> u64 {
+        u64::from_le(self.counter(space, table).read_unaligned())
+    }
+
+    #[inline]
+    unsafe fn set_count(self, space: &Space, table: u64, count: u64) {
+        self.counter(space, table).write_unaligned(count.to_le());
     }
 }
 
@@ -121,8 +128,11 @@ pub unsafe fn map(mem: *mut u8, space: &Space, base: u64, frame: u64, size: u64,
         at = table(word);
         level -= 1;
     }
+    let top = at;
+    let count = memory.count(space, top);
     if level == target {
         memory.put(at, index(level, base), page);
+        memory.set_count(space, top, count + 1);
         return Ok(0);
     }
     let book = memory.book(space);
@@ -134,12 +144,14 @@ pub unsafe fn map(mem: *mut u8, space: &Space, base: u64, frame: u64, size: u64,
         let new = memory.get(space.pool, book.slot(position)) * PAGE;
         memory.clear(new);
         memory.put(at, index(level, base), table_word(new));
+        memory.set_count(space, new, 1);
         at = new;
         level -= 1;
     }
     memory.put(at, index(target, base), page);
     memory.put(space.pool, HEAD, book.turn(need));
     memory.put(space.pool, FREE, book.free - need);
+    memory.set_count(space, top, count + 1);
     Ok(need)
 }
 
@@ -155,10 +167,13 @@ pub unsafe fn unmap(mem: *mut u8, space: &Space, base: u64) -> Result<Unmapped, 
     // Levels are at most the root's.
     let table = |level: usize| *way.get_unchecked(level);
     let mut up = level;
-    while up < ROOT_LEVEL && memory.is_lone(table(up), index(up, base)) {
+    let mut count = memory.count(space, table(up));
+    while up < ROOT_LEVEL && count == 1 {
         up += 1;
+        count = memory.count(space, table(up));
     }
     memory.put(table(level), index(level, base), 0);
+    memory.set_count(space, table(up), count - 1);
     if up == level {
         let book = memory.book(space);
         return Ok(Unmapped { frame, size, aside: 0, ticket: book.aside + book.tickets });

@@ -1,5 +1,6 @@
 //! Book-keeping, read from the bytes: each page of the pool is the book's, the root, a table that is reached once, free or
-//! set aside, and never two of these; and the pages that the tables map are those of the ledger.
+//! set aside, and never two of these; the pages that the tables map are those of the ledger; and the count of each table is
+//! the number of its entries.
 
 use crate::layout::{ASIDE, FREE, HEAD, HEADER};
 use crate::ledger::{Ledger, Mapping};
@@ -36,20 +37,25 @@ impl Tree<'_> {
     fn read(&mut self, page: u64, base: u64, size: u64) -> Result<(), String> {
         let start = (page * 4096).checked_sub(self.space.origin).ok_or("a table lies below the window")? as usize;
         let table = self.mem.get(start..start + 4096).ok_or("a table lies above the window")?;
-        let mut empty = true;
+        let mut entries = 0;
         for (index, entry) in table.chunks_exact(8).enumerate() {
             let word = u64::from_le_bytes(entry.try_into().expect("eight bytes"));
             if word == 0 {
                 continue;
             }
-            empty = false;
+            entries += 1;
             let base = base + index as u64 * size;
             // The upper half of the root's entries is that of the addresses.
             let base = if size == 1 << 39 && index >= 256 { base + (0xffff << 48) } else { base };
             self.entry(word, base, size).map_err(|why| format!("{why}: {word:#x}, entry {index} of page {page:#x}"))?;
         }
-        if empty && page != self.space.root / 4096 {
+        if entries == 0 && page != self.space.root / 4096 {
             return Err(format!("the table in page {page:#x} is empty, and linked"));
+        }
+        let counter = HEADER + self.space.pages + page - self.space.pool / 4096;
+        let count = word(self.mem, (self.space.pool - self.space.origin + 8 * counter) as usize);
+        if count != entries {
+            return Err(format!("the count of page {page:#x} is {count}, and it has {entries} entries"));
         }
         Ok(())
     }

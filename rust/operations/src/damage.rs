@@ -75,7 +75,7 @@ impl Scene {
         let Setup { origin, pool, pages, len, .. } = self.setup;
         let word = |at: usize| u64::from_le_bytes(run.window()[at..at + 8].try_into().expect("eight bytes"));
         let book = |word: u64| (pool - origin + 8 * word) as usize;
-        match self.random.below(16) {
+        match self.random.below(18) {
             0..=2 => {
                 let at = 8 * self.random.index(len / 8);
                 Step::Put { at, word: word(at) ^ 1 << self.random.below(64) }
@@ -109,7 +109,14 @@ impl Scene {
                     self.random.pick(&[page, page, page, self.setup.space().root / KIB4, page + pages, page << 40]);
                 Step::Put { at: book(HEADER + slot), word }
             }
-            8 => {
+            // A count: one that no table can have, or one that is wrong.
+            8 | 9 => {
+                let at = book(HEADER + pages + self.random.below(pages));
+                let old = word(at);
+                let word = self.random.pick(&[0, 1, 1, 2, 512, 513, old.wrapping_add(1), old.wrapping_sub(1), u64::MAX]);
+                Step::Put { at, word }
+            }
+            10 => {
                 let at = (self.page() - origin) as usize;
                 Step::Fill { at, junk: self.random.word() }
             }

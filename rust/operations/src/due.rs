@@ -198,6 +198,15 @@ impl<'a> Pool<'a> {
         }
     }
 
+    /// The word of the book that counts the entries of the table in which this entry lies.
+    fn counter(&self, entry: u64) -> u64 {
+        HEADER + self.space.pages + (entry - self.space.pool) / 4096
+    }
+
+    fn count(&self, entry: u64) -> u64 {
+        self.word(self.counter(entry))
+    }
+
     fn book_word(&self, word: u64, value: u64) -> Write {
         Word(self.space.pool + 8 * word, value)
     }
@@ -224,17 +233,21 @@ impl<'a> Pool<'a> {
         let need = level(kind) - target;
         let mut writes = vec![];
         let mut at = walk.way[kind as usize].expect("the walk read it").address;
+        let top = at;
         let mut after = vec![];
         if need > 0 {
             let book = self.open()?;
             let way: Vec<u64> = walk.way.iter().flatten().map(|read| read.address / 4096 * 4096).collect();
-            for (down, page) in (1..).zip(self.take(&book, need, &way)?) {
-                writes.extend([Clear(page), Word(at, page + 7)]);
-                at = page + 8 * index(level(kind) - down, base);
-            }
+            let pages = self.take(&book, need, &way)?;
             after.push(self.book_word(HEAD, (book.head + need) % self.space.pages));
             after.push(self.book_word(FREE, book.free - need));
+            for (down, page) in (1..).zip(pages) {
+                writes.extend([Clear(page), Word(at, page + 7)]);
+                at = page + 8 * index(level(kind) - down, base);
+                after.push(self.book_word(self.counter(page), 1));
+            }
         }
+        after.push(self.book_word(self.counter(top), self.count(top).wrapping_add(1)));
         let large = if target > 0 { 1 << 7 } else { 0 };
         writes.push(Word(at, frame + 1 + large + rights_bits(rights)));
         writes.extend(after);
@@ -254,19 +267,19 @@ impl<'a> Pool<'a> {
         }
     }
 
-    /// Is the entry the only one of its table that is present?
-    fn lone(&self, entry: u64) -> bool {
-        let start = (entry / 4096 * 4096 - self.tables.origin) as usize;
-        let table = &self.tables.bytes[start..start + 4096];
-        (0..512).all(|index| table[8 * index] % 2 == 0 || index as u64 == entry % 4096 / 8)
-    }
-
     fn unmap(&self, base: u64) -> Outcome {
         let (way, frame, size) = self.starts(base)?;
         let mut writes = vec![Word(way[0].address, 0)];
-        // The last of the way is the root's, and the root stays.
-        let empty = way[..way.len() - 1].iter().take_while(|entry| self.lone(entry.address)).count();
+        // Where a count is 1, its table becomes empty. The last of the way is the root's, and the root stays.
+        let empty = way[..way.len() - 1].iter().take_while(|entry| self.count(entry.address) == 1).count();
+        let stays = way[empty].address;
+        // No table has none or more than 512.
+        if !(1..=512).contains(&self.count(stays)) {
+            return Err(22);
+        }
+        let lowered = self.book_word(self.counter(stays), self.count(stays) - 1);
         if empty == 0 {
+            writes.push(lowered);
             let ticket = self.ticket();
             return Ok((Answer::Unmapped(Unmapped { frame, size, ticket, ..Unmapped::default() }), writes));
         }
@@ -280,6 +293,7 @@ impl<'a> Pool<'a> {
             writes.push(self.book_word(self.slot(&book, book.free + book.aside + more), pair[0].address / 4096));
             writes.push(self.book_word(ASIDE, book.aside + more + 1));
         }
+        writes.push(lowered);
         let ticket = book.tickets + book.aside + aside;
         Ok((Answer::Unmapped(Unmapped { reason: 0, frame, size, aside, ticket }), writes))
     }
