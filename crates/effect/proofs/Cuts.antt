@@ -35,7 +35,7 @@ use Rattle.pool.proofs.Booked.{Beside, book-beside, numbered-beside, booked-bes
 use Rattle.plan.specs.declared.descent.Way.{Way}
 use Rattle.plan.specs.declared.finding.PageEntry.{PageEntry}
 use Rattle.plan.specs.declared.unmaps.Removal.{Removal}
-use Rattle.plan.specs.Unmap.{cutWrites, cutBook, book1, book2, writesOf}
+use Rattle.plan.specs.Unmap.{cutWrites, cutBook, book1, book2, staysOf, writesOf}
 use Rattle.effect.specs.UnmapDone.{asideMore}
 use Rattle.effect.specs.Whole.{Whole}
 use Rattle.plan.proofs.Weighing.{tableAt, levelAt, Empty, Emptied}
@@ -107,9 +107,9 @@ pub cutRoles : (ℕ → Role) → Way → ℕ → ℕ → Role
 cutRoles role y zero = role
 cutRoles role y (suc j) = set (cutRoles role y j) (tableAt y j) aside
 
--- the removal of a page, with n tables; the table t stays, with c entries
-abbrev pub removal : PageEntry → ℕ → ℕ → ℕ → Book → Removal
-removal s n t c b = record { page = s; empties = n; table = t; count = c; book = b }
+-- the removal of a page, with n tables; the next one stays, with c entries
+abbrev pub removal : PageEntry → ℕ → ℕ → Book → Removal
+removal s n c b = record { page = s; empties = n; count = c; book = b }
 
 module _ {h : ℕ → Bool} {sp : Space} {m : ℕ → ℕ} {role : ℕ → Role} (w : Whole h sp m role) (va : ℕ) (s : PageEntry) (k : Located (settingOf h sp) m role va s) where
   -- the tables of the way name each other, and the walk comes to each
@@ -168,9 +168,9 @@ module _ {h : ℕ → Bool} {sp : Space} {m : ℕ → ℕ} {role : ℕ → Role}
   last-level (suc n) f = omega (arith, f n (omega arith) .0)
 
   -- DONE, at the table that stays
-  pub cut-changed : (n t c : ℕ) → Emptied m sp (s .way) n t c
+  pub cut-changed : (n c : ℕ) → Emptied m sp (s .way) n c
       → Changed (settingOf h sp) m role va (s .way .level) found.Nothing (cuts sp m va (s .way) n) (after m (cuts sp m va (s .way) n)) (cutRoles role (s .way) n)
-  cut-changed n t c e = unmap-done (d .up) (stay (e .stays))
+  cut-changed n c e = unmap-done (d .up) (stay (e .stays))
     where
       d : Rising h sp m role va (s .way .level) n (cuts sp m va (s .way) n) (cutRoles role (s .way) n) (levelAt (s .way) n) (tableAt (s .way) n)
       d = risen n (e .empty)
@@ -199,24 +199,24 @@ module _ {h : ℕ → Bool} {sp : Space} {m : ℕ → ℕ} {role : ℕ → Role}
       let d = risen j (λ i u. f i (omega arith)) in
       aside-one sp (after m (cuts sp m va (s .way) j)) (d .booked) ∙ ap (asideMore 1) (d .book) ∙ aside-more j (bookOf m sp) ∙ sym (risen (suc j) f .book)
 
-  module _ (n t c : ℕ) (b : Book) (f : Empty m sp (s .way) n) (e : 0 < n → b ≡ bookOf m sp) where
+  module _ (n c : ℕ) (b : Book) (f : Empty m sp (s .way) n) (e : 0 < n → b ≡ bookOf m sp) where
     zeroth : 0 < n → b ≡ bookThen 0
     zeroth u = e u ∙ sym book-first
 
-    first : 0 < n → book1 sp (removal s n t c b) ≡ bookThen 1
+    first : 0 < n → book1 sp (removal s n c b) ≡ bookThen 1
     first u = cut-book sp 0 n b u ∙ ap (asideBook sp) (zeroth u) ∙ book-next 0 (λ j v. f j (omega arith))
 
-    second : 1 < n → book2 sp (removal s n t c b) ≡ bookThen 2
-    second u = cut-book sp 1 n (book1 sp (removal s n t c b)) u ∙ ap (asideBook sp) (first (omega arith)) ∙ book-next 1 (λ j v. f j (omega arith))
+    second : 1 < n → book2 sp (removal s n c b) ≡ bookThen 2
+    second u = cut-book sp 1 n (book1 sp (removal s n c b)) u ∙ ap (asideBook sp) (first (omega arith)) ∙ book-next 1 (λ j v. f j (omega arith))
 
     abbrev C0 : List Write
     C0 = cutWrites sp 0 n (s .way .b) (indexOf (s .way .level + 1) va) (s .way .a) b
 
     abbrev C1 : List Write
-    C1 = cutWrites sp 1 n (s .way .c) (indexOf (s .way .level + 2) va) (s .way .b) (book1 sp (removal s n t c b))
+    C1 = cutWrites sp 1 n (s .way .c) (indexOf (s .way .level + 2) va) (s .way .b) (book1 sp (removal s n c b))
 
     abbrev C2 : List Write
-    C2 = cutWrites sp 2 n (s .way .d) (indexOf (s .way .level + 3) va) (s .way .c) (book2 sp (removal s n t c b))
+    C2 = cutWrites sp 2 n (s .way .d) (indexOf (s .way .level + 3) va) (s .way .c) (book2 sp (removal s n c b))
 
     is0 : 0 < n → C0 ≡ cutting sp (s .way .b) (indexOf (suc (s .way .level)) va) (s .way .a) (bookThen 0)
     is0 u = cut-is sp 0 n _ _ _ _ _ _ u (ap (λ x. indexOf x va) (omega arith)) (zeroth u)
@@ -244,8 +244,8 @@ module _ {h : ℕ → Bool} {sp : Space} {m : ℕ → ℕ} {role : ℕ → Role}
     list3 z = gather3 (clear va (s .way)) C0 C1 C2 _ _ _ (is0 (omega arith)) (is1 (omega arith)) (is2 (omega arith))
 
     -- WHAT UNMAP WRITES, table by table
-    pub writes-are : n ≤ 3 → writesOf sp va (removal s n t c b) ≡ cuts sp m va (s .way) n ++ countWrites sp t c
+    pub writes-are : n ≤ 3 → writesOf sp va (removal s n c b) ≡ cuts sp m va (s .way) n ++ countWrites sp (staysOf (s .way) n) c
     unfolding writesOf
     writes-are u =
-        regroup (clear va (s .way)) C0 C1 C2 (countWrites sp t c)
-        ∙ ap (λ x. x ++ countWrites sp t c) (four (λ x. clear va (s .way) ++ (C0 ++ (C1 ++ C2)) ≡ cuts sp m va (s .way) x) n u list0 list1 list2 list3)
+        regroup (clear va (s .way)) C0 C1 C2 (countWrites sp (staysOf (s .way) n) c)
+        ∙ ap (λ x. x ++ countWrites sp (staysOf (s .way) n) c) (four (λ x. clear va (s .way) ++ (C0 ++ (C1 ++ C2)) ≡ cuts sp m va (s .way) x) n u list0 list1 list2 list3)

@@ -45,10 +45,10 @@ use Rattle.effect.proofs.WayInPool.{entry-in-pool}
 use Rattle.effect.specs.OfPool.{OfPool}
 use Rattle.plan.specs.Find.{findOf}
 use Rattle.plan.specs.Map.{noBook}
-use Rattle.plan.specs.Unmap.{emptiedOf, bookedOf, openOf, removeOf, weighedOf, removingOf, decideOf, writesOf}
+use Rattle.plan.specs.Unmap.{emptiedOf, bookedOf, openOf, removeOf, weighedOf, removingOf, decideOf, staysOf, writesOf}
 use Rattle.effect.specs.UnmapDone.{asideMore, SetAside, UnmapDone}
 use Rattle.effect.specs.Whole.{Whole}
-use Rattle.plan.proofs.Weighing.{tableAt, levelAt, level-at, Empty, Emptied, emptied}
+use Rattle.plan.proofs.Weighing.{tableAt, levelAt, level-at, stays-at, Empty, Emptied, emptied}
 use Rattle.effect.proofs.Cuts.{cuts, cutRoles, live-at, says-at, risen, last-level, cut-changed, removal, writes-are, cuts-unmarking}
 use Rattle.effect.proofs.Emptying.{count-is, count-most, count-some}
 use Rattle.plan.proofs.Found.{found-at}
@@ -76,9 +76,9 @@ refusal-clash r y e = cc
 module _ {h : ℕ → Bool} {sp : Space} {m : ℕ → ℕ} {role : ℕ → Role} (w : Whole h sp m role) (va : ℕ) where
   module _ (s : PageEntry) (k : Located (settingOf h sp) m role va s) where
     -- the removal of n tables, all of them
-    removed : (n t c : ℕ) (b : Book) → Emptied m sp (s .way) n t c → (0 < n → b ≡ bookOf m sp) → ((j : ℕ) → j < n → tableAt (s .way) j < 2 ^ 40)
-        → UnmapDone h sp m role va (removal s n t (c - 1) b)
-    removed n t c b e f low = record {
+    removed : (n c : ℕ) (b : Book) → Emptied m sp (s .way) n c → (0 < n → b ≡ bookOf m sp) → ((j : ℕ) → j < n → tableAt (s .way) j < 2 ^ 40)
+        → UnmapDone h sp m role va (removal s n (c - 1) b)
+    removed n c b e f low = record {
       role' = role';
       size-is = k .size-is;
       aligned = rw (k .size-is) (k .aligned);
@@ -96,6 +96,12 @@ module _ {h : ℕ → Bool} {sp : Space} {m : ℕ → ℕ} {role : ℕ → Role}
       numbers = subst (λ xs. (p j : ℕ) → Numbered m sp p j → Numbered (after m xs) sp p j) same (λ p j x. numbered p j (d .numbers p j x));
     }
       where
+        t : ℕ
+        t = staysOf (s .way) n
+
+        next : t ≡ tableAt (s .way) n
+        next = stays-at (s .way) n (e .three)
+
         cut : List Write
         cut = cuts sp m va (s .way) n
 
@@ -109,8 +115,8 @@ module _ {h : ℕ → Bool} {sp : Space} {m : ℕ → ℕ} {role : ℕ → Role}
         role' : ℕ → Role
         role' = cutRoles role (s .way) n
 
-        same : cut ++ ks ≡ writesOf sp va (removal s n t (c - 1) b)
-        same = sym (writes-are w va s k n t (c - 1) b (e .empty) f (e .three))
+        same : cut ++ ks ≡ writesOf sp va (removal s n (c - 1) b)
+        same = sym (writes-are w va s k n (c - 1) b (e .empty) f (e .three))
 
         memory : after m (cut ++ ks) ≡ after (after m cut) ks
         memory = after-append m cut ks
@@ -134,7 +140,7 @@ module _ {h : ℕ → Bool} {sp : Space} {m : ℕ → ℕ} {role : ℕ → Role}
         same-book = count-book sp (after m cut) t (c - 1)
 
         changed : Changed (settingOf h sp) m role va (s .way .level) found.Nothing (cut ++ ks) (after m (cut ++ ks)) role'
-        changed = subst (λ y. Changed (settingOf h sp) m role va (s .way .level) found.Nothing (cut ++ ks) y role') (sym memory) (changed-spare ks (cut-changed w va s k n t c e) spares)
+        changed = subst (λ y. Changed (settingOf h sp) m role va (s .way .level) found.Nothing (cut ++ ks) y role') (sym memory) (changed-spare ks (cut-changed w va s k n c e) spares)
 
         booked : Booked sp (after m (cut ++ ks)) role'
         booked = subst (λ y. Booked sp y role') (sym memory) (booked-same same-book (d .booked))
@@ -155,12 +161,12 @@ module _ {h : ℕ → Bool} {sp : Space} {m : ℕ → ℕ} {role : ℕ → Role}
             agree : (p l : ℕ) → left (role' p) ≡ suc l → Dec (tableAt (s .way) n ≡ p)
                 → countOf (after (after m cut) ks) sp p ≡ set (countOf m sp) (tableAt (s .way) n) (countOf m sp (tableAt (s .way) n) - 1) p
             agree p l x (yes y) =
-                let at-t : t ≡ p = e .next ∙ y in
+                let at-t : t ≡ p = next ∙ y in
                 ap (countOf (after (after m cut) ks) sp) (sym at-t)
-                ∙ count-same sp t (subst (InPool sp) (sym (e .next)) here) (after m cut) (c - 1)
+                ∙ count-same sp t (subst (InPool sp) (sym (next)) here) (after m cut) (c - 1)
                 ∙ sym (set-at (countOf m sp) (tableAt (s .way) n) (countOf m sp (tableAt (s .way) n) - 1) p y ∙ ap (λ v. v - 1) was)
             agree p l x (no y) =
-                count-other sp t (subst (InPool sp) (sym (e .next)) here) (after m cut) (c - 1) p (live-pool p l x) (λ z. y (sym (e .next) ∙ z))
+                count-other sp t (subst (InPool sp) (sym (next)) here) (after m cut) (c - 1) p (live-pool p l x) (λ z. y (sym (next) ∙ z))
                 ∙ counts-stay sp m cut (d .uncounting) p (live-pool p l x)
                 ∙ sym (set-other (countOf m sp) (tableAt (s .way) n) (countOf m sp (tableAt (s .way) n) - 1) p y)
 
@@ -186,7 +192,7 @@ module _ {h : ℕ → Bool} {sp : Space} {m : ℕ → ℕ} {role : ℕ → Role}
 
         -- the same of the list that is written
         ticketed : (p : ℕ) → (role' p ≡ role p) ⊎ SetAside sp role role' (after m cut) (ticketOf (bookOf m sp)) (ticketOf (bookOf m sp) + n) p
-            → (role' p ≡ role p) ⊎ SetAside sp role role' (after m (writesOf sp va (removal s n t (c - 1) b))) (ticketOf (bookOf m sp)) (ticketOf (bookOf m sp) + n) p
+            → (role' p ≡ role p) ⊎ SetAside sp role role' (after m (writesOf sp va (removal s n (c - 1) b))) (ticketOf (bookOf m sp)) (ticketOf (bookOf m sp) + n) p
         ticketed p (inl o) = inl o
         ticketed p (inr o) =
             inr (record {
@@ -217,11 +223,11 @@ module _ {h : ℕ → Bool} {sp : Space} {m : ℕ → ℕ} {role : ℕ → Role}
         simp (is-sound (sp .pages) (bookOf m sp) (w .booked .sound), le-leb _ _ room)
 
     -- and so they are removed
-    removes : (n t c : ℕ) → Empty m sp (s .way) n → removeOf h m sp s n t c ≡ Go (removal s n t c (bookRead m sp n))
+    removes : (n c : ℕ) → Empty m sp (s .way) n → removeOf h m sp s n c ≡ Go (removal s n c (bookRead m sp n))
     unfolding removeOf openOf bookedOf bookRead
-    removes n t c e = go (ℕ-discrete n 0)
+    removes n c e = go (ℕ-discrete n 0)
       where
-        go : Dec (n ≡ 0) → removeOf h m sp s n t c ≡ Go (removal s n t c (bookRead m sp n))
+        go : Dec (n ≡ 0) → removeOf h m sp s n c ≡ Go (removal s n c (bookRead m sp n))
         go (yes z) = rw (eq-eqb n 0 z, z)
         go (no z) = rw (ne-eqb n 0 z, book-opens w, takes n e)
 
@@ -229,15 +235,12 @@ module _ {h : ℕ → Bool} {sp : Space} {m : ℕ → ℕ} {role : ℕ → Role}
     pub empties : ℕ
     empties = emptied m sp (s .way) .0
 
-    pub stays : ℕ
-    stays = emptied m sp (s .way) .1
-
     pub count : ℕ
-    count = emptied m sp (s .way) .2
+    count = emptied m sp (s .way) .1
 
-    told : Emptied m sp (s .way) empties stays count
-    unfolding empties stays count
-    told = emptied m sp (s .way) .4
+    told : Emptied m sp (s .way) empties count
+    unfolding empties count
+    told = emptied m sp (s .way) .3
 
     last : levelAt (s .way) empties < 4
     last = last-level w va s k empties (told .empty)
@@ -249,14 +252,14 @@ module _ {h : ℕ → Bool} {sp : Space} {m : ℕ → ℕ} {role : ℕ → Role}
       omega (arith, told .count, count-most w (tableAt (s .way) empties) (levelAt (s .way) empties) (live-at w va s k empties last)),
     )
 
-    weighs : weighedOf h m sp s (emptiedOf m sp (s .way)) ≡ Go (removal s empties stays (count - 1) (bookRead m sp empties))
-    unfolding weighedOf empties stays count
+    weighs : weighedOf h m sp s (emptiedOf m sp (s .way)) ≡ Go (removal s empties (count - 1) (bookRead m sp empties))
+    unfolding weighedOf empties count
     weighs =
         let can = count-can in
-        rw (emptied m sp (s .way) .3) (simp (ne-eqb (emptied m sp (s .way) .2) 0 (λ e. omega (arith, e, can .0)), le-ltb 512 (emptied m sp (s .way) .2) (can .1))
-        (removes (emptied m sp (s .way) .0) (emptied m sp (s .way) .1) (emptied m sp (s .way) .2 - 1) (told .empty)))
+        rw (emptied m sp (s .way) .2) (simp (ne-eqb (emptied m sp (s .way) .1) 0 (λ e. omega (arith, e, can .0)), le-ltb 512 (emptied m sp (s .way) .1) (can .1))
+        (removes (emptied m sp (s .way) .0) (emptied m sp (s .way) .1 - 1) (told .empty)))
 
-    pub unmap-decided : findOf h m sp va ≡ sought.Found s → decideOf h m sp va ≡ Go (removal s empties stays (count - 1) (bookRead m sp empties))
+    pub unmap-decided : findOf h m sp va ≡ sought.Found s → decideOf h m sp va ≡ Go (removal s empties (count - 1) (bookRead m sp empties))
     unfolding decideOf removingOf
     unmap-decided f = rw f weighs
 
@@ -266,7 +269,7 @@ module _ {h : ℕ → Bool} {sp : Space} {m : ℕ → ℕ} {role : ℕ → Role}
     unmapped-at : findOf h m sp va ≡ sought.Found s → (r : Removal) → decideOf h m sp va ≡ Go r → UnmapDone h sp m role va r
     unmapped-at f r e =
         subst (UnmapDone h sp m role va) (same-removal _ r (sym (unmap-decided f) ∙ e))
-        (removed empties stays count (bookRead m sp empties) told (book-read m sp empties)
+        (removed empties count (bookRead m sp empties) told (book-read m sp empties)
         (λ j u. entry-in-pool (found-at h m sp va s f) .small j (omega (arith, told .empty j u .0, level-at (s .way) j))))
 
   -- UNMAP, DONE

@@ -31,7 +31,7 @@ use Rattle.plan.specs.declared.unmaps.Removal.{Removal}
 use Rattle.plan.specs.declared.unmaps.Removing.the-variants.{Go, Refused}
 use Rattle.plan.specs.Find.{findOf}
 use Rattle.plan.specs.Map.{noBook}
-use Rattle.plan.specs.Unmap.{emptiedOf, bookedOf, openOf, removeOf, weighedOf, removingOf, decideOf, book1, book2, cutWrites, writesOf}
+use Rattle.plan.specs.Unmap.{emptiedOf, bookedOf, openOf, removeOf, weighedOf, removingOf, decideOf, book1, book2, cutWrites, staysOf, writesOf}
 use Rattle.plan.proofs.Found.{FoundAt, found-at}
 use Rattle.effect.specs.OfPool.{OfPool}
 use Rattle.plan.proofs.Weighing.{tableAt, level-at, emptied-is}
@@ -51,38 +51,38 @@ module _ (h : ℕ → Bool) (m : ℕ → ℕ) (sp : Space) (va : ℕ) (r : Remov
   clash : _≡_ {A = ℕ} 0 1 → UnmapWent h m sp va r
   clash z = absurd (omega arith)
 
-  module _ (s : PageEntry) (n t c : ℕ) (f : FoundAt h m sp va s) (u : (j : ℕ) → j < n → j + s .way .level ≤ 2) (few : c < 512) where
-    open-went : (x : Opened) → openOf sp s n t c x ≡ Go r → UnmapWent h m sp va r
+  module _ (s : PageEntry) (n c : ℕ) (f : FoundAt h m sp va s) (u : (j : ℕ) → j < n → j + s .way .level ≤ 2) (few : c < 512) where
+    open-went : (x : Opened) → openOf sp s n c x ≡ Go r → UnmapWent h m sp va r
     unfolding openOf bookedOf
     open-went (opened.Refused y) e = clash cc
     open-went (opened.Book b) e = go (takesOf sp b n) e
       where
-        go : (x : Bool) → cond x (Go (record { page = s; empties = n; table = t; count = c; book = b })) (Refused (Pool BadBook)) ≡ Go r → UnmapWent h m sp va r
+        go : (x : Bool) → cond x (Go (record { page = s; empties = n; count = c; book = b })) (Refused (Pool BadBook)) ≡ Go r → UnmapWent h m sp va r
         go false k = clash cc
         go true k =
-            let same : record { page = s; empties = n; table = t; count = c; book = b } ≡ r = cc in
+            let same : record { page = s; empties = n; count = c; book = b } ≡ r = cc in
             subst (UnmapWent h m sp va) same (record { found = f; below = u; count = few })
 
-    remove-went : removeOf h m sp s n t c ≡ Go r → UnmapWent h m sp va r
+    remove-went : removeOf h m sp s n c ≡ Go r → UnmapWent h m sp va r
     unfolding removeOf
     remove-went e = go (eqb n 0) e
       where
-        go : (x : Bool) → cond x (Go (record { page = s; empties = 0; table = t; count = c; book = noBook })) (openOf sp s n t c (openedOf h m sp)) ≡ Go r → UnmapWent h m sp va r
+        go : (x : Bool) → cond x (Go (record { page = s; empties = 0; count = c; book = noBook })) (openOf sp s n c (openedOf h m sp)) ≡ Go r → UnmapWent h m sp va r
         go true k =
-            let same : record { page = s; empties = 0; table = t; count = c; book = noBook } ≡ r = cc in
+            let same : record { page = s; empties = 0; count = c; book = noBook } ≡ r = cc in
             subst (UnmapWent h m sp va) same (record { found = f; below = λ j v. absurd (omega arith); count = few })
         go false k = open-went (openedOf h m sp) k
 
   weighed-went : (s : PageEntry) → FoundAt h m sp va s → (x : Weighed) → emptiedOf m sp (s .way) ≡ x → weighedOf h m sp s x ≡ Go r → UnmapWent h m sp va r
   unfolding weighedOf
   weighed-went s f weighed.Goes ex e = clash cc
-  weighed-went s f (weighed.Stays n t c) ex e = go (eqb c 0) (ltb 512 c) refl refl e
+  weighed-went s f (weighed.Stays n c) ex e = go (eqb c 0) (ltb 512 c) refl refl e
     where
-      go : (x y : Bool) → eqb c 0 ≡ x → ltb 512 c ≡ y → cond x (Refused (Pool BadBook)) (cond y (Refused (Pool BadBook)) (removeOf h m sp s n t (c - 1))) ≡ Go r → UnmapWent h m sp va r
+      go : (x y : Bool) → eqb c 0 ≡ x → ltb 512 c ≡ y → cond x (Refused (Pool BadBook)) (cond y (Refused (Pool BadBook)) (removeOf h m sp s n (c - 1))) ≡ Go r → UnmapWent h m sp va r
       go true y a b k = clash cc
       go false true a b k = clash cc
       go false false a b k =
-          remove-went s n t (c - 1) f (λ j u. omega (arith, emptied-is m sp (s .way) n t c ex .empty j u .0, level-at (s .way) j))
+          remove-went s n (c - 1) f (λ j u. omega (arith, emptied-is m sp (s .way) n c ex .empty j u .0, level-at (s .way) j))
           (omega (arith, eqb-false c 0 a, ltb-false 512 c b)) k
 
   sought-went : (x : Sought) → findOf h m sp va ≡ x → removingOf h m sp va x ≡ Go r → UnmapWent h m sp va r
@@ -130,7 +130,7 @@ module _ {h : ℕ → Bool} {m : ℕ → ℕ} (sp : Space) (va : ℕ) (r : Remov
       (every-append _ _ (cut-in sp fits 0 (r .empties) (r .page .way .b) (indexOf (r .page .way .level + 1) va) (r .page .way .a) (r .book) (index-lt _ va) (emptied-in 0))
       (every-append _ _ (cut-in sp fits 1 (r .empties) (r .page .way .c) (indexOf (r .page .way .level + 2) va) (r .page .way .b) (book1 sp r) (index-lt _ va) (emptied-in 1))
       (every-append _ _ (cut-in sp fits 2 (r .empties) (r .page .way .d) (indexOf (r .page .way .level + 3) va) (r .page .way .c) (book2 sp r) (index-lt _ va) (emptied-in 2))
-      (book-in-pool sp fits _ (count-proper sp (r .table) (r .count) (omega (arith, k .count)))))))
+      (book-in-pool sp fits _ (count-proper sp (staysOf (r .page .way) (r .empties)) (r .count) (omega (arith, k .count)))))))
 
 -- UNMAP WRITES TO THE POOL
 pub unmap-in-pool : (h : ℕ → Bool) (m : ℕ → ℕ) (sp : Space) (va : ℕ) (r : Removal) → decideOf h m sp va ≡ Go r → Every (OfPool sp) (writesOf sp va r)

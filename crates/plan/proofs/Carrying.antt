@@ -19,7 +19,7 @@ use Rattle.pool.specs.declared.Fit.the-variants.{Fits}
 use Rattle.pool.specs.declared.Space.{Space}
 use Rattle.pool.specs.declared.Book.{Book}
 use Rattle.plan.specs.declared.unmaps.Removal.{Removal}
-use Rattle.plan.specs.Unmap.{cutBook, cutWrites, book1, book2, writesOf}
+use Rattle.plan.specs.Unmap.{cutBook, cutWrites, book1, book2, staysOf, writesOf}
 use Rattle.plan.proofs.Standing.{stands}
 use Rattle.plan.specs.Map.{nextOf, growOf, reached0, reached1, reached2, reached3, buildOf}
 
@@ -73,10 +73,11 @@ pub cuts-wrote : (sp : Space) (va : ℕ) (r : Removal) (n0 n1 n2 n3 n4 n5 : ℕ)
     → Wrote (sp .origin) (cutWrites sp 0 (r .empties) (r .page .way .b) (indexOf (r .page .way .level + 1) va) (r .page .way .a) (r .book)) n1 n2 x1 x2
     → Wrote (sp .origin) (cutWrites sp 1 (r .empties) (r .page .way .c) (indexOf (r .page .way .level + 2) va) (r .page .way .b) b1) n2 n3 x2 x3
     → Wrote (sp .origin) (cutWrites sp 2 (r .empties) (r .page .way .d) (indexOf (r .page .way .level + 3) va) (r .page .way .c) b2) n3 n4 x3 x4
-    → (roomOf (holds x4 (sp .origin)) (sp .first) (sp .pages) ≡ Fits → Wrote (sp .origin) (countWrites sp (r .table) (r .count)) n4 n5 x4 x5)
+    → (t : ℕ) → t ≡ staysOf (r .page .way) (r .empties)
+    → (roomOf (holds x4 (sp .origin)) (sp .first) (sp .pages) ≡ Fits → Wrote (sp .origin) (countWrites sp t (r .count)) n4 n5 x4 x5)
     → Wrote (sp .origin) (writesOf sp va r) n0 n5 x0 x5
 unfolding writesOf
-cuts-wrote sp va r n0 n1 n2 n3 n4 n5 x0 x1 x2 x3 x4 x5 b1 b2 i g st f1 e1 e2 f2 f3 f4 f5 =
+cuts-wrote sp va r n0 n1 n2 n3 n4 n5 x0 x1 x2 x3 x4 x5 b1 b2 i g st f1 e1 e2 f2 f3 f4 t et f5 =
     let c2 : b2 ≡ book2 sp r = e2 ∙ ap (cutBook sp 1 (r .empties)) e1 in
     let h1 = subst (λ (k : ℕ). Wrote (sp .origin) (write (r .page .way .a) k 0 ∷ []) n0 n1 x0 x1) g f1 in
     let h3 =
@@ -85,15 +86,15 @@ cuts-wrote sp va r n0 n1 n2 n3 n4 n5 x0 x1 x2 x3 x4 x5 b1 b2 i g st f1 e1 e2 f2 
     subst (λ (b : Book). Wrote (sp .origin) (cutWrites sp 2 (r .empties) (r .page .way .d) (indexOf (r .page .way .level + 3) va) (r .page .way .c) b) n3 n4 x3 x4) c2 f4 in
     let s4 = stands-wrote sp _ n3 n4 x3 x4 f4 (stands-wrote sp _ n2 n3 x2 x3 f3 (stands-wrote sp _ n1 n2 x1 x2 f2 (stands-wrote sp _ n0 n1 x0 x1 f1 st))) in
     wrote-then _ _ _ n0 n1 n5 x0 x1 x5 h1
-    (wrote-then _ _ _ n1 n2 n5 x1 x2 x5 f2 (wrote-then _ _ _ n2 n3 n5 x2 x3 x5 h3 (wrote-then _ _ _ n3 n4 n5 x3 x4 x5 h4 (f5 (room-stands _ sp s4)))))
+    (wrote-then _ _ _ n1 n2 n5 x1 x2 x5 f2 (wrote-then _ _ _ n2 n3 n5 x2 x3 x5 h3 (wrote-then _ _ _ n3 n4 n5 x3 x4 x5 h4 (rw (← et) (f5 (room-stands _ sp s4))))))
 
 -- the page's entry alone and the count, where no table becomes empty
 pub cuts-none : (sp : Space) (va : ℕ) (r : Removal) (n0 n1 n2 : ℕ) (x0 x1 x2 : List ℕ) (i : ℕ) → r .empties ≡ 0 → i ≡ indexOf (r .page .way .level) va
     → standsOf (holds x0 (sp .origin)) sp ≡ Fits
     → Wrote (sp .origin) (write (r .page .way .a) i 0 ∷ []) n0 n1 x0 x1
-    → (roomOf (holds x1 (sp .origin)) (sp .first) (sp .pages) ≡ Fits → Wrote (sp .origin) (countWrites sp (r .table) (r .count)) n1 n2 x1 x2)
+    → (roomOf (holds x1 (sp .origin)) (sp .first) (sp .pages) ≡ Fits → Wrote (sp .origin) (countWrites sp (r .page .way .a) (r .count)) n1 n2 x1 x2)
     → Wrote (sp .origin) (writesOf sp va r) n0 n2 x0 x2
-unfolding writesOf cutWrites
+unfolding writesOf cutWrites staysOf
 cuts-none sp va r n0 n1 n2 x0 x1 x2 i e g st f1 f2 =
     let h1 = subst (λ (k : ℕ). Wrote (sp .origin) (write (r .page .way .a) k 0 ∷ []) n0 n1 x0 x1) g f1 in
     simp e (wrote-then _ _ _ n0 n1 n2 x0 x1 x2 h1 (f2 (room-stands _ sp (stands-wrote sp _ n0 n1 x0 x1 f1 st))))

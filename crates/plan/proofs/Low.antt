@@ -174,42 +174,42 @@ module _ (h : ℕ → Bool) (m : ℕ → ℕ) (sp : Space) (va : ℕ) (r : Remov
   clash : _≡_ {A = ℕ} 0 1 → GoShows va r
   clash z = absurd (omega arith)
 
-  booked-fits : (s : PageEntry) (n t c : ℕ) → s .way .level + n < 4 → s .index ≡ indexOf (s .way .level) va → (b : Book) → unmap.bookedOf sp s n t c b ≡ removing.Go r → GoShows va r
+  booked-fits : (s : PageEntry) (n c : ℕ) → s .way .level + n < 4 → s .index ≡ indexOf (s .way .level) va → (b : Book) → unmap.bookedOf sp s n c b ≡ removing.Go r → GoShows va r
   unfolding unmap.bookedOf
-  booked-fits s n t c u i b e = go (takesOf sp b n) e
+  booked-fits s n c u i b e = go (takesOf sp b n) e
     where
-      go : (x : Bool) → cond x (removing.Go (record { page = s; empties = n; table = t; count = c; book = b })) (removing.Refused (Pool BadBook)) ≡ removing.Go r
+      go : (x : Bool) → cond x (removing.Go (record { page = s; empties = n; count = c; book = b })) (removing.Refused (Pool BadBook)) ≡ removing.Go r
           → GoShows va r
       go false k = clash cc
       go true k =
-          let same : record { page = s; empties = n; table = t; count = c; book = b } ≡ r = cc in
+          let same : record { page = s; empties = n; count = c; book = b } ≡ r = cc in
           subst (GoShows va) same (record { low = u; index = i })
 
-  opened-fits : (s : PageEntry) (n t c : ℕ) → s .way .level + n < 4 → s .index ≡ indexOf (s .way .level) va → (x : Opened) → unmap.openOf sp s n t c x ≡ removing.Go r → GoShows va r
+  opened-fits : (s : PageEntry) (n c : ℕ) → s .way .level + n < 4 → s .index ≡ indexOf (s .way .level) va → (x : Opened) → unmap.openOf sp s n c x ≡ removing.Go r → GoShows va r
   unfolding unmap.openOf
-  opened-fits s n t c u i (opened.Book b) e = booked-fits s n t c u i b e
-  opened-fits s n t c u i (opened.Refused y) e = clash cc
+  opened-fits s n c u i (opened.Book b) e = booked-fits s n c u i b e
+  opened-fits s n c u i (opened.Refused y) e = clash cc
 
-  remove-fits : (s : PageEntry) (n t c : ℕ) → s .way .level + n < 4 → s .index ≡ indexOf (s .way .level) va → unmap.removeOf h m sp s n t c ≡ removing.Go r → GoShows va r
+  remove-fits : (s : PageEntry) (n c : ℕ) → s .way .level + n < 4 → s .index ≡ indexOf (s .way .level) va → unmap.removeOf h m sp s n c ≡ removing.Go r → GoShows va r
   unfolding unmap.removeOf
-  remove-fits s n t c u i e = go (eqb n 0) e
+  remove-fits s n c u i e = go (eqb n 0) e
     where
-      go : (x : Bool) → cond x (removing.Go (record { page = s; empties = 0; table = t; count = c; book = map.noBook })) (unmap.openOf sp s n t c (openedOf h m sp)) ≡ removing.Go r → GoShows va r
+      go : (x : Bool) → cond x (removing.Go (record { page = s; empties = 0; count = c; book = map.noBook })) (unmap.openOf sp s n c (openedOf h m sp)) ≡ removing.Go r → GoShows va r
       go true k =
-          let same : record { page = s; empties = 0; table = t; count = c; book = map.noBook } ≡ r = cc in
+          let same : record { page = s; empties = 0; count = c; book = map.noBook } ≡ r = cc in
           subst (GoShows va) same (record { low = omega arith; index = i })
-      go false k = opened-fits s n t c u i (openedOf h m sp) k
+      go false k = opened-fits s n c u i (openedOf h m sp) k
 
   weighed-fits : (s : PageEntry) → s .way .level < 4 → s .index ≡ indexOf (s .way .level) va → (x : Weighed) → unmap.emptiedOf m sp (s .way) ≡ x
       → unmap.weighedOf h m sp s x ≡ removing.Go r → GoShows va r
   unfolding unmap.weighedOf
   weighed-fits s u i weighed.Goes ex e = clash cc
-  weighed-fits s u i (weighed.Stays n t c) ex e = go (eqb c 0) (ltb 512 c) e
+  weighed-fits s u i (weighed.Stays n c) ex e = go (eqb c 0) (ltb 512 c) e
     where
-      go : (x y : Bool) → cond x (removing.Refused (Pool BadBook)) (cond y (removing.Refused (Pool BadBook)) (unmap.removeOf h m sp s n t (c - 1))) ≡ removing.Go r → GoShows va r
+      go : (x y : Bool) → cond x (removing.Refused (Pool BadBook)) (cond y (removing.Refused (Pool BadBook)) (unmap.removeOf h m sp s n (c - 1))) ≡ removing.Go r → GoShows va r
       go true y k = clash cc
       go false true k = clash cc
-      go false false k = remove-fits s n t (c - 1) (emptied-low m sp (s .way) n t c u (emptied-is m sp (s .way) n t c ex)) i k
+      go false false k = remove-fits s n (c - 1) (emptied-low m sp (s .way) n c u (emptied-is m sp (s .way) n c ex)) i k
 
   sought-fits : (x : Sought) → findOf h m sp va ≡ x → unmap.removingOf h m sp va x ≡ removing.Go r → GoShows va r
   unfolding unmap.removingOf

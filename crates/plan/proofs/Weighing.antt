@@ -12,7 +12,7 @@ use Rattle.pool.specs.declared.Space.{Space}
 use Rattle.plan.specs.declared.descent.Way.{Way}
 use Rattle.plan.specs.declared.unmaps.Weighed.{Weighed}
 use Rattle.plan.specs.declared.unmaps.Weighed.the-variants.{Stays, Goes}
-use Rattle.plan.specs.Unmap.{weighBy, weighOf, goesOn, emptiedOf}
+use Rattle.plan.specs.Unmap.{weighBy, weighOf, goesOn, emptiedOf, staysOf}
 
 -- The tables of a way, from the last one up, and their levels
 abbrev pub tableAt : Way → ℕ → ℕ
@@ -29,47 +29,55 @@ pub level-at : (w : Way) (j : ℕ) → levelAt w j ≡ w .level + j
 level-at w zero = omega arith
 level-at w (suc j) = omega (arith, level-at w j)
 
+-- the one that stays, as the code finds it
+pub stays-at : (w : Way) (n : ℕ) → n ≤ 3 → staysOf w n ≡ tableAt w n
+unfolding staysOf
+stays-at w zero u = refl
+stays-at w (suc zero) u = refl
+stays-at w (suc (suc zero)) u = refl
+stays-at w (suc (suc (suc zero))) u = refl
+stays-at w (suc (suc (suc (suc n)))) u = absurd (omega arith)
+
 -- One table -----------------------------------------------------------------------------------------------------------------------
 
-module _ (n top level t count : ℕ) where
+module _ (n top level count : ℕ) where
   -- it stays
-  record Keeps (n' t' c : ℕ) : Type 0 where
+  record Keeps (n' c : ℕ) : Type 0 where
     above : n' ≡ n
-    page : t' ≡ t
     same : c ≡ count
     why : (c ≢ 1) ⊎ (top ≤ level)
 
-  stays-so : (n' t' c : ℕ) → weighBy n top level t count ≡ Stays n' t' c → Keeps n' t' c
+  stays-so : (n' c : ℕ) → weighBy n top level count ≡ Stays n' c → Keeps n' c
   unfolding weighBy
-  stays-so n' t' c e = go (eqb count 1) (ltb level top) refl refl e
+  stays-so n' c e = go (eqb count 1) (ltb level top) refl refl e
     where
-      same : Stays n t count ≡ Stays n' t' c → (n' ≡ n) × (t' ≡ t) × (c ≡ count)
-      same k = (cc, cc, cc)
+      same : Stays n count ≡ Stays n' c → (n' ≡ n) × (c ≡ count)
+      same k = (cc, cc)
 
-      go : (x y : Bool) → eqb count 1 ≡ x → ltb level top ≡ y → cond x (cond y Goes (Stays n t count)) (Stays n t count) ≡ Stays n' t' c → Keeps n' t' c
+      go : (x y : Bool) → eqb count 1 ≡ x → ltb level top ≡ y → cond x (cond y Goes (Stays n count)) (Stays n count) ≡ Stays n' c → Keeps n' c
       go true true ex ey k = let z : _≡_ {A = ℕ} 0 1 = cc k in absurd (omega arith)
-      go true false ex ey k = let s = same k in record { above = s .0; page = s .1; same = s .2; why = inr (ltb-false level top ey) }
-      go false y ex ey k = let s = same k in record { above = s .0; page = s .1; same = s .2; why = inl (λ z. eqb-false count 1 ex (sym (s .2) ∙ z)) }
+      go true false ex ey k = let s = same k in record { above = s .0; same = s .1; why = inr (ltb-false level top ey) }
+      go false y ex ey k = let s = same k in record { above = s .0; same = s .1; why = inl (λ z. eqb-false count 1 ex (sym (s .1) ∙ z)) }
 
   -- it becomes empty
-  goes-so : weighBy n top level t count ≡ Goes → (count ≡ 1) × (level < top)
+  goes-so : weighBy n top level count ≡ Goes → (count ≡ 1) × (level < top)
   unfolding weighBy
   goes-so e = go (eqb count 1) (ltb level top) refl refl e
     where
-      go : (x y : Bool) → eqb count 1 ≡ x → ltb level top ≡ y → cond x (cond y Goes (Stays n t count)) (Stays n t count) ≡ Goes → (count ≡ 1) × (level < top)
+      go : (x y : Bool) → eqb count 1 ≡ x → ltb level top ≡ y → cond x (cond y Goes (Stays n count)) (Stays n count) ≡ Goes → (count ≡ 1) × (level < top)
       go true true ex ey k = (eqb-true count 1 ex, ltb-true level top ey)
       go true false ex ey k = let z : _≡_ {A = ℕ} 0 1 = cc k in absurd (omega arith)
       go false y ex ey k = let z : _≡_ {A = ℕ} 0 1 = cc k in absurd (omega arith)
 
-  pub weigh-one : count ≡ 1 → level < top → Goes ≡ weighBy n top level t count
+  pub weigh-one : count ≡ 1 → level < top → Goes ≡ weighBy n top level count
   unfolding weighBy
   weigh-one e u = simp (eq-eqb count 1 e, lt-ltb level top u)
 
-  pub weigh-top : count ≡ 1 → top ≤ level → Stays n t count ≡ weighBy n top level t count
+  pub weigh-top : count ≡ 1 → top ≤ level → Stays n count ≡ weighBy n top level count
   unfolding weighBy
   weigh-top e u = simp (eq-eqb count 1 e, le-ltb level top u)
 
-  pub weigh-more : count ≢ 1 → Stays n t count ≡ weighBy n top level t count
+  pub weigh-more : count ≢ 1 → Stays n count ≡ weighBy n top level count
   unfolding weighBy
   weigh-more d = simp (ne-eqb count 1 d)
 
@@ -79,11 +87,10 @@ module _ (n top level t count : ℕ) where
 abbrev pub Empty : (ℕ → ℕ) → Space → Way → ℕ → Type 0
 Empty m sp w n = (j : ℕ) → j < n → (levelAt w j < 3) × (countIn m sp (tableAt w j) ≡ 1)
 
--- JUST n BECOME EMPTY: the next one, t, whose count is c, is the root, or has another number of entries than one
-pub record Emptied (m : ℕ → ℕ) (sp : Space) (w : Way) (n t c : ℕ) : Type 0 where
+-- JUST n BECOME EMPTY: the next one, whose count is c, is the root, or has another number of entries than one
+pub record Emptied (m : ℕ → ℕ) (sp : Space) (w : Way) (n c : ℕ) : Type 0 where
   pub three : n ≤ 3
   pub empty : Empty m sp w n
-  pub next : t ≡ tableAt w n
   pub count : c ≡ countIn m sp (tableAt w n)
   pub stays : (3 ≤ levelAt w n) ⊎ (c ≢ 1)
 
@@ -101,31 +108,31 @@ module _ (m : ℕ → ℕ) (sp : Space) (w : Way) where
 
   -- what is told of a way, from its j-th table on
   abbrev Told : Weighed → Type 0
-  Told x = (n : ℕ) × (t : ℕ) × (c : ℕ) × (x ≡ Stays n t c) × Emptied m sp w n t c
+  Told x = (n : ℕ) × (c : ℕ) × (x ≡ Stays n c) × Emptied m sp w n c
 
   -- it stays, or the next one is looked at
   stepped : (j top : ℕ) (y : Weighed) → j ≤ 3 → top + j ≡ 3 → Empty m sp w j → (Empty m sp w (suc j) → w .level < top → Told y) → Told (goesOn (weight j top) y)
   unfolding weight weighOf goesOn
-  stepped j top y u l f next = go (weighBy j top (w .level) (tableAt w j) (countIn m sp (tableAt w j))) refl
+  stepped j top y u l f next = go (weighBy j top (w .level) (countIn m sp (tableAt w j))) refl
     where
-      found : (a b d : ℕ) → Keeps j top (w .level) (tableAt w j) (countIn m sp (tableAt w j)) a b d → Emptied m sp w a b d
-      found a b d k = subst (λ x. Emptied m sp w x b d) (sym (k .above)) (record { three = u; empty = f; next = k .page; count = k .same; stays = way (k .why) })
+      found : (a d : ℕ) → Keeps j top (w .level) (countIn m sp (tableAt w j)) a d → Emptied m sp w a d
+      found a d k = subst (λ x. Emptied m sp w x d) (sym (k .above)) (record { three = u; empty = f; count = k .same; stays = way (k .why) })
         where
           way : (d ≢ 1) ⊎ (top ≤ w .level) → (3 ≤ levelAt w j) ⊎ (d ≢ 1)
           way (inl v) = inr v
           way (inr v) = inl (omega (arith, v, l, level-at w j))
 
-      go : (x : Weighed) → weighBy j top (w .level) (tableAt w j) (countIn m sp (tableAt w j)) ≡ x → Told (goesOn x y)
-      go (Stays a b d) ex = (a, b, d, refl, found a b d (stays-so j top (w .level) (tableAt w j) (countIn m sp (tableAt w j)) a b d ex))
+      go : (x : Weighed) → weighBy j top (w .level) (countIn m sp (tableAt w j)) ≡ x → Told (goesOn x y)
+      go (Stays a d) ex = (a, d, refl, found a d (stays-so j top (w .level) (countIn m sp (tableAt w j)) a d ex))
       go Goes ex =
-          let o = goes-so j top (w .level) (tableAt w j) (countIn m sp (tableAt w j)) ex in
+          let o = goes-so j top (w .level) (countIn m sp (tableAt w j)) ex in
           next (more-empty j f (omega (arith, o .1, l, level-at w j)) (o .0)) (o .1)
 
   -- the root is the last
   ended : (x : Weighed) → Told (goesOn x Goes) → Told x
   unfolding goesOn
   ended Goes k = k
-  ended (Stays a b d) k = k
+  ended (Stays a d) k = k
 
   -- WHAT THE COUNTS TELL
   pub emptied : Told (emptiedOf m sp w)
@@ -136,17 +143,16 @@ module _ (m : ℕ → ℕ) (sp : Space) (w : Way) where
       (λ f2 u2. stepped 2 1 _ (omega arith) (omega arith) f2
       (λ f3 u3. ended (weighOf m sp 3 0 (w .level) (w .d)) (stepped 3 0 Goes (omega arith) (omega arith) f3 (λ f4 u4. absurd (omega arith))))))
 
-  pub emptied-is : (n t c : ℕ) → emptiedOf m sp w ≡ Stays n t c → Emptied m sp w n t c
-  emptied-is n t c e = go (emptied .0) (emptied .1) (emptied .2) (sym (emptied .3) ∙ e) (emptied .4)
+  pub emptied-is : (n c : ℕ) → emptiedOf m sp w ≡ Stays n c → Emptied m sp w n c
+  emptied-is n c e = go (emptied .0) (emptied .1) (sym (emptied .2) ∙ e) (emptied .3)
     where
-      go : (n' t' c' : ℕ) → Stays n' t' c' ≡ Stays n t c → Emptied m sp w n' t' c' → Emptied m sp w n t c
-      go n' t' c' k d =
+      go : (n' c' : ℕ) → Stays n' c' ≡ Stays n c → Emptied m sp w n' c' → Emptied m sp w n c
+      go n' c' k d =
           let a : n' ≡ n = cc in
-          let b : t' ≡ t = cc in
           let f : c' ≡ c = cc in
-          subst (λ x. Emptied m sp w n t x) f (subst (λ x. Emptied m sp w n x c') b (subst (λ x. Emptied m sp w x t' c') a d))
+          subst (λ x. Emptied m sp w n x) f (subst (λ x. Emptied m sp w x c') a d)
 
   -- a table of the way lies below the root, as far as they become empty
-  pub emptied-low : (n t c : ℕ) → w .level < 4 → Emptied m sp w n t c → w .level + n < 4
-  emptied-low zero t c u k = omega arith
-  emptied-low (suc n) t c u k = omega (arith, k .empty n (omega arith) .0, level-at w n)
+  pub emptied-low : (n c : ℕ) → w .level < 4 → Emptied m sp w n c → w .level + n < 4
+  emptied-low zero c u k = omega arith
+  emptied-low (suc n) c u k = omega (arith, k .empty n (omega arith) .0, level-at w n)

@@ -34,16 +34,16 @@ use Rattle.plan.specs.Map.{noBook}
 
 -- The table in page t, above n that become empty, loses an entry: what its count tells. Where the page's level is below `top` it is not the
 -- root, and becomes empty if that was its only one.
-unfoldable pub weighBy : ℕ → ℕ → ℕ → ℕ → ℕ → Weighed
-weighBy n top level t c = cond (eqb c 1) (cond (ltb level top) Goes (Stays n t c)) (Stays n t c)
+unfoldable pub weighBy : ℕ → ℕ → ℕ → ℕ → Weighed
+weighBy n top level c = cond (eqb c 1) (cond (ltb level top) Goes (Stays n c)) (Stays n c)
 
 unfoldable pub weighOf : (ℕ → ℕ) → Space → ℕ → ℕ → ℕ → ℕ → Weighed
-weighOf m sp n top level t = weighBy n top level t (countIn m sp t)
+weighOf m sp n top level t = weighBy n top level (countIn m sp t)
 
 -- where it becomes empty, the next one is looked at
 unfoldable pub goesOn : Weighed → Weighed → Weighed
 goesOn Goes y = y
-goesOn (Stays n t c) y = Stays n t c
+goesOn (Stays n c) y = Stays n c
 
 -- WHICH TABLES BECOME EMPTY, from the one of the page's entry up
 unfoldable pub emptiedOf : (ℕ → ℕ) → Space → Way → Weighed
@@ -53,21 +53,21 @@ emptiedOf m sp w =
 
 -- The decision ---------------------------------------------------------------------------------------------------------------------
 
-unfoldable pub bookedOf : Space → PageEntry → ℕ → ℕ → ℕ → Book → Removing
-bookedOf sp s n t c b = cond (takesOf sp b n) (Go (record { page = s; empties = n; table = t; count = c; book = b })) (Refused (Pool BadBook))
+unfoldable pub bookedOf : Space → PageEntry → ℕ → ℕ → Book → Removing
+bookedOf sp s n c b = cond (takesOf sp b n) (Go (record { page = s; empties = n; count = c; book = b })) (Refused (Pool BadBook))
 
-unfoldable pub openOf : Space → PageEntry → ℕ → ℕ → ℕ → Opened → Removing
-openOf sp s n t c (opened.Book b) = bookedOf sp s n t c b
-openOf sp s n t c (opened.Refused r) = Refused (Pool r)
+unfoldable pub openOf : Space → PageEntry → ℕ → ℕ → Opened → Removing
+openOf sp s n c (opened.Book b) = bookedOf sp s n c b
+openOf sp s n c (opened.Refused r) = Refused (Pool r)
 
 -- a book is needed only where a table becomes empty
-unfoldable pub removeOf : (ℕ → Bool) → (ℕ → ℕ) → Space → PageEntry → ℕ → ℕ → ℕ → Removing
-removeOf h m sp s n t c = cond (eqb n 0) (Go (record { page = s; empties = 0; table = t; count = c; book = noBook })) (openOf sp s n t c (openedOf h m sp))
+unfoldable pub removeOf : (ℕ → Bool) → (ℕ → ℕ) → Space → PageEntry → ℕ → ℕ → Removing
+removeOf h m sp s n c = cond (eqb n 0) (Go (record { page = s; empties = 0; count = c; book = noBook })) (openOf sp s n c (openedOf h m sp))
 
 -- what the counts tell; no table has none or more than 512 entries, and such a count is refused
 unfoldable pub weighedOf : (ℕ → Bool) → (ℕ → ℕ) → Space → PageEntry → Weighed → Removing
 weighedOf h m sp s Goes = Refused (Pool BadBook)
-weighedOf h m sp s (Stays n t c) = cond (eqb c 0) (Refused (Pool BadBook)) (cond (ltb 512 c) (Refused (Pool BadBook)) (removeOf h m sp s n t (c - 1)))
+weighedOf h m sp s (Stays n c) = cond (eqb c 0) (Refused (Pool BadBook)) (cond (ltb 512 c) (Refused (Pool BadBook)) (removeOf h m sp s n (c - 1)))
 
 unfoldable pub removingOf : (ℕ → Bool) → (ℕ → ℕ) → Space → ℕ → Sought → Removing
 removingOf h m sp va (sought.Found s) = weighedOf h m sp s (emptiedOf m sp (s .way))
@@ -96,6 +96,10 @@ book1 sp r = cutBook sp 0 (r .empties) (r .book)
 abbrev pub book2 : Space → Removal → Book
 book2 sp r = cutBook sp 1 (r .empties) (book1 sp r)
 
+-- the table of the way that stays, where n become empty
+unfoldable pub staysOf : Way → ℕ → ℕ
+staysOf w n = cond (eqb n 0) (w .a) (cond (eqb n 1) (w .b) (cond (eqb n 2) (w .c) (w .d)))
+
 -- WHAT UNMAP WRITES: the page's entry, then for each table that became empty its parent's entry and the book, then the count of the table
 -- that stays
 unfoldable pub writesOf : Space → ℕ → Removal → List Write
@@ -104,7 +108,7 @@ writesOf sp va r =
     ++ (cutWrites sp 0 (r .empties) (r .page .way .b) (indexOf (r .page .way .level + 1) va) (r .page .way .a) (r .book)
     ++ (cutWrites sp 1 (r .empties) (r .page .way .c) (indexOf (r .page .way .level + 2) va) (r .page .way .b) (book1 sp r)
     ++ (cutWrites sp 2 (r .empties) (r .page .way .d) (indexOf (r .page .way .level + 3) va) (r .page .way .c) (book2 sp r)
-    ++ countWrites sp (r .table) (r .count))))
+    ++ countWrites sp (staysOf (r .page .way) (r .empties)) (r .count))))
 
 unfoldable pub didOf : Space → ℕ → Removing → List Write
 didOf sp va (Go r) = writesOf sp va r

@@ -19,17 +19,16 @@ use pool::Space;
 
 // What a count tells of a table that loses an entry.
 pub enum Weighed {
-    // so many tables below it become empty, and it stays, in this page; its count
-    Stays(u64, u64, u64),
+    // so many tables below it become empty, and it stays; its count
+    Stays(u64, u64),
     // it becomes empty
     Goes,
 }
 
-// The page that goes, how many tables become empty with it, the page of the table that stays and its count then, and the book that takes them.
+// The page that goes, how many tables become empty with it, the count that the next one then has, and the book that takes them.
 pub struct Removal {
     pub page: PageEntry,
     pub empties: u64,
-    pub table: u64,
     pub count: u64,
     pub book: Book,
 }
@@ -57,7 +56,7 @@ fn weigh(mem: &[u8], space: Space, n: u64, top: u64, level: u64, t: u64) -> Weig
             return Weighed::Goes;
         }
     }
-    Weighed::Stays(n, t, c)
+    Weighed::Stays(n, c)
 }
 
 // Which tables become empty, from the one of the page's entry up; the root stays.
@@ -81,14 +80,13 @@ fn emptied(mem: &[u8], space: Space, w: Way) -> Weighed
 }
 
 // The book has room for the tables that become empty.
-fn booked(space: Space, s: PageEntry, n: u64, t: u64, c: u64, b: Book) -> Removing
-    ensures { λ r. ⌜ r ≡ the.bookedOf space s n t c b ⌝ }
+fn booked(space: Space, s: PageEntry, n: u64, c: u64, b: Book) -> Removing
+    ensures { λ r. ⌜ r ≡ the.bookedOf space s n c b ⌝ }
 {
     if pool::takes(space, b, n) {
         return Removing::Go(Removal {
             page: s,
             empties: n,
-            table: t,
             count: c,
             book: b,
         });
@@ -97,14 +95,13 @@ fn booked(space: Space, s: PageEntry, n: u64, t: u64, c: u64, b: Book) -> Removi
 }
 
 // A book is needed only where a table becomes empty.
-fn remove(mem: &[u8], space: Space, s: PageEntry, n: u64, t: u64, c: u64) -> Removing
-    ensures { λ r. ⌜ r ≡ the.removeOf (holds (now (mem .entry)) (space .origin)) (memory (now (mem .entry)) (space .origin)) space s n t c ⌝ }
+fn remove(mem: &[u8], space: Space, s: PageEntry, n: u64, c: u64) -> Removing
+    ensures { λ r. ⌜ r ≡ the.removeOf (holds (now (mem .entry)) (space .origin)) (memory (now (mem .entry)) (space .origin)) space s n c ⌝ }
 {
     if n == 0 {
         return Removing::Go(Removal {
             page: s,
             empties: 0,
-            table: t,
             count: c,
             book: Book {
                 head: 0,
@@ -119,7 +116,7 @@ fn remove(mem: &[u8], space: Space, s: PageEntry, n: u64, t: u64, c: u64) -> Rem
     let o = pool::open(mem, sp);
     match o {
         Opened::Refused(r) => Removing::Refused(Reason::Pool(r)),
-        Opened::Book(b) => booked(space, s, n, t, c, b),
+        Opened::Book(b) => booked(space, s, n, c, b),
     }
 }
 
@@ -129,14 +126,14 @@ fn by_counts(mem: &[u8], space: Space, s: PageEntry, e: Weighed) -> Removing
 {
     match e {
         Weighed::Goes => Removing::Refused(Reason::Pool(pool::Reason::BadBook)),
-        Weighed::Stays(n, t, c) => {
+        Weighed::Stays(n, c) => {
             if c == 0 {
                 return Removing::Refused(Reason::Pool(pool::Reason::BadBook));
             }
             if 512 < c {
                 return Removing::Refused(Reason::Pool(pool::Reason::BadBook));
             }
-            remove(mem, space, s, n, t, c - 1)
+            remove(mem, space, s, n, c - 1)
         }
     }
 }
@@ -179,6 +176,22 @@ fn cut(
     pool::set_aside(mem, left, space, b, child)
 }
 
+// The table of the way that stays, where n become empty.
+fn stays(w: Way, n: u64) -> u64
+    ensures { λ r. ⌜ r ≡ the.staysOf w n ⌝ }
+{
+    if n == 0 {
+        return w.a;
+    }
+    if n == 1 {
+        return w.b;
+    }
+    if n == 2 {
+        return w.c;
+    }
+    w.d
+}
+
 fn carry_unmap(mem: &mut [u8], left: &mut u64, space: Space, va: u64, r: Removal)
     requires { ⌜ (the.low r) × (r .page .index ≡ indexOf (r .page .way .level) va) × (standsOf (holds (now mem) (space .origin)) space ≡ Fits) ⌝ }
     ensures { λ _. ⌜ Wrote (space .origin) (the.writesOf space va r) (now (left .entry)) (now (left .exit)) (now (mem .entry)) (now (mem .exit)) ⌝ }
@@ -190,7 +203,7 @@ fn carry_unmap(mem: &mut [u8], left: &mut u64, space: Space, va: u64, r: Removal
     let b0 = r.book;
     word::write(mem, left, space.origin, w.a, s.index, 0);
     if n == 0 {
-        pool::set_count(mem, left, space, r.table, r.count);
+        pool::set_count(mem, left, space, w.a, r.count);
         return;
     }
     // A copy, so that the space itself need not lie in memory where nothing becomes empty.
@@ -198,7 +211,7 @@ fn carry_unmap(mem: &mut [u8], left: &mut u64, space: Space, va: u64, r: Removal
     let b1 = cut(mem, left, sp, va, 0, n, w.b, l + 1, w.a, b0);
     let b2 = cut(mem, left, sp, va, 1, n, w.c, l + 2, w.b, b1);
     cut(mem, left, sp, va, 2, n, w.d, l + 3, w.c, b2);
-    pool::set_count(mem, left, sp, r.table, r.count);
+    pool::set_count(mem, left, sp, stays(w, n), r.count);
 }
 
 // Unmaps, and answers the ticket of the book after it, by the counts before; or refuses and writes nothing.

@@ -22,13 +22,14 @@ fn entry(mem: &[u8], page: u64, index: u64) -> u64 {
     word(mem, 4096 * page + 8 * index)
 }
 
-/// The book's words: its mark, the pages, the root and four counts, nothing up to sixteen; the ring, and five counts of 0.
-fn assert_book(mem: &[u8], [released, free, aside, head]: [u64; 4], ring: [u64; 5]) {
+/// The book's words: its mark, the pages, the root and four counts, nothing up to sixteen; the ring, and how many entries each
+/// page has, if it is a table.
+fn assert_book(mem: &[u8], [released, free, aside, head]: [u64; 4], ring: [u64; 5], entries: [u64; 5]) {
     let book: Vec<u64> = (0..26).map(|index| entry(mem, 0x11, index)).collect();
     assert_eq!(book[..7], [MARK, 5, 0x12, released, free, aside, head]);
     assert_eq!(book[7..16], [0; 9]);
     assert_eq!(book[16..21], ring);
-    assert_eq!(book[21..], [0; 5]);
+    assert_eq!(book[21..], entries);
 }
 
 fn life(of: &dyn Operations) {
@@ -38,14 +39,14 @@ fn life(of: &dyn Operations) {
 
     let made = of.create(mem, ORIGIN, SPACE.pool, SPACE.pages);
     assert_eq!((made.reason, made.root), (0, 0x12000));
-    assert_book(mem, [0, 3, 0, 0], [0x13, 0x14, 0x15, 0, 0]);
+    assert_book(mem, [0, 3, 0, 0], [0x13, 0x14, 0x15, 0, 0], [0; 5]);
 
     assert_eq!(of.map(mem, SPACE, VA, 0x123_4000, 0x1000, 3), done(3));
     assert_eq!(entry(mem, 0x12, 254), 0x13007);
     assert_eq!(entry(mem, 0x13, 72), 0x14007);
     assert_eq!(entry(mem, 0x14, 418), 0x15007);
     assert_eq!(entry(mem, 0x15, 359), 0x123_4007);
-    assert_book(mem, [0, 0, 0, 3], [0x13, 0x14, 0x15, 0, 0]);
+    assert_book(mem, [0, 0, 0, 3], [0x13, 0x14, 0x15, 0, 0], [0, 1, 1, 1, 1]);
     let nonzero = (0x12000..0x16000).step_by(8).filter(|address| word(mem, *address) != 0).count();
     assert_eq!(nonzero, 4, "all else in the tables is 0");
 
@@ -58,6 +59,7 @@ fn life(of: &dyn Operations) {
     assert_eq!(of.map(mem, SPACE, 0, 0x4000_0000, 0x4000_0000, 0), Mapped { reason: 8, tables: 0 });
     assert_eq!(of.map(mem, SPACE, VA + 0x1000, 0, 0x1000, 4), done(0));
     assert_eq!(entry(mem, 0x15, 360), 0x8000_0000_0000_0001);
+    assert_book(mem, [0, 0, 0, 3], [0x13, 0x14, 0x15, 0, 0], [0, 1, 1, 1, 2]);
 
     // The machine reads and writes the page; then it is the kernel's alone.
     let at = (0x15000 + 8 * 359 - ORIGIN) as usize;
@@ -68,18 +70,19 @@ fn life(of: &dyn Operations) {
 
     let unmapped = |frame, aside, ticket| Unmapped { reason: 0, frame, size: 0x1000, aside, ticket };
     assert_eq!(of.unmap(mem, SPACE, VA), unmapped(0x123_4000, 0, 0));
+    assert_book(mem, [0, 0, 0, 3], [0x13, 0x14, 0x15, 0, 0], [0, 1, 1, 1, 1]);
     assert_eq!(of.unmap(mem, SPACE, VA), Unmapped { reason: 9, ..Unmapped::default() });
     assert_eq!(of.unmap(mem, SPACE, VA + 0x1000), unmapped(0, 3, 3));
     assert_eq!(entry(mem, 0x12, 254), 0);
-    // From the last table up, behind the head, and around the ring.
-    assert_book(mem, [0, 0, 3, 3], [0x13, 0x14, 0x15, 0x15, 0x14]);
+    // From the last table up, behind the head, and around the ring; only the root's count is lowered.
+    assert_book(mem, [0, 0, 3, 3], [0x13, 0x14, 0x15, 0x15, 0x14], [0, 0, 1, 1, 1]);
 
     if !of.is_raw() {
         assert_eq!(of.map(mem, SPACE, VA, 0, 0x4000_0000, 7), Mapped { reason: 2, tables: 0 });
     }
     assert_eq!(of.map(mem, SPACE, 0, 0x4000_0000, 0x4000_0000, 7).reason, 8, "caches were not told yet");
     assert_eq!(of.told(mem, SPACE, 2), Told { reason: 0, released: 2 });
-    assert_book(mem, [2, 2, 1, 3], [0x13, 0x14, 0x15, 0x15, 0x14]);
+    assert_book(mem, [2, 2, 1, 3], [0x13, 0x14, 0x15, 0x15, 0x14], [0, 0, 1, 1, 1]);
     assert_eq!(of.told(mem, SPACE, 2), Told { reason: 0, released: 0 });
 
     // The last page of all, and the last frame.
@@ -87,7 +90,7 @@ fn life(of: &dyn Operations) {
     assert_eq!(entry(mem, 0x12, 511), 0x15007);
     assert_eq!(entry(mem, 0x15, 511), 0x14007);
     assert_eq!(entry(mem, 0x14, 511), 0xf_ffff_ffe0_0085);
-    assert_book(mem, [2, 0, 1, 0], [0x13, 0x14, 0x15, 0x15, 0x14]);
+    assert_book(mem, [2, 0, 1, 0], [0x13, 0x14, 0x15, 0x15, 0x14], [0, 1, 1, 1, 1]);
     assert!(mem[..0x1000].iter().chain(&mem[0x6000..]).all(|byte| *byte == 0x11), "outside the pool");
 }
 
