@@ -219,7 +219,8 @@ TP_CHECKED static inline struct tp_mapped tp_map(const struct tp_space *space, u
     return answer;
 }
 
-/* Unmaps the page that starts exactly at the base, an address. Tables that become empty are set aside. */
+/* Unmaps the page that starts exactly at the base, an address. Tables that become empty are set aside. Which these are the book's counts tell: in a
+ * damaged pool a wrong count may cut off a table that has entries; its pages vanish, and nothing wrong is mapped. */
 TP_CHECKED static inline struct tp_unmapped tp_unmap(const struct tp_space *space, uint64_t base) {
     struct tp_unmapped answer = {TP_POINTER_UNALIGNED, 0, 0, 0, 0};
     if (tp_agrees(space)) answer = tp_raw_unmap(space->mem, space->len, space->origin, space->pool, space->pages, space->root, base);

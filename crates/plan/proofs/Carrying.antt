@@ -8,12 +8,13 @@ use borrow.Author.Tests.{le-leb}
 use lib.Dec.{leb}
 use Rattle.word.specs.Memory.{holds}
 use Rattle.word.specs.Writes.{Write, Wrote, write}
-use Rattle.word.proofs.Budget.{wrote-then, wrote-holds}
+use Rattle.word.proofs.Budget.{wrote-then, wrote-holds, wrote-as}
 use Rattle.walk.specs.Walk.{indexOf}
 use Rattle.plan.specs.declared.maps.Mapping.{Mapping}
 use Rattle.plan.specs.declared.building.TableReached.{TableReached}
 use Rattle.pool.specs.Book.{roomOf}
-use Rattle.pool.specs.Counting.{countWrites}
+use Rattle.pool.specs.Counting.{countWrites, countSet}
+use Rattle.pool.proofs.Counting.{count-set}
 use Rattle.pool.specs.Stands.{standsOf}
 use Rattle.pool.specs.declared.Fit.the-variants.{Fits}
 use Rattle.pool.specs.declared.Space.{Space}
@@ -65,6 +66,11 @@ stands-wrote sp xs n0 n1 x0 x1 f e = rw (wrote-holds (sp .origin) xs n0 n1 x0 x1
 pub room-stands : (h : ℕ → Bool) (sp : Space) → standsOf h sp ≡ Fits → roomOf h (sp .first) (sp .pages) ≡ Fits
 room-stands h sp e = stands h sp e .room
 
+-- a count, as the code sets it
+pub set-wrote : (sp : Space) (p w n0 n1 : ℕ) (x0 x1 : List ℕ) → standsOf (holds x0 (sp .origin)) sp ≡ Fits → Wrote (sp .origin) (countSet x0 sp p w) n0 n1 x0 x1
+    → Wrote (sp .origin) (countWrites sp p w) n0 n1 x0 x1
+set-wrote sp p w n0 n1 x0 x1 e f = wrote-as (sp .origin) _ _ n0 n1 x0 x1 (count-set x0 sp p (room-stands _ sp e) w) f
+
 -- the page's entry and the tables that became empty, as the functions of unmap write them, and the count of the table that stays
 pub cuts-wrote : (sp : Space) (va : ℕ) (r : Removal) (n0 n1 n2 n3 n4 n5 : ℕ) (x0 x1 x2 x3 x4 x5 : List ℕ) (b1 b2 : Book) (i : ℕ) → i ≡ indexOf (r .page .way .level) va
     → standsOf (holds x0 (sp .origin)) sp ≡ Fits
@@ -74,7 +80,7 @@ pub cuts-wrote : (sp : Space) (va : ℕ) (r : Removal) (n0 n1 n2 n3 n4 n5 : ℕ)
     → Wrote (sp .origin) (cutWrites sp 1 (r .empties) (r .page .way .c) (indexOf (r .page .way .level + 2) va) (r .page .way .b) b1) n2 n3 x2 x3
     → Wrote (sp .origin) (cutWrites sp 2 (r .empties) (r .page .way .d) (indexOf (r .page .way .level + 3) va) (r .page .way .c) b2) n3 n4 x3 x4
     → (t : ℕ) → t ≡ staysOf (r .page .way) (r .empties)
-    → (roomOf (holds x4 (sp .origin)) (sp .first) (sp .pages) ≡ Fits → Wrote (sp .origin) (countWrites sp t (r .count)) n4 n5 x4 x5)
+    → Wrote (sp .origin) (countSet x4 sp t (r .count)) n4 n5 x4 x5
     → Wrote (sp .origin) (writesOf sp va r) n0 n5 x0 x5
 unfolding writesOf
 cuts-wrote sp va r n0 n1 n2 n3 n4 n5 x0 x1 x2 x3 x4 x5 b1 b2 i g st f1 e1 e2 f2 f3 f4 t et f5 =
@@ -86,15 +92,15 @@ cuts-wrote sp va r n0 n1 n2 n3 n4 n5 x0 x1 x2 x3 x4 x5 b1 b2 i g st f1 e1 e2 f2 
     subst (λ (b : Book). Wrote (sp .origin) (cutWrites sp 2 (r .empties) (r .page .way .d) (indexOf (r .page .way .level + 3) va) (r .page .way .c) b) n3 n4 x3 x4) c2 f4 in
     let s4 = stands-wrote sp _ n3 n4 x3 x4 f4 (stands-wrote sp _ n2 n3 x2 x3 f3 (stands-wrote sp _ n1 n2 x1 x2 f2 (stands-wrote sp _ n0 n1 x0 x1 f1 st))) in
     wrote-then _ _ _ n0 n1 n5 x0 x1 x5 h1
-    (wrote-then _ _ _ n1 n2 n5 x1 x2 x5 f2 (wrote-then _ _ _ n2 n3 n5 x2 x3 x5 h3 (wrote-then _ _ _ n3 n4 n5 x3 x4 x5 h4 (rw (← et) (f5 (room-stands _ sp s4))))))
+    (wrote-then _ _ _ n1 n2 n5 x1 x2 x5 f2 (wrote-then _ _ _ n2 n3 n5 x2 x3 x5 h3 (wrote-then _ _ _ n3 n4 n5 x3 x4 x5 h4 (rw (← et) (set-wrote sp t (r .count) n4 n5 x4 x5 s4 f5)))))
 
 -- the page's entry alone and the count, where no table becomes empty
 pub cuts-none : (sp : Space) (va : ℕ) (r : Removal) (n0 n1 n2 : ℕ) (x0 x1 x2 : List ℕ) (i : ℕ) → r .empties ≡ 0 → i ≡ indexOf (r .page .way .level) va
     → standsOf (holds x0 (sp .origin)) sp ≡ Fits
     → Wrote (sp .origin) (write (r .page .way .a) i 0 ∷ []) n0 n1 x0 x1
-    → (roomOf (holds x1 (sp .origin)) (sp .first) (sp .pages) ≡ Fits → Wrote (sp .origin) (countWrites sp (r .page .way .a) (r .count)) n1 n2 x1 x2)
+    → Wrote (sp .origin) (countSet x1 sp (r .page .way .a) (r .count)) n1 n2 x1 x2
     → Wrote (sp .origin) (writesOf sp va r) n0 n2 x0 x2
 unfolding writesOf cutWrites staysOf
 cuts-none sp va r n0 n1 n2 x0 x1 x2 i e g st f1 f2 =
     let h1 = subst (λ (k : ℕ). Wrote (sp .origin) (write (r .page .way .a) k 0 ∷ []) n0 n1 x0 x1) g f1 in
-    simp e (wrote-then _ _ _ n0 n1 n2 x0 x1 x2 h1 (f2 (room-stands _ sp (stands-wrote sp _ n0 n1 x0 x1 f1 st))))
+    simp e (wrote-then _ _ _ n0 n1 n2 x0 x1 x2 h1 (set-wrote sp (r .page .way .a) (r .count) n1 n2 x1 x2 (stands-wrote sp _ n0 n1 x0 x1 f1 st) f2))

@@ -7,13 +7,13 @@ use mathlib.Core.Path.{_≡_, refl, sym, ap, _∙_}
 use native.Mathlib.Decide.{ℕ-discrete}
 use native.Mathlib.Omega.{arith}
 use lib.Dec.{leb}
-use borrow.Author.Tests.{leb-true}
+use borrow.Author.Tests.{le-leb}
 use Rattle.word.specs.Memory.{at, set, memory, holds}
 use Rattle.word.specs.Writes.{Write, after, Every, none, more}
 use Rattle.word.specs.Runs.{isTallied, tallyOf, tallyWrites}
+use Rattle.word.specs.declared.Cell.{Cell}
 use Rattle.word.specs.declared.Cell.the-variants as cell
 use Rattle.word.proofs.Set.{set-other}
-use Rattle.word.proofs.Tests.{and-both}
 use Rattle.word.proofs.Tallies.{Tallied, tallied-is, is-tallied}
 use Rattle.pool.specs.declared.Space.{Space}
 use Rattle.pool.specs.declared.Book.{Book}
@@ -22,7 +22,8 @@ use Rattle.pool.specs.Layout.{headAt, freeAt, asideAt, ticketsAt, header
 use Rattle.pool.specs.Book.{wordOf, inPool, roomOf, slotOf, addsUpOf, AddsUp}
 use Rattle.pool.specs.Booked.{SameBook}
 use Rattle.pool.specs.Changes.{put, tookWrites, asideWrites, releaseWrites}
-use Rattle.pool.specs.Counting.{countOf, countIn, countWrites}
+use Rattle.pool.specs.Counting.{countOf, countIn, countNow, countWrites, countSet}
+use Rattle.pool.specs.State.{wordIn}
 use Rattle.pool.proofs.Far.{word-at}
 use Rattle.pool.proofs.Counts.{InPool, pool-in, in-pool, adds-up-is, slot-in}
 use Rattle.pool.proofs.Booked.{Beside}
@@ -50,7 +51,7 @@ module _ (s : List ℕ) (sp : Space) (p : ℕ) (room : roomOf (holds s (sp .orig
       go false true e f = let a = is-tallied _ _ _ _ _ _ _ f .among in sym (in-pool sp p (record { behind = a .behind; before-end = a .before-end })) ∙ e
       go false false e f = refl
 
-  pub count-read : (w : ℕ) → tallyOf s (sp .origin) (sp .first) (bookPages (sp .pages)) (sp .pages) 16 p ≡ cell.Word w → w ≡ countIn (memory s (sp .origin)) sp p
+  count-read : (w : ℕ) → tallyOf s (sp .origin) (sp .first) (bookPages (sp .pages)) (sp .pages) 16 p ≡ cell.Word w → w ≡ countIn (memory s (sp .origin)) sp p
   unfolding tallyOf countIn countOf countAt headerWords
   count-read w e = go (inPool sp p) (rw by-pool at e)
     where
@@ -59,7 +60,7 @@ module _ (s : List ℕ) (sp : Space) (p : ℕ) (room : roomOf (holds s (sp .orig
       go true k = cc
       go false k = let z : _≡_ {A = ℕ} 0 1 = cc in absurd (omega arith)
 
-  pub count-out : tallyOf s (sp .origin) (sp .first) (bookPages (sp .pages)) (sp .pages) 16 p ≡ cell.Outside → 0 ≡ countIn (memory s (sp .origin)) sp p
+  count-out : tallyOf s (sp .origin) (sp .first) (bookPages (sp .pages)) (sp .pages) 16 p ≡ cell.Outside → 0 ≡ countIn (memory s (sp .origin)) sp p
   unfolding tallyOf countIn
   count-out e = go (inPool sp p) (rw by-pool at e)
     where
@@ -68,9 +69,22 @@ module _ (s : List ℕ) (sp : Space) (p : ℕ) (room : roomOf (holds s (sp .orig
       go true k = let z : _≡_ {A = ℕ} 0 1 = cc in absurd (omega arith)
       go false k = refl
 
-  pub count-written : (w : ℕ) → tallyWrites s (sp .origin) (sp .first) (bookPages (sp .pages)) (sp .pages) 16 p w ≡ countWrites sp p w
+  count-written : (w : ℕ) → tallyWrites s (sp .origin) (sp .first) (bookPages (sp .pages)) (sp .pages) 16 p w ≡ countWrites sp p w
   unfolding tallyWrites countWrites countAt headerWords
   count-written w = rw by-pool
+
+  -- THE COUNT THAT IS READ is the book's
+  pub count-now : countNow s sp p ≡ countIn (memory s (sp .origin)) sp p
+  unfolding countNow wordIn headerWords
+  count-now = simp (le-leb _ _ (fitting _ _ _ room .small)) (go (tallyOf s (sp .origin) (sp .first) (bookPages (sp .pages)) (sp .pages) 16 p) refl)
+    where
+      go : (x : Cell) → tallyOf s (sp .origin) (sp .first) (bookPages (sp .pages)) (sp .pages) 16 p ≡ x → wordIn x ≡ countIn (memory s (sp .origin)) sp p
+      go (cell.Word w) e = count-read w e
+      go cell.Outside e = count-out e
+
+  pub count-set : (w : ℕ) → countSet s sp p w ≡ countWrites sp p w
+  unfolding countSet headerWords
+  count-set w = simp (le-leb _ _ (fitting _ _ _ room .small)) (count-written w)
 
 -- In a page of the pool --------------------------------------------------------------------------------------------------------------
 

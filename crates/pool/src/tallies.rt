@@ -1,9 +1,6 @@
 // The count of a table: how many of its entries say something. The book has a word for it, for each page of the pool.
 ghost use mathlib.Core.Path.{_≡_};
-ghost use Rattle.word.specs.Memory.{memory, holds};
 ghost use Rattle.word.specs.Writes.{Wrote};
-ghost use Rattle.pool.specs.declared.Fit.the-variants.{Fits};
-ghost use Rattle.pool.specs.Book as the;
 ghost use Rattle.pool.specs.Counting as to;
 use crate::Space;
 use crate::book_of;
@@ -12,7 +9,7 @@ use word::Cell;
 
 // The count of page p; 0 where p is no page of the pool behind its book.
 pub fn count(mem: &[u8], space: Space, p: u64) -> u64
-    ensures { λ r. ⌜ (the.roomOf (holds (now (mem .entry)) (space .origin)) (space .first) (space .pages) ≡ Fits → r ≡ to.countIn (memory (now (mem .entry)) (space .origin)) space p) ⌝ }
+    ensures { λ r. ⌜ r ≡ to.countNow (now (mem .entry)) space p ⌝ }
 {
     if 4294967296 < space.pages {
         return 0;
@@ -34,7 +31,7 @@ pub fn count(mem: &[u8], space: Space, p: u64) -> u64
 
 // Sets it: one write of the budget; where p is no such page, no write.
 pub fn set_count(mem: &mut [u8], left: &mut u64, space: Space, p: u64, w: u64)
-    ensures { λ _. ⌜ (the.roomOf (holds (now (mem .entry)) (space .origin)) (space .first) (space .pages) ≡ Fits → Wrote (space .origin) (to.countWrites space p w) (now (left .entry)) (now (left .exit)) (now (mem .entry)) (now (mem .exit))) ⌝ }
+    ensures { λ _. ⌜ Wrote (space .origin) (to.countSet (now (mem .entry)) space p w) (now (left .entry)) (now (left .exit)) (now (mem .entry)) (now (mem .exit)) ⌝ }
 {
     if 4294967296 < space.pages {
         return;

@@ -1,5 +1,5 @@
+use Rattle.plan.proofs.Carrying.{stands-wrote, set-wrote}
 use Rattle.word.proofs.Budget.{wrote-then}
-use Rattle.plan.proofs.Carrying.{stands-wrote, room-stands}
 use borrow.Author.Needs.{needs}
 use Rattle.plan.proofs.building.carry_here.Statement.{statement}
 use Rattle.plan.proofs.building.carry_here.Tie as tie
@@ -22,7 +22,7 @@ same-length c = search needs
 
 -- src/building.rt:93:1
 returns : tie.Need-returns
-returns c = wrote-then _ _ _ _ _ _ _ _ _ (c .before .before .before .before .before .before .before .write .ensures) (c .before .before .set-count .ensures (room-stands _ _ (stands-wrote _ _ _ _ _ _ (c .before .before .before .before .before .before .before .write .ensures) (c .before .before .before .before .before .before .before .before .before .before .before .pre))))
+returns c = wrote-then _ _ _ _ _ _ _ _ _ (c .before .before .before .before .before .before .before .write .ensures) (set-wrote _ _ _ _ _ _ _ (stands-wrote _ _ _ _ _ _ (c .before .before .before .before .before .before .before .write .ensures) (c .before .before .before .before .before .before .before .before .before .before .before .pre)) (c .before .before .set-count .ensures))
 
 pub carry-here-spec : {M : Type 1} → statement M
 carry-here-spec = tie.close (tie.spec write-requires set-count-requires same-length returns)

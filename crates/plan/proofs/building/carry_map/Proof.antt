@@ -1,6 +1,6 @@
+use Rattle.plan.proofs.Carrying.{stands-wrote, set-wrote}
 use Rattle.plan.specs.Map.{writesOf}
 use Rattle.word.proofs.Budget.{wrote-then}
-use Rattle.plan.proofs.Carrying.{stands-wrote, room-stands}
 use borrow.Author.Needs.{needs}
 use Rattle.plan.proofs.building.carry_map.Statement.{statement}
 use Rattle.plan.proofs.building.carry_map.Tie as tie
@@ -29,7 +29,7 @@ same-length c = search needs
 -- src/building.rt:136:1
 returns : tie.Need-returns
 unfolding writesOf
-returns c = wrote-then _ _ _ _ _ _ _ _ _ (c .before .before .before .before .before .before .before .before .before .before .before .before .build .ensures) (wrote-then _ _ _ _ _ _ _ _ _ (c .before .before .before .before .before .before .before .carry-taken .ensures) (c .before .before .set-count .ensures (room-stands _ _ (stands-wrote _ _ _ _ _ _ (c .before .before .before .before .before .before .before .carry-taken .ensures) (stands-wrote _ _ _ _ _ _ (c .before .before .before .before .before .before .before .before .before .before .before .before .build .ensures) (c .before .before .before .before .before .before .before .before .before .before .before .before .before .before .before .before .pre .1))))))
+returns c = wrote-then _ _ _ _ _ _ _ _ _ (c .before .before .before .before .before .before .before .before .before .before .before .before .build .ensures) (wrote-then _ _ _ _ _ _ _ _ _ (c .before .before .before .before .before .before .before .carry-taken .ensures) (set-wrote _ _ _ _ _ _ _ (stands-wrote _ _ _ _ _ _ (c .before .before .before .before .before .before .before .carry-taken .ensures) (stands-wrote _ _ _ _ _ _ (c .before .before .before .before .before .before .before .before .before .before .before .before .build .ensures) (c .before .before .before .before .before .before .before .before .before .before .before .before .before .before .before .before .pre .1))) (c .before .before .set-count .ensures)))
 
 pub carry-map-spec : {M : Type 1} → statement M
 carry-map-spec =

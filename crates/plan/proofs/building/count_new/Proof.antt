@@ -1,7 +1,7 @@
+use Rattle.plan.proofs.Carrying.{set-wrote}
 use Rattle.plan.specs.Map.{newCount}
 use Rattle.word.proofs.Budget.{wrote-none}
 use borrow.Author.Tests.{le-leb, lt-leb}
-use Rattle.plan.proofs.Carrying.{room-stands}
 use borrow.Author.Needs.{needs}
 use Rattle.plan.proofs.building.count_new.Statement.{statement}
 use Rattle.plan.proofs.building.count_new.Tie as tie
@@ -25,7 +25,7 @@ same-length c = search needs
 -- src/building.rt:102:1
 returns-2 : tie.Need-returns-2
 unfolding newCount
-returns-2 c = simp (lt-leb _ _ (c .before .before .before .before .before .if1 .left)) (c .before .before .set-count .ensures (room-stands _ _ (c .before .before .before .before .before .before .before .pre)))
+returns-2 c = simp (lt-leb _ _ (c .before .before .before .before .before .if1 .left)) (set-wrote _ _ _ _ _ _ _ (c .before .before .before .before .before .before .before .pre) (c .before .before .set-count .ensures))
 
 pub count-new-spec : {M : Type 1} → statement M
 count-new-spec = tie.close (tie.spec returns set-count-requires same-length returns-2)

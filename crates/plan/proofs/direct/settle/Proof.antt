@@ -1,8 +1,9 @@
+use Rattle.pool.proofs.Counting.{count-now}
+use Rattle.plan.proofs.Carrying.{room-stands, stands-wrote, set-wrote}
 use Rattle.word.proofs.Budget.{wrote-none, wrote-as, wrote-then}
 use mathlib.Core.Path.{_≡_, sym, _∙_}
 use native.Mathlib.Omega.{arith}
 use Rattle.plan.specs.AtOnce.{onceOf, onceWrites}
-use Rattle.plan.proofs.Carrying.{room-stands, stands-wrote}
 use Rattle.plan.proofs.Placings.{raised-is}
 use Rattle.plan.proofs.Reading.{lead-entry}
 use borrow.Author.Needs.{needs}
@@ -64,7 +65,7 @@ same-length c = search needs
 -- src/direct.rt:95:1
 returns : tie.Need-returns
 unfolding onceOf onceWrites
-returns c = let e = sym (c .before .before .before .before .before .before .before .before .before .before .before .before .before .before .before .before .follow .ensures) ∙ c .before .before .before .before .before .before .before .before .before .before .before .before .before .before .enum-told .given .1 in let i = c .before .before .before .before .before .before .before .before .index .ensures .0 (omega (arith, c .before .before .before .before .before .before .before .before .before .before .before .before .before .before .before .before .before .before .before .pre .0)) in let f = wrote-as _ _ _ _ _ _ _ (lead-entry _ _ (c .before .before .before .before .before .before .before .before .before .before .before .before .before .before .before .before .before .before .before .pre .1) _ _ _ (c .before .before .before .before .before .before .before .before .before .before .before .before .before .before .before .before .before .before .before .args .x) e) (rw i at (c .before .before .before .before .before .before .before .set-entry .ensures)) in let k = raised-is _ _ _ _ _ (c .before .before .before .before .before .before .before .before .before .before .before .before .count .ensures (room-stands _ _ (c .before .before .before .before .before .before .before .before .before .before .before .before .before .before .before .before .before .before .before .pre .1))) (c .before .before .before .before .before .before .before .before .before .before .before .wrapping-add-u64 .ensures) in (rw e, rw (e, ← k) (wrote-then _ _ _ _ _ _ _ _ _ f (c .before .before .set-count .ensures (room-stands _ _ (stands-wrote _ _ _ _ _ _ f (c .before .before .before .before .before .before .before .before .before .before .before .before .before .before .before .before .before .before .before .pre .1))))))
+returns c = let e = sym (c .before .before .before .before .before .before .before .before .before .before .before .before .before .before .before .before .follow .ensures) ∙ c .before .before .before .before .before .before .before .before .before .before .before .before .before .before .enum-told .given .1 in let i = c .before .before .before .before .before .before .before .before .index .ensures .0 (omega (arith, c .before .before .before .before .before .before .before .before .before .before .before .before .before .before .before .before .before .before .before .pre .0)) in let f = wrote-as _ _ _ _ _ _ _ (lead-entry _ _ (c .before .before .before .before .before .before .before .before .before .before .before .before .before .before .before .before .before .before .before .pre .1) _ _ _ (c .before .before .before .before .before .before .before .before .before .before .before .before .before .before .before .before .before .before .before .args .x) e) (rw i at (c .before .before .before .before .before .before .before .set-entry .ensures)) in let k = raised-is _ _ _ _ _ (c .before .before .before .before .before .before .before .before .before .before .before .before .count .ensures ∙ count-now _ _ _ (room-stands _ _ (c .before .before .before .before .before .before .before .before .before .before .before .before .before .before .before .before .before .before .before .pre .1))) (c .before .before .before .before .before .before .before .before .before .before .before .wrapping-add-u64 .ensures) in (rw e, rw (e, ← k) (wrote-then _ _ _ _ _ _ _ _ _ f (set-wrote _ _ _ _ _ _ _ (stands-wrote _ _ _ _ _ _ f (c .before .before .before .before .before .before .before .before .before .before .before .before .before .before .before .before .before .before .before .pre .1)) (c .before .before .set-count .ensures))))
 
 -- src/direct.rt:95:1
 same-length-2 : tie.Need-same-length-2

@@ -1,3 +1,5 @@
+use Rattle.pool.proofs.Counting.{count-now}
+use mathlib.Core.Path.{_∙_}
 use native.Mathlib.Omega.{arith}
 use Rattle.plan.proofs.Arrivals.{vacant-here, vacant-built}
 use Rattle.plan.proofs.Carrying.{room-stands}
@@ -23,7 +25,7 @@ wrapping-add-u64-requires c κs = search needs
 
 -- src/maps.rt:253:9
 returns : tie.Need-returns
-returns c = λ w e. vacant-here _ _ _ _ _ _ _ w e (c .before .before .before .before .before .before .pre .0) (c .if1 .taken) _ (raised-is _ _ _ _ _ (c .before .before .before .count .ensures (room-stands _ _ (c .before .before .before .before .before .before .pre .1))) (c .before .before .wrapping-add-u64 .ensures))
+returns c = λ w e. vacant-here _ _ _ _ _ _ _ w e (c .before .before .before .before .before .before .pre .0) (c .if1 .taken) _ (raised-is _ _ _ _ _ (c .before .before .before .count .ensures ∙ count-now _ _ _ (room-stands _ _ (c .before .before .before .before .before .before .pre .1))) (c .before .before .wrapping-add-u64 .ensures))
 
 -- src/maps.rt:267:40
 sub-supplied : tie.Need-sub-supplied
@@ -43,7 +45,7 @@ place-requires c κs = search needs
 
 -- src/maps.rt:246:1
 returns-2 : tie.Need-returns-2
-returns-2 c = λ w e. vacant-built _ _ 0 _ _ _ _ w e _ (rw (c .before .spared .ensures, c .before .before .supplied .ensures, raised-is _ _ _ _ _ (c .before .before .before .before .before .before .before .count .ensures (room-stands _ _ (c .before .before .before .before .before .before .before .before .before .before .pre .1))) (c .before .before .before .before .before .before .wrapping-add-u64 .ensures)) at (c .place .ensures (omega (arith, c .before .before .before .before .if1 .left)) (c .before .before .before .before .before .before .before .before .before .before .pre .0)))
+returns-2 c = λ w e. vacant-built _ _ 0 _ _ _ _ w e _ (rw (c .before .spared .ensures, c .before .before .supplied .ensures, raised-is _ _ _ _ _ (c .before .before .before .before .before .before .before .count .ensures ∙ count-now _ _ _ (room-stands _ _ (c .before .before .before .before .before .before .before .before .before .before .pre .1))) (c .before .before .before .before .before .before .wrapping-add-u64 .ensures)) at (c .place .ensures (omega (arith, c .before .before .before .before .if1 .left)) (c .before .before .before .before .before .before .before .before .before .before .pre .0)))
 
 pub vacant-spec : {M : Type 1} → statement M
 vacant-spec =

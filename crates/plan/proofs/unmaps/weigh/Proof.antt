@@ -1,3 +1,5 @@
+use Rattle.pool.proofs.Counting.{count-now}
+use mathlib.Core.Path.{_∙_}
 use Rattle.plan.specs.Unmap.{weighOf}
 use Rattle.plan.proofs.Carrying.{room-stands}
 use Rattle.plan.proofs.Weighing.{weigh-one, weigh-top, weigh-more}
@@ -15,17 +17,17 @@ count-requires c κs = search needs
 -- src/unmaps.rt:56:13
 returns : tie.Need-returns
 unfolding weighOf
-returns c = let e = c .before .before .count .ensures (room-stands _ _ (c .before .before .before .before .pre)) in rw (← e) (weigh-one _ _ _ _ (c .before .if1 .taken) (c .if2 .taken))
+returns c = let e = c .before .before .count .ensures ∙ count-now _ _ _ (room-stands _ _ (c .before .before .before .before .pre)) in rw (← e) (weigh-one _ _ _ _ (c .before .if1 .taken) (c .if2 .taken))
 
 -- src/unmaps.rt:49:1
 returns-2 : tie.Need-returns-2
 unfolding weighOf
-returns-2 c = let e = c .before .before .count .ensures (room-stands _ _ (c .before .before .before .before .pre)) in rw (← e) (weigh-top _ _ _ _ (c .before .if1 .taken) (c .if2 .left))
+returns-2 c = let e = c .before .before .count .ensures ∙ count-now _ _ _ (room-stands _ _ (c .before .before .before .before .pre)) in rw (← e) (weigh-top _ _ _ _ (c .before .if1 .taken) (c .if2 .left))
 
 -- src/unmaps.rt:49:1
 returns-3 : tie.Need-returns-3
 unfolding weighOf
-returns-3 c = let e = c .before .count .ensures (room-stands _ _ (c .before .before .before .pre)) in rw (← e) (weigh-more _ _ _ _ (c .if1 .left))
+returns-3 c = let e = c .before .count .ensures ∙ count-now _ _ _ (room-stands _ _ (c .before .before .before .pre)) in rw (← e) (weigh-more _ _ _ _ (c .if1 .left))
 
 pub weigh-spec : {M : Type 1} → statement M
 weigh-spec = tie.close (tie.spec count-requires returns returns-2 returns-3)

@@ -1,7 +1,8 @@
 use mathlib.Core.Path.{sym, _∙_}
-use native.Mathlib.Omega.{arith}
-use Rattle.pool.proofs.Opening.{fitting}
-use Rattle.pool.proofs.Counting.{count-read, count-out}
+use borrow.Author.Tests.{le-leb, lt-leb}
+use Rattle.pool.specs.Layout.{headerWords}
+use Rattle.pool.specs.State.{wordIn}
+use Rattle.pool.specs.Counting.{countNow}
 use borrow.Author.Needs.{needs}
 use Rattle.pool.proofs.tallies.count.Statement.{statement}
 use Rattle.pool.proofs.tallies.count.Tie as tie
@@ -10,33 +11,36 @@ use Rattle.pool.proofs.tallies.count.Lts as lts
 use Rattle.pool.proofs.bounds.book_of.Reads as book-of-reads
 use Rattle.word.proofs.read_tally.Reads as read-tally-reads
 
--- src/tallies.rt:18:9
+-- src/tallies.rt:15:9
 returns : tie.Need-returns
-returns c = λ e. absurd (omega (arith, c .if1 .taken, fitting _ _ _ e .small))
+unfolding countNow
+returns c = simp (lt-leb _ _ (c .if1 .taken))
 
--- src/tallies.rt:24:9
+-- src/tallies.rt:21:9
 book-of-requires : tie.Need-book-of-requires
 book-of-requires c κs = search needs
 
--- src/tallies.rt:20:9
+-- src/tallies.rt:17:9
 read-tally-requires : tie.Need-read-tally-requires
 read-tally-requires c κs = search needs
 
--- src/tallies.rt:30:20
+-- src/tallies.rt:27:20
 enum-known-c : tie.Need-enum-known-c
 enum-known-c c = search needs
 
--- src/tallies.rt:31:26
+-- src/tallies.rt:28:26
 enum-told : tie.Need-enum-told
 enum-told c = search needs
 
--- src/tallies.rt:14:1
+-- src/tallies.rt:11:1
 returns-2 : tie.Need-returns-2
-returns-2 c = λ e. count-read _ _ _ e _ (rw (c .before .before .before .before .book-of .ensures) at (sym (c .before .before .before .read-tally .ensures) ∙ c .before .c .given .1))
+unfolding countNow wordIn headerWords
+returns-2 c = let e = rw (c .before .before .before .before .book-of .ensures) at (sym (c .before .before .before .read-tally .ensures) ∙ c .before .c .given .1) in simp (le-leb _ _ (c .before .before .before .before .before .if1 .left), e)
 
--- src/tallies.rt:14:1
+-- src/tallies.rt:11:1
 returns-3 : tie.Need-returns-3
-returns-3 c = λ e. count-out _ _ _ e (rw (c .before .before .before .book-of .ensures) at (sym (c .before .before .read-tally .ensures) ∙ c .enum-told .given .1))
+unfolding countNow wordIn headerWords
+returns-3 c = let e = rw (c .before .before .before .book-of .ensures) at (sym (c .before .before .read-tally .ensures) ∙ c .enum-told .given .1) in simp (le-leb _ _ (c .before .before .before .before .if1 .left), e)
 
 pub count-spec : {M : Type 1} → statement M
 count-spec =
