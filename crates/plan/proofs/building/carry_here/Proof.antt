@@ -8,19 +8,15 @@ use Rattle.plan.proofs.building.carry_here.Lts as lts
 use Rattle.pool.proofs.set_count.Reads as set-count-reads
 use Rattle.word.proofs.write.Reads as write-reads
 
--- src/building.rt:97:5
 write-requires : tie.Need-write-requires
 write-requires c κs = search needs
 
--- src/building.rt:98:5
 set-count-requires : tie.Need-set-count-requires
 set-count-requires c κs = search needs
 
--- src/building.rt:93:1
 same-length : tie.Need-same-length
 same-length c = search needs
 
--- src/building.rt:93:1
 returns : tie.Need-returns
 returns c = wrote-then _ _ _ _ _ _ _ _ _ (c .before .before .before .before .before .before .before .write .ensures) (set-wrote _ _ _ _ _ _ _ (stands-wrote _ _ _ _ _ _ (c .before .before .before .before .before .before .before .write .ensures) (c .before .before .before .before .before .before .before .before .before .before .before .pre)) (c .before .before .set-count .ensures))
 

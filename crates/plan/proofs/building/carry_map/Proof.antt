@@ -10,23 +10,18 @@ use Rattle.plan.proofs.building.build.Reads as build-reads
 use Rattle.plan.proofs.building.carry_taken.Reads as carry-taken-reads
 use Rattle.pool.proofs.set_count.Reads as set-count-reads
 
--- src/building.rt:140:5
 build-requires : tie.Need-build-requires
 build-requires c κs = search needs
 
--- src/building.rt:141:5
 carry-taken-requires : tie.Need-carry-taken-requires
 carry-taken-requires c κs = stands-wrote _ _ _ _ _ _ (c .before .before .before .before .build .ensures) (c .before .before .before .before .before .before .before .before .pre .1)
 
--- src/building.rt:142:5
 set-count-requires : tie.Need-set-count-requires
 set-count-requires c κs = search needs
 
--- src/building.rt:136:1
 same-length : tie.Need-same-length
 same-length c = search needs
 
--- src/building.rt:136:1
 returns : tie.Need-returns
 unfolding writesOf
 returns c = wrote-then _ _ _ _ _ _ _ _ _ (c .before .before .before .before .before .before .before .before .before .before .before .before .build .ensures) (wrote-then _ _ _ _ _ _ _ _ _ (c .before .before .before .before .before .before .before .carry-taken .ensures) (set-wrote _ _ _ _ _ _ _ (stands-wrote _ _ _ _ _ _ (c .before .before .before .before .before .before .before .carry-taken .ensures) (stands-wrote _ _ _ _ _ _ (c .before .before .before .before .before .before .before .before .before .before .before .before .build .ensures) (c .before .before .before .before .before .before .before .before .before .before .before .before .before .before .before .before .pre .1))) (c .before .before .set-count .ensures)))

@@ -11,24 +11,19 @@ use Rattle.plan.proofs.building.carry_taken.Lts as lts
 use Rattle.plan.proofs.building.count_all.Reads as count-all-reads
 use Rattle.pool.proofs.took.Reads as took-reads
 
--- src/building.rt:128:9
 returns : tie.Need-returns
 unfolding takenWrites newCounts newCount
 returns c = rw (c .if1 .taken) (wrote-none _ _ _)
 
--- src/building.rt:131:5
 took-requires : tie.Need-took-requires
 took-requires c κs = search needs
 
--- src/building.rt:132:5
 count-all-requires : tie.Need-count-all-requires
 count-all-requires c κs = stands-wrote _ _ _ _ _ _ (c .before .before .before .before .took .ensures) (c .before .before .before .before .before .before .before .before .before .before .before .pre)
 
--- src/building.rt:123:1
 same-length : tie.Need-same-length
 same-length c = search needs
 
--- src/building.rt:123:1
 returns-2 : tie.Need-returns-2
 unfolding takenWrites
 returns-2 c = let u = c .before .before .before .before .before .before .before .before .before .before .before .if1 .left in simp (lt-ltb 0 (c .before .before .before .before .before .before .before .before .before .before .before .before .before .before .args .f .need) (omega (arith, u))) (wrote-then _ _ _ _ _ _ _ _ _ (c .before .before .before .before .before .before .before .took .ensures) (c .before .before .count-all .ensures))

@@ -8,23 +8,18 @@ use Rattle.plan.proofs.building.count_all.Reads as reads
 use Rattle.plan.proofs.building.count_all.Lts as lts
 use Rattle.plan.proofs.building.count_new.Reads as count-new-reads
 
--- src/building.rt:117:5
 count-new-requires : tie.Need-count-new-requires
 count-new-requires c κs = search needs
 
--- src/building.rt:118:5
 count-new-requires-2 : tie.Need-count-new-requires-2
 count-new-requires-2 c κs = stands-wrote _ _ _ _ _ _ (c .before .before .before .before .count-new .ensures) (c .before .before .before .before .before .before .before .before .pre)
 
--- src/building.rt:119:5
 count-new-requires-3 : tie.Need-count-new-requires-3
 count-new-requires-3 c κs = stands-wrote _ _ _ _ _ _ (c .before .before .before .before .count-new2 .ensures) (stands-wrote _ _ _ _ _ _ (c .before .before .before .before .before .before .before .before .before .count-new .ensures) (c .before .before .before .before .before .before .before .before .before .before .before .before .before .pre))
 
--- src/building.rt:113:1
 same-length : tie.Need-same-length
 same-length c = search needs
 
--- src/building.rt:113:1
 returns : tie.Need-returns
 unfolding newCounts
 returns c = wrote-then _ _ _ _ _ _ _ _ _ (c .before .before .before .before .before .before .before .before .before .before .before .before .count-new .ensures) (wrote-then _ _ _ _ _ _ _ _ _ (c .before .before .before .before .before .before .before .count-new2 .ensures) (c .before .before .count-new3 .ensures))

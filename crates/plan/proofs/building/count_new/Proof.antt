@@ -9,20 +9,16 @@ use Rattle.plan.proofs.building.count_new.Reads as reads
 use Rattle.plan.proofs.building.count_new.Lts as lts
 use Rattle.pool.proofs.set_count.Reads as set-count-reads
 
--- src/building.rt:107:9
 returns : tie.Need-returns
 unfolding newCount
 returns c = simp (le-leb _ _ (c .if1 .taken)) (wrote-none _ _ _)
 
--- src/building.rt:109:5
 set-count-requires : tie.Need-set-count-requires
 set-count-requires c κs = search needs
 
--- src/building.rt:102:1
 same-length : tie.Need-same-length
 same-length c = search needs
 
--- src/building.rt:102:1
 returns-2 : tie.Need-returns-2
 unfolding newCount
 returns-2 c = simp (lt-leb _ _ (c .before .before .before .before .before .if1 .left)) (set-wrote _ _ _ _ _ _ _ (c .before .before .before .before .before .before .before .pre) (c .before .before .set-count .ensures))

@@ -5,19 +5,15 @@ use Rattle.plan.proofs.maps.place.Tie as tie
 use Rattle.plan.proofs.maps.place.Reads as reads
 use Rattle.plan.proofs.maps.place.Lts as lts
 
--- src/maps.rt:232:25
 enum-known-s : tie.Need-enum-known-s
 enum-known-s c = search needs
 
--- src/maps.rt:233:23
 enum-known-s-2 : tie.Need-enum-known-s-2
 enum-known-s-2 c = search needs
 
--- src/maps.rt:228:1
 returns : tie.Need-returns
 returns c = λ u e. place-lacking _ _ _ _ _ 0 _ _ (c .before .s .given .1)
 
--- src/maps.rt:228:1
 returns-2 : tie.Need-returns-2
 returns-2 c = λ u e. place-pages _ _ _ _ _ _ e _ _ (c .before .s2 .given .1) u
 

@@ -15,35 +15,27 @@ use Rattle.plan.proofs.spare.spared.Reads as spared-reads
 use Rattle.pool.proofs.count.Reads as count-reads
 use Rattle.std.proofs.num.wrapping_add_u64.Reads as wrapping-add-u64-reads
 
--- src/maps.rt:251:40
 count-requires : tie.Need-count-requires
 count-requires c κs = search needs
 
--- src/maps.rt:251:9
 wrapping-add-u64-requires : tie.Need-wrapping-add-u64-requires
 wrapping-add-u64-requires c κs = search needs
 
--- src/maps.rt:253:9
 returns : tie.Need-returns
 returns c = λ w e. vacant-here _ _ _ _ _ _ _ w e (c .before .before .before .before .before .before .pre .0) (c .if1 .taken) _ (raised-is _ _ _ _ _ (c .before .before .before .count .ensures ∙ count-now _ _ _ (room-stands _ _ (c .before .before .before .before .before .before .pre .1))) (c .before .before .wrapping-add-u64 .ensures))
 
--- src/maps.rt:267:40
 sub-supplied : tie.Need-sub-supplied
 sub-supplied c = search needs
 
--- src/maps.rt:267:19
 supplied-requires : tie.Need-supplied-requires
 supplied-requires c κs = search needs
 
--- src/maps.rt:267:9
 spared-requires : tie.Need-spared-requires
 spared-requires c κs = search needs
 
--- src/maps.rt:260:5
 place-requires : tie.Need-place-requires
 place-requires c κs = search needs
 
--- src/maps.rt:246:1
 returns-2 : tie.Need-returns-2
 returns-2 c = λ w e. vacant-built _ _ 0 _ _ _ _ w e _ (rw (c .before .spared .ensures, c .before .before .supplied .ensures, raised-is _ _ _ _ _ (c .before .before .before .before .before .before .before .count .ensures ∙ count-now _ _ _ (room-stands _ _ (c .before .before .before .before .before .before .before .before .before .before .pre .1))) (c .before .before .before .before .before .before .wrapping-add-u64 .ensures)) at (c .place .ensures (omega (arith, c .before .before .before .before .if1 .left)) (c .before .before .before .before .before .before .before .before .before .before .pre .0)))
 

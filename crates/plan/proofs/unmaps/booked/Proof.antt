@@ -7,16 +7,13 @@ use Rattle.plan.proofs.unmaps.booked.Reads as reads
 use Rattle.plan.proofs.unmaps.booked.Lts as lts
 use Rattle.pool.proofs.takes.Reads as takes-reads
 
--- src/unmaps.rt:86:8
 takes-requires : tie.Need-takes-requires
 takes-requires c κs = search needs
 
--- src/unmaps.rt:87:9
 returns : tie.Need-returns
 unfolding bookedOf
 returns c = rw (sym (c .before .takes .ensures) ∙ c .if1 .taken)
 
--- src/unmaps.rt:83:1
 returns-2 : tie.Need-returns-2
 unfolding bookedOf
 returns-2 c = rw (sym (c .before .takes .ensures) ∙ c .if1 .left)

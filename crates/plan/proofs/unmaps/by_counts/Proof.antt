@@ -7,38 +7,30 @@ use Rattle.plan.proofs.unmaps.by_counts.Reads as reads
 use Rattle.plan.proofs.unmaps.by_counts.Lts as lts
 use Rattle.plan.proofs.unmaps.remove.Reads as remove-reads
 
--- src/unmaps.rt:128:57
 enum-told : tie.Need-enum-told
 enum-told c = search needs
 
--- src/unmaps.rt:129:24
 enum-known-e : tie.Need-enum-known-e
 enum-known-e c = search needs
 
--- src/unmaps.rt:131:17
 returns : tie.Need-returns
 unfolding weighedOf
 returns c = rw (c .before .before .e .given .1) (simp (eq-eqb _ _ (c .if1 .taken)))
 
--- src/unmaps.rt:134:17
 returns-2 : tie.Need-returns-2
 unfolding weighedOf
 returns-2 c = rw (c .before .before .before .e .given .1) (simp (ne-eqb _ _ (c .before .if1 .left), lt-ltb _ _ (c .if2 .taken)))
 
--- src/unmaps.rt:136:38
 sub-remove : tie.Need-sub-remove
 sub-remove c = search needs
 
--- src/unmaps.rt:136:13
 remove-requires : tie.Need-remove-requires
 remove-requires c κs = search needs
 
--- src/unmaps.rt:124:1
 returns-3 : tie.Need-returns-3
 unfolding weighedOf
 returns-3 c = rw (c .enum-told .given .1)
 
--- src/unmaps.rt:124:1
 returns-4 : tie.Need-returns-4
 unfolding weighedOf
 returns-4 c = rw (c .before .before .before .before .e .given .1) (simp (ne-eqb _ _ (c .before .before .if1 .left), le-ltb _ _ (c .before .if2 .left)) (c .remove .ensures))

@@ -11,59 +11,45 @@ use Rattle.plan.proofs.unmaps.stays.Reads as stays-reads
 use Rattle.pool.proofs.set_count.Reads as set-count-reads
 use Rattle.word.proofs.write.Reads as write-reads
 
--- src/unmaps.rt:204:5
 write-requires : tie.Need-write-requires
 write-requires c κs = search needs
 
--- src/unmaps.rt:206:9
 set-count-requires : tie.Need-set-count-requires
 set-count-requires c κs = search needs
 
--- src/unmaps.rt:207:9
 same-length : tie.Need-same-length
 same-length c = search needs
 
--- src/unmaps.rt:207:9
 returns : tie.Need-returns
 returns c = cuts-none _ _ (c .before .before .before .before .before .before .before .before .before .before .before .before .before .before .before .args .r) _ _ _ _ _ _ _ (c .before .before .before .before .before .if1 .taken) (c .before .before .before .before .before .before .before .before .before .before .before .before .before .before .before .pre .1) (c .before .before .before .before .before .before .before .before .before .before .before .before .before .before .before .pre .2) (c .before .before .before .before .before .before .before .before .write .ensures) (c .before .before .set-count .ensures)
 
--- src/unmaps.rt:211:48
 add-cut : tie.Need-add-cut
 add-cut c = search needs
 
--- src/unmaps.rt:211:9
 cut-requires : tie.Need-cut-requires
 cut-requires c κs = search needs
 
--- src/unmaps.rt:212:48
 add-cut-2 : tie.Need-add-cut-2
 add-cut-2 c = search needs
 
--- src/unmaps.rt:212:9
 cut-requires-2 : tie.Need-cut-requires-2
 cut-requires-2 c κs = search needs
 
--- src/unmaps.rt:213:39
 add-cut-3 : tie.Need-add-cut-3
 add-cut-3 c = omega (arith, c .before .before .before .before .before .before .before .before .before .before .before .before .before .before .before .before .before .before .before .before .before .before .pre .0)
 
--- src/unmaps.rt:213:5
 cut-requires-3 : tie.Need-cut-requires-3
 cut-requires-3 c κs = λ u. omega (arith, c .before .before .before .before .before .before .before .before .before .before .before .before .before .before .before .before .before .before .before .before .before .before .pre .0)
 
--- src/unmaps.rt:214:36
 stays-requires : tie.Need-stays-requires
 stays-requires c κs = search needs
 
--- src/unmaps.rt:214:5
 set-count-requires-2 : tie.Need-set-count-requires-2
 set-count-requires-2 c κs = search needs
 
--- src/unmaps.rt:195:1
 same-length-2 : tie.Need-same-length-2
 same-length-2 c = length-wrote _ _ _ _ _ _ (cuts-wrote _ _ (c .before .before .before .before .before .before .before .before .before .before .before .before .before .before .before .before .before .before .before .before .before .before .before .before .before .before .before .before .before .before .before .args .r) _ _ _ _ _ _ _ _ _ _ _ _ _ _ _ (c .before .before .before .before .before .before .before .before .before .before .before .before .before .before .before .before .before .before .before .before .before .before .before .before .before .before .before .before .before .before .before .pre .1) (c .before .before .before .before .before .before .before .before .before .before .before .before .before .before .before .before .before .before .before .before .before .before .before .before .before .before .before .before .before .before .before .pre .2) (c .before .before .before .before .before .before .before .before .before .before .before .before .before .before .before .before .before .before .before .before .before .before .before .before .write .ensures) (c .before .before .before .before .before .before .before .before .before .before .before .before .before .before .before .before .before .before .cut .ensures .0) (c .before .before .before .before .before .before .before .before .before .before .before .before .before .cut2 .ensures .0) (c .before .before .before .before .before .before .before .before .before .before .before .before .before .before .before .before .before .before .cut .ensures .1) (c .before .before .before .before .before .before .before .before .before .before .before .before .before .cut2 .ensures .1) (c .before .before .before .before .before .before .before .before .cut3 .ensures .1) _ (c .before .before .before .stays .ensures) (c .before .before .set-count2 .ensures))
 
--- src/unmaps.rt:195:1
 returns-2 : tie.Need-returns-2
 returns-2 c = cuts-wrote _ _ (c .before .before .before .before .before .before .before .before .before .before .before .before .before .before .before .before .before .before .before .before .before .before .before .before .before .before .before .before .before .before .before .args .r) _ _ _ _ _ _ _ _ _ _ _ _ _ _ _ (c .before .before .before .before .before .before .before .before .before .before .before .before .before .before .before .before .before .before .before .before .before .before .before .before .before .before .before .before .before .before .before .pre .1) (c .before .before .before .before .before .before .before .before .before .before .before .before .before .before .before .before .before .before .before .before .before .before .before .before .before .before .before .before .before .before .before .pre .2) (c .before .before .before .before .before .before .before .before .before .before .before .before .before .before .before .before .before .before .before .before .before .before .before .before .write .ensures) (c .before .before .before .before .before .before .before .before .before .before .before .before .before .before .before .before .before .before .cut .ensures .0) (c .before .before .before .before .before .before .before .before .before .before .before .before .before .cut2 .ensures .0) (c .before .before .before .before .before .before .before .before .before .before .before .before .before .before .before .before .before .before .cut .ensures .1) (c .before .before .before .before .before .before .before .before .before .before .before .before .before .cut2 .ensures .1) (c .before .before .before .before .before .before .before .before .cut3 .ensures .1) _ (c .before .before .before .stays .ensures) (c .before .before .set-count2 .ensures)
 

@@ -9,33 +9,26 @@ use Rattle.plan.proofs.unmaps.remove.Lts as lts
 use Rattle.plan.proofs.unmaps.booked.Reads as booked-reads
 use Rattle.pool.proofs.open.Reads as open-reads
 
--- src/unmaps.rt:102:9
 returns : tie.Need-returns
 unfolding removeOf
 returns c = simp (eq-eqb _ _ (c .if1 .taken))
 
--- src/unmaps.rt:116:9
 open-requires : tie.Need-open-requires
 open-requires c κs = search needs
 
--- src/unmaps.rt:118:25
 enum-known-o : tie.Need-enum-known-o
 enum-known-o c = search needs
 
--- src/unmaps.rt:119:22
 enum-known-o-2 : tie.Need-enum-known-o-2
 enum-known-o-2 c = search needs
 
--- src/unmaps.rt:119:28
 booked-requires : tie.Need-booked-requires
 booked-requires c κs = search needs
 
--- src/unmaps.rt:98:1
 returns-2 : tie.Need-returns-2
 unfolding removeOf openOf
 returns-2 c = simp (ne-eqb _ _ (c .before .before .before .before .if1 .left), sym (c .before .before .before .«open» .ensures) ∙ c .before .o .given .1)
 
--- src/unmaps.rt:98:1
 returns-3 : tie.Need-returns-3
 unfolding removeOf openOf
 returns-3 c = simp (ne-eqb _ _ (c .before .before .before .before .before .if1 .left), sym (c .before .before .before .before .«open» .ensures) ∙ c .before .before .o2 .given .1, c .booked .ensures)

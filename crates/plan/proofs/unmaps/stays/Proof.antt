@@ -5,22 +5,18 @@ use Rattle.plan.proofs.unmaps.stays.Tie as tie
 use Rattle.plan.proofs.unmaps.stays.Reads as reads
 use Rattle.plan.proofs.unmaps.stays.Lts as lts
 
--- src/unmaps.rt:184:9
 returns : tie.Need-returns
 unfolding staysOf
 returns c = simp (eq-eqb _ _ (c .if1 .taken))
 
--- src/unmaps.rt:187:9
 returns-2 : tie.Need-returns-2
 unfolding staysOf
 returns-2 c = simp (ne-eqb _ _ (c .before .if1 .left), eq-eqb _ _ (c .if2 .taken))
 
--- src/unmaps.rt:190:9
 returns-3 : tie.Need-returns-3
 unfolding staysOf
 returns-3 c = simp (ne-eqb _ _ (c .before .before .if1 .left), ne-eqb _ _ (c .before .if2 .left), eq-eqb _ _ (c .if3 .taken))
 
--- src/unmaps.rt:180:1
 returns-4 : tie.Need-returns-4
 unfolding staysOf
 returns-4 c = simp (ne-eqb _ _ (c .before .before .if1 .left), ne-eqb _ _ (c .before .if2 .left), ne-eqb _ _ (c .if3 .left))

@@ -10,21 +10,17 @@ use Rattle.plan.proofs.unmaps.weigh.Reads as reads
 use Rattle.plan.proofs.unmaps.weigh.Lts as lts
 use Rattle.pool.proofs.count.Reads as count-reads
 
--- src/unmaps.rt:53:9
 count-requires : tie.Need-count-requires
 count-requires c κs = search needs
 
--- src/unmaps.rt:56:13
 returns : tie.Need-returns
 unfolding weighOf
 returns c = let e = c .before .before .count .ensures ∙ count-now _ _ _ (room-stands _ _ (c .before .before .before .before .pre)) in rw (← e) (weigh-one _ _ _ _ (c .before .if1 .taken) (c .if2 .taken))
 
--- src/unmaps.rt:49:1
 returns-2 : tie.Need-returns-2
 unfolding weighOf
 returns-2 c = let e = c .before .before .count .ensures ∙ count-now _ _ _ (room-stands _ _ (c .before .before .before .before .pre)) in rw (← e) (weigh-top _ _ _ _ (c .before .if1 .taken) (c .if2 .left))
 
--- src/unmaps.rt:49:1
 returns-3 : tie.Need-returns-3
 unfolding weighOf
 returns-3 c = let e = c .before .count .ensures ∙ count-now _ _ _ (room-stands _ _ (c .before .before .before .pre)) in rw (← e) (weigh-more _ _ _ _ (c .if1 .left))

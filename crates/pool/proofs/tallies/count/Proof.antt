@@ -11,33 +11,26 @@ use Rattle.pool.proofs.tallies.count.Lts as lts
 use Rattle.pool.proofs.bounds.book_of.Reads as book-of-reads
 use Rattle.word.proofs.read_tally.Reads as read-tally-reads
 
--- src/tallies.rt:15:9
 returns : tie.Need-returns
 unfolding countNow
 returns c = simp (lt-leb _ _ (c .if1 .taken))
 
--- src/tallies.rt:21:9
 book-of-requires : tie.Need-book-of-requires
 book-of-requires c κs = search needs
 
--- src/tallies.rt:17:9
 read-tally-requires : tie.Need-read-tally-requires
 read-tally-requires c κs = search needs
 
--- src/tallies.rt:27:20
 enum-known-c : tie.Need-enum-known-c
 enum-known-c c = search needs
 
--- src/tallies.rt:28:26
 enum-told : tie.Need-enum-told
 enum-told c = search needs
 
--- src/tallies.rt:11:1
 returns-2 : tie.Need-returns-2
 unfolding countNow wordIn headerWords
 returns-2 c = let e = rw (c .before .before .before .before .book-of .ensures) at (sym (c .before .before .before .read-tally .ensures) ∙ c .before .c .given .1) in simp (le-leb _ _ (c .before .before .before .before .before .if1 .left), e)
 
--- src/tallies.rt:11:1
 returns-3 : tie.Need-returns-3
 unfolding countNow wordIn headerWords
 returns-3 c = let e = rw (c .before .before .before .book-of .ensures) at (sym (c .before .before .read-tally .ensures) ∙ c .enum-told .given .1) in simp (le-leb _ _ (c .before .before .before .before .if1 .left), e)

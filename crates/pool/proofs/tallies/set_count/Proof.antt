@@ -10,24 +10,19 @@ use Rattle.pool.proofs.tallies.set_count.Lts as lts
 use Rattle.pool.proofs.bounds.book_of.Reads as book-of-reads
 use Rattle.word.proofs.write_tally.Reads as write-tally-reads
 
--- src/tallies.rt:37:9
 returns : tie.Need-returns
 unfolding countSet
 returns c = simp (lt-leb _ _ (c .if1 .taken)) (wrote-none _ _ _)
 
--- src/tallies.rt:44:9
 book-of-requires : tie.Need-book-of-requires
 book-of-requires c κs = search needs
 
--- src/tallies.rt:39:5
 write-tally-requires : tie.Need-write-tally-requires
 write-tally-requires c κs = search needs
 
--- src/tallies.rt:33:1
 same-length : tie.Need-same-length
 same-length c = search needs
 
--- src/tallies.rt:33:1
 returns-2 : tie.Need-returns-2
 unfolding countSet headerWords
 returns-2 c = simp (le-leb _ _ (c .before .before .before .before .before .before .if1 .left)) (rw (← c .before .before .before .book-of .ensures) (c .before .before .write-tally .ensures))

@@ -10,47 +10,36 @@ use Rattle.word.proofs.run.read_tally.Lts as lts
 use Rattle.word.proofs.load.Reads as load-reads
 use Rattle.word.proofs.run.tallied.Reads as tallied-reads
 
--- src/run.rt:112:8
 tallied-requires : tie.Need-tallied-requires
 tallied-requires c κs = search needs
 
--- src/run.rt:115:14
 mul-load : tie.Need-mul-load
 mul-load c = omega (arith, tally-spot _ _ _ (c .before .before .before .args .kept) _ (c .before .before .before .args .skip) (c .before .before .before .args .p) (sym (c .before .tallied .ensures) ∙ c .if1 .taken) .product)
 
--- src/run.rt:115:14
 sub-load : tie.Need-sub-load
 sub-load c = tally-spot _ _ _ (c .before .before .before .args .kept) _ (c .before .before .before .args .skip) (c .before .before .before .args .p) (sym (c .before .tallied .ensures) ∙ c .if1 .taken) .above
 
--- src/run.rt:115:39
 add-load : tie.Need-add-load
 add-load c = omega (arith, tally-spot _ _ _ (c .before .before .before .args .kept) _ (c .before .before .before .args .skip) (c .before .before .before .args .p) (sym (c .before .tallied .ensures) ∙ c .if1 .taken) .sum)
 
--- src/run.rt:115:55
 sub-load-2 : tie.Need-sub-load-2
 sub-load-2 c = tally-spot _ _ _ (c .before .before .before .args .kept) _ (c .before .before .before .args .skip) (c .before .before .before .args .p) (sym (c .before .tallied .ensures) ∙ c .if1 .taken) .behind
 
--- src/run.rt:115:39
 add-load-2 : tie.Need-add-load-2
 add-load-2 c = omega (arith, tally-spot _ _ _ (c .before .before .before .args .kept) _ (c .before .before .before .args .skip) (c .before .before .before .args .p) (sym (c .before .tallied .ensures) ∙ c .if1 .taken) .sum)
 
--- src/run.rt:115:38
 mul-load-2 : tie.Need-mul-load-2
 mul-load-2 c = omega (arith, tally-spot _ _ _ (c .before .before .before .args .kept) _ (c .before .before .before .args .skip) (c .before .before .before .args .p) (sym (c .before .tallied .ensures) ∙ c .if1 .taken) .sum)
 
--- src/run.rt:115:14
 add-load-3 : tie.Need-add-load-3
 add-load-3 c = omega (arith, tally-spot _ _ _ (c .before .before .before .args .kept) _ (c .before .before .before .args .skip) (c .before .before .before .args .p) (sym (c .before .tallied .ensures) ∙ c .if1 .taken) .fits)
 
--- src/run.rt:113:27
 load-requires : tie.Need-load-requires
 load-requires c κs = tally-spot _ _ _ (c .before .before .before .args .kept) _ (c .before .before .before .args .skip) (c .before .before .before .args .p) (sym (c .before .tallied .ensures) ∙ c .if1 .taken) .fits
 
--- src/run.rt:113:9
 returns : tie.Need-returns
 returns c = rw (c .load .ensures) (tally-read _ _ _ _ _ _ _ (is-tallied _ _ _ _ _ _ _ (sym (c .before .before .tallied .ensures) ∙ c .before .if1 .taken)))
 
--- src/run.rt:101:1
 returns-2 : tie.Need-returns-2
 unfolding tallyOf
 returns-2 c = simp (sym (c .before .tallied .ensures) ∙ c .if1 .left)

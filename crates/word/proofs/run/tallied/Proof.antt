@@ -7,15 +7,12 @@ use Rattle.word.proofs.run.tallied.Reads as reads
 use Rattle.word.proofs.run.tallied.Lts as lts
 use Rattle.word.proofs.run.among.Reads as among-reads
 
--- src/run.rt:96:9
 returns : tie.Need-returns
 returns c = sym (none-far _ _ _ _ _ _ _ (c .if1 .taken))
 
--- src/run.rt:98:5
 among-requires : tie.Need-among-requires
 among-requires c κs = search needs
 
--- src/run.rt:84:1
 returns-2 : tie.Need-returns-2
 returns-2 c = c .among .ensures ∙ none-near _ _ _ _ _ _ _ (c .before .if1 .left)
 

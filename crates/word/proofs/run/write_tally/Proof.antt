@@ -11,67 +11,51 @@ use Rattle.word.proofs.run.tallied.Reads as tallied-reads
 use Rattle.word.proofs.spend.Reads as spend-reads
 use Rattle.word.proofs.store.Reads as store-reads
 
--- src/run.rt:135:8
 tallied-requires : tie.Need-tallied-requires
 tallied-requires c κs = search needs
 
--- src/run.rt:136:12
 spend-requires : tie.Need-spend-requires
 spend-requires c κs = search needs
 
--- src/run.rt:139:18
 mul-store : tie.Need-mul-store
 mul-store c = omega (arith, tally-spot _ _ _ (c .before .before .before .before .before .before .before .before .args .kept) _ (c .before .before .before .before .before .before .before .before .args .skip) (c .before .before .before .before .before .before .before .before .args .p) (sym (c .before .before .before .before .before .tallied .ensures) ∙ c .before .before .before .before .if1 .taken) .product)
 
--- src/run.rt:139:18
 sub-store : tie.Need-sub-store
 sub-store c = tally-spot _ _ _ (c .before .before .before .before .before .before .before .before .args .kept) _ (c .before .before .before .before .before .before .before .before .args .skip) (c .before .before .before .before .before .before .before .before .args .p) (sym (c .before .before .before .before .before .tallied .ensures) ∙ c .before .before .before .before .if1 .taken) .above
 
--- src/run.rt:139:43
 add-store : tie.Need-add-store
 add-store c = omega (arith, tally-spot _ _ _ (c .before .before .before .before .before .before .before .before .args .kept) _ (c .before .before .before .before .before .before .before .before .args .skip) (c .before .before .before .before .before .before .before .before .args .p) (sym (c .before .before .before .before .before .tallied .ensures) ∙ c .before .before .before .before .if1 .taken) .sum)
 
--- src/run.rt:139:59
 sub-store-2 : tie.Need-sub-store-2
 sub-store-2 c = tally-spot _ _ _ (c .before .before .before .before .before .before .before .before .args .kept) _ (c .before .before .before .before .before .before .before .before .args .skip) (c .before .before .before .before .before .before .before .before .args .p) (sym (c .before .before .before .before .before .tallied .ensures) ∙ c .before .before .before .before .if1 .taken) .behind
 
--- src/run.rt:139:43
 add-store-2 : tie.Need-add-store-2
 add-store-2 c = omega (arith, tally-spot _ _ _ (c .before .before .before .before .before .before .before .before .args .kept) _ (c .before .before .before .before .before .before .before .before .args .skip) (c .before .before .before .before .before .before .before .before .args .p) (sym (c .before .before .before .before .before .tallied .ensures) ∙ c .before .before .before .before .if1 .taken) .sum)
 
--- src/run.rt:139:42
 mul-store-2 : tie.Need-mul-store-2
 mul-store-2 c = omega (arith, tally-spot _ _ _ (c .before .before .before .before .before .before .before .before .args .kept) _ (c .before .before .before .before .before .before .before .before .args .skip) (c .before .before .before .before .before .before .before .before .args .p) (sym (c .before .before .before .before .before .tallied .ensures) ∙ c .before .before .before .before .if1 .taken) .sum)
 
--- src/run.rt:139:18
 add-store-3 : tie.Need-add-store-3
 add-store-3 c = omega (arith, tally-spot _ _ _ (c .before .before .before .before .before .before .before .before .args .kept) _ (c .before .before .before .before .before .before .before .before .args .skip) (c .before .before .before .before .before .before .before .before .args .p) (sym (c .before .before .before .before .before .tallied .ensures) ∙ c .before .before .before .before .if1 .taken) .fits)
 
--- src/run.rt:137:13
 store-requires : tie.Need-store-requires
 store-requires c κs = tally-spot _ _ _ (c .before .before .before .before .before .before .before .before .args .kept) _ (c .before .before .before .before .before .before .before .before .args .skip) (c .before .before .before .before .before .before .before .before .args .p) (sym (c .before .before .before .before .before .tallied .ensures) ∙ c .before .before .before .before .if1 .taken) .fits
 
--- src/run.rt:122:1
 same-length : tie.Need-same-length
 same-length c = search needs
 
--- src/run.rt:122:1
 returns : tie.Need-returns
 returns c = let e = sym (c .before .before .before .before .before .before .before .before .tallied .ensures) ∙ c .before .before .before .before .before .before .before .if1 .taken in rw (one-tally _ _ _ _ _ _ _ (c .before .before .before .before .before .before .before .before .before .before .before .args .w) e) (wrote-one _ _ _ _ _ _ _ _ (sym (c .before .before .before .before .before .spend .ensures .0) ∙ c .before .before .before .before .if2 .taken) (c .before .before .before .before .before .spend .ensures .1) (c .before .before .store .ensures ∙ tally-written _ _ _ _ _ _ _ (is-tallied _ _ _ _ _ _ _ e) _))
 
--- src/run.rt:122:1
 same-length-2 : tie.Need-same-length-2
 same-length-2 c = search needs
 
--- src/run.rt:122:1
 returns-2 : tie.Need-returns-2
 returns-2 c = rw (one-tally _ _ _ _ _ _ _ (c .before .before .before .before .before .before .before .args .w) (sym (c .before .before .before .before .tallied .ensures) ∙ c .before .before .before .if1 .taken)) (wrote-stopped _ _ _ _ _ _ _ (sym (c .before .spend .ensures .0) ∙ c .if2 .left) (c .before .spend .ensures .1))
 
--- src/run.rt:122:1
 same-length-3 : tie.Need-same-length-3
 same-length-3 c = search needs
 
--- src/run.rt:122:1
 returns-3 : tie.Need-returns-3
 returns-3 c = rw (none-tally _ _ _ _ _ _ _ (c .before .before .before .before .args .w) (sym (c .before .tallied .ensures) ∙ c .if1 .left)) (wrote-none _ _ _)
 
