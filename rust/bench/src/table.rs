@@ -29,7 +29,7 @@ const MORE: [(&str, &str, &str); 2] = [
         "map 4 KiB, 1 table missing",
     ),
     (
-        "one table more in an unmap: looking at 512 entries, and unlinking it",
+        "one table more in an unmap: unlinking it, and setting it aside",
         "unmap 4 KiB, 3 tables become empty",
         "unmap 4 KiB, 1 table becomes empty",
     ),

@@ -113,7 +113,8 @@ impl Scene {
             8 | 9 => {
                 let at = book(HEADER + pages + self.random.below(pages));
                 let old = word(at);
-                let word = self.random.pick(&[0, 1, 1, 2, 512, 513, old.wrapping_add(1), old.wrapping_sub(1), u64::MAX]);
+                let word =
+                    self.random.pick(&[0, 1, 1, 2, 512, 513, old.wrapping_add(1), old.wrapping_sub(1), u64::MAX]);
                 Step::Put { at, word }
             }
             10 => {
