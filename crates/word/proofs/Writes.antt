@@ -37,12 +37,12 @@ carried_append s origin (x ∷ a) b = carried_append (written s origin x.page x.
 pub length_carried : (s : List ℕ) (origin : ℕ) (xs : List Write) → length (carried s origin xs) ≡ length s
 unfolding carried
 length_carried s origin [] = refl
-length_carried s origin (x ∷ xs) = length_carried _ origin xs ∙ length_written s origin x.page x.index x.word
+length_carried s origin (x ∷ xs) = length_carried (written s origin x.page x.index x.word) origin xs ∙ length_written s origin x.page x.index x.word
 
 pub holds_carried : (s : List ℕ) (origin : ℕ) (xs : List Write) → holds (carried s origin xs) origin ≡ holds s origin
 unfolding carried
 holds_carried s origin [] = refl
-holds_carried s origin (x ∷ xs) = holds_carried _ origin xs ∙ holds_written s origin x.page x.index x.word
+holds_carried s origin (x ∷ xs) = holds_carried (written s origin x.page x.index x.word) origin xs ∙ holds_written s origin x.page x.index x.word
 
 -- THE BRIDGE: what is proved of memory holds of the bytes
 pub memory_carried : (s : List ℕ) (origin : ℕ) (xs : List Write) → Every (λ p. holds s origin p ≡ true) xs

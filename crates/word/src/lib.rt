@@ -1,4 +1,6 @@
 // Words of eight bytes in a window of physical memory: one read and one write, each for any bytes and any numbers.
+#![tactic(auto)]
+
 ghost use Rattle.std.specs.Prelude.{◌≡◌, ℕ, ◌+◌, ◌-◌, ◌%◌, ◌^◌, ◌<◌, ◌≤◌, List, [], ◌∷◌, length, if◌then◌else◌, nat_le, nat_lt};
 ghost use Rattle.word.specs.Bytes.{word_at, put_word};
 ghost use Rattle.word.specs.Memory.{holds, read_of, written};

@@ -1,0 +1,10 @@
+use Rattle.std.proofs.Common.{◌≡◌, ◌-◌, ◌≤◌, ap, ◌∙◌, arith}
+use Rattle.word.specs.Writes.{Wrote, zeros}
+use Rattle.word.proofs.Budget.{wrote_no_zero, wrote_zero, length_wrote}
+use Rattle.word.proofs.clear.Given as goal
+
+abbrev pub invariant-loop-i : goal.invariant-loop-i
+invariant-loop-i l = (l.i ≤ 512) × Wrote l.origin (zeros l.p l.i) l.initial.left l.left l.initial.mem l.mem
+
+abbrev pub decreases-loop-i : goal.decreases-loop-i
+decreases-loop-i l = 512 - l.i
