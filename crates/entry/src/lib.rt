@@ -1,4 +1,6 @@
 // Entries of page tables: what a word says at each level, and the words that we write.
+#![tactic(auto)]
+
 ghost use Rattle.std.specs.Prelude.{◌≡◌, ℕ, ◌<◌, ◌≤◌};
 ghost use Rattle.entry.specs.Entry as the;
 ghost use Rattle.entry.specs.Words as made;

@@ -1,4 +1,6 @@
 // What a walk through the tables finds: the page that an address means, for any bytes.
+#![tactic(auto)]
+
 ghost use Rattle.std.specs.Prelude.{◌≡◌, ◌<◌, ◌≤◌};
 ghost use Rattle.word.specs.Memory.{memory, holds};
 ghost use Rattle.walk.specs.Walk as the;

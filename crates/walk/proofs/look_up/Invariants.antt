@@ -1,0 +1,11 @@
+use Rattle.std.proofs.Common.{◌≡◌, ◌≤◌, sym, refl, ap, ◌∙◌, arith, rules}
+use Rattle.word.specs.Memory.{memory, holds}
+use Rattle.walk.specs.Walk.{walk, run, start, found_of}
+use Rattle.walk.proofs.Steps.{run_down, run_none}
+use Rattle.walk.proofs.look_up.Given as goal
+
+abbrev pub invariant-loop-n : goal.invariant-loop-n
+invariant-loop-n l = (l.n ≤ 4) × (run (holds l.mem l.origin) (memory l.mem l.origin) 4 l.va (start l.cr3 l.va) ≡ run (holds l.mem l.origin) (memory l.mem l.origin) l.n l.va l.p)
+
+abbrev pub decreases-loop-n : goal.decreases-loop-n
+decreases-loop-n l = l.n
