@@ -68,7 +68,7 @@ reads_bare h m va (suc n) p r e = (
 )
 
 -- A PLACE OF A WALK is a table that it comes to.
-pub way_comes : {σ : Setting} {m : ℕ → ℕ} {va n : ℕ} {p : Place} (P : ℕ → Type 0) (t : ℕ) (r : Rights) → ComesBy P σ.window m σ.cr3 va n p → p ≡ Going t r → Comes σ m va n t
+pub way_comes : {σ : Setting} {m : ℕ → ℕ} {va : ℕ} (P : ℕ → Type 0) {n : ℕ} {p : Place} (t : ℕ) (r : Rights) → ComesBy P σ.window m σ.cr3 va n p → p ≡ Going t r → Comes σ m va n t
 unfolding start step_of entered
 way_comes {σ} {m} {va} P t r by_start e = go (canonical va) refl e
   where

@@ -1,1 +1,2 @@
 // No code. Walks beside writers, with caches: what is said is in specs/, and proved in proofs/.
+#![tactic(auto)]
