@@ -8,7 +8,7 @@ use walk::Found;
 
 // What making a pool answers: the root's physical address.
 #[repr(C)]
-#[derive(Drop)]
+#[derive(Clone, Copy)]
 pub struct Created {
     pub reason: u64,
     pub root: u64,
@@ -16,7 +16,7 @@ pub struct Created {
 
 // What map answers: how many tables were made for the page.
 #[repr(C)]
-#[derive(Drop)]
+#[derive(Clone, Copy)]
 pub struct Mapped {
     pub reason: u64,
     pub tables: u64,
@@ -24,7 +24,7 @@ pub struct Mapped {
 
 // The page that was unmapped, how many tables were set aside, and the ticket of the moment after it, to be reported.
 #[repr(C)]
-#[derive(Drop)]
+#[derive(Clone, Copy)]
 pub struct Unmapped {
     pub reason: u64,
     pub frame: u64,
@@ -35,7 +35,7 @@ pub struct Unmapped {
 
 // The page whose rights changed, and the ticket, as of unmap.
 #[repr(C)]
-#[derive(Drop)]
+#[derive(Clone, Copy)]
 pub struct Protected {
     pub reason: u64,
     pub frame: u64,
@@ -45,7 +45,7 @@ pub struct Protected {
 
 // What a report answers: how many pages are free again.
 #[repr(C)]
-#[derive(Drop)]
+#[derive(Clone, Copy)]
 pub struct Told {
     pub reason: u64,
     pub released: u64,
@@ -53,7 +53,7 @@ pub struct Told {
 
 // How many pages a pool has, how many of them are free, set aside, and tables beside the root; and the ticket of the moment.
 #[repr(C)]
-#[derive(Drop)]
+#[derive(Clone, Copy)]
 pub struct Counts {
     pub reason: u64,
     pub pages: u64,
@@ -65,7 +65,7 @@ pub struct Counts {
 
 // What an address means. Fields that say nothing are 0.
 #[repr(C)]
-#[derive(Drop)]
+#[derive(Clone, Copy)]
 pub struct LookedUp {
     // 0: nothing; 1: a page; 2: outside, the way leads to a table that does not lie in the window
     pub kind: u64,

@@ -8,7 +8,7 @@ use entry::Entry;
 
 // What an entry says. Fields that say nothing are 0.
 #[repr(C)]
-#[derive(Drop)]
+#[derive(Clone, Copy)]
 pub struct Said {
     // 0: nothing, it is not present; 1: a page; 2: outside, there is no such entry in the window; 3: a table;
     // 4: nothing, though it is present: reserved bits are set

@@ -6,7 +6,7 @@ use plan::{Asked, Shape};
 use pool::Space;
 
 // A space by page numbers, or the number of the reason why there is none.
-#[derive(Drop)]
+#[derive(Clone, Copy)]
 pub enum Sited {
     At(Space),
     Refused(u64),

@@ -8,14 +8,14 @@ ghost use Rattle.entry.specs.Words as made;
 // Frames end here: physical addresses have 52 bits.
 pub const FRAME_END: u64 = 4503599627370496;
 
-#[derive(Drop)]
+#[derive(Clone, Copy)]
 pub struct Rights {
     pub writable: bool,
     pub user: bool,
     pub noexec: bool,
 }
 
-#[derive(Drop)]
+#[derive(Clone, Copy)]
 pub enum Entry {
     Nothing,
     // the frame's address, and the entry's own rights
@@ -24,7 +24,7 @@ pub enum Entry {
     Table(u64, Rights),
 }
 
-#[derive(Drop)]
+#[derive(Clone, Copy)]
 pub enum Made {
     Word(u64),
     Refused,

@@ -12,13 +12,13 @@ use crate::maps::{Asked, Leaf, Mapping, Placing, decide_map};
 use pool::Space;
 
 // What came of it: so many tables were made.
-#[derive(Drop)]
+#[derive(Clone, Copy)]
 pub enum Making {
     Done(u64),
     Refused(Reason),
 }
 
-#[derive(Drop)]
+#[derive(Clone, Copy)]
 pub struct TableReached {
     pub level: u64,
     pub table: u64,

@@ -12,7 +12,7 @@ use entry::Entry;
 use pool::Space;
 use word::Cell;
 
-#[derive(Drop)]
+#[derive(Clone, Copy)]
 pub enum Why {
     Nothing,
     Page,
@@ -23,7 +23,7 @@ pub enum Why {
 }
 
 // Where the way stops: the level and the word of the entry there, and the tables on the way, the last one first.
-#[derive(Drop)]
+#[derive(Clone, Copy)]
 pub struct Way {
     pub why: Why,
     pub level: u64,
@@ -35,14 +35,14 @@ pub struct Way {
 }
 
 // The way, and what was found out on it: the entry's index in its table, and the frame where it is a page's.
-#[derive(Drop)]
+#[derive(Clone, Copy)]
 pub struct Arrival {
     pub way: Way,
     pub index: u64,
     pub frame: u64,
 }
 
-#[derive(Drop)]
+#[derive(Clone, Copy)]
 pub enum Descending {
     Going(u64, Way),
     Stopped(Arrival),

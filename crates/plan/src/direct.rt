@@ -18,7 +18,7 @@ use pool::{Fit, Space};
 use word::Cell;
 
 // What an entry leads to.
-#[derive(Drop)]
+#[derive(Clone, Copy)]
 pub enum Lead {
     Table(u64),
     Page,
@@ -27,7 +27,7 @@ pub enum Lead {
     Stray,
 }
 
-#[derive(Drop)]
+#[derive(Clone, Copy)]
 pub enum Once {
     Done,
     // refused: something is mapped there

@@ -11,7 +11,7 @@ use crate::descent::{Arrival, Way, Why, descend};
 use pool::{Fit, Space};
 
 // Where the page's entry is, and what it says.
-#[derive(Drop)]
+#[derive(Clone, Copy)]
 pub struct PageEntry {
     pub way: Way,
     pub index: u64,
@@ -19,7 +19,7 @@ pub struct PageEntry {
     pub size: u64,
 }
 
-#[derive(Drop)]
+#[derive(Clone, Copy)]
 pub enum Sought {
     Found(PageEntry),
     Refused(Reason),

@@ -18,7 +18,7 @@ pub use rights::write_execute;
 pub use unmaps::{Removal, Unmapping, unmap};
 
 // Why an operation is refused: one reason for each cause.
-#[derive(Drop)]
+#[derive(Clone, Copy)]
 pub enum Reason {
     // the size is none of 4 KiB, 2 MiB, 1 GiB
     Size,

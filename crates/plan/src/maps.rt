@@ -16,7 +16,7 @@ use entry::{Made, Rights};
 use pool::{Book, Fit, Listed, Opened, Space};
 
 // What is asked: the frame, of that size, at that base, with these rights.
-#[derive(Drop)]
+#[derive(Clone, Copy)]
 pub struct Asked {
     pub base: u64,
     pub frame: u64,
@@ -24,14 +24,14 @@ pub struct Asked {
     pub rights: Rights,
 }
 
-#[derive(Drop)]
+#[derive(Clone, Copy)]
 pub enum Shape {
     Level(u64),
     Bad(Reason),
 }
 
 // Up to three pages that become tables, and the book that they come from.
-#[derive(Drop)]
+#[derive(Clone, Copy)]
 pub struct NewTables {
     pub need: u64,
     pub a: u64,
@@ -40,14 +40,14 @@ pub struct NewTables {
     pub book: Book,
 }
 
-#[derive(Drop)]
+#[derive(Clone, Copy)]
 pub enum Supply {
     Pages(NewTables),
     Lacking(Reason),
 }
 
 // What is written: from the table at a level down, the new tables, and the page's word at the target.
-#[derive(Drop)]
+#[derive(Clone, Copy)]
 pub struct Mapping {
     pub base: u64,
     pub target: u64,
@@ -58,14 +58,14 @@ pub struct Mapping {
 }
 
 // Where no table is missing: the entry, and the page's word.
-#[derive(Drop)]
+#[derive(Clone, Copy)]
 pub struct Leaf {
     pub table: u64,
     pub index: u64,
     pub word: u64,
 }
 
-#[derive(Drop)]
+#[derive(Clone, Copy)]
 pub enum Placing {
     Here(Leaf),
     Built(Mapping),

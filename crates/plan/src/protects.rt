@@ -12,7 +12,7 @@ use entry::Rights;
 use pool::Space;
 
 // The entry that changes, and its word; the page's frame and size; and the ticket of the moment.
-#[derive(Drop)]
+#[derive(Clone, Copy)]
 pub struct Change {
     pub table: u64,
     pub index: u64,
@@ -22,7 +22,7 @@ pub struct Change {
     pub ticket: u64,
 }
 
-#[derive(Drop)]
+#[derive(Clone, Copy)]
 pub enum Changing {
     Go(Change),
     Refused(Reason),

@@ -11,21 +11,21 @@ use crate::finding::{PageEntry, Sought, find};
 use pool::{Book, Opened, Space};
 
 // The page that goes, how many tables become empty with it, and the book that takes them.
-#[derive(Drop)]
+#[derive(Clone, Copy)]
 pub struct Removal {
     pub page: PageEntry,
     pub empties: u64,
     pub book: Book,
 }
 
-#[derive(Drop)]
+#[derive(Clone, Copy)]
 pub enum Removing {
     Go(Removal),
     Refused(Reason),
 }
 
 // What was done, and the ticket after it.
-#[derive(Drop)]
+#[derive(Clone, Copy)]
 pub enum Unmapping {
     Done(Removal, u64),
     Refused(Reason),

@@ -1,6 +1,8 @@
 // The book of a pool of pages, in the pool's own first pages: which pages are free, and which are set aside until every cache was told.
 // The code knows no tables: what is taken, set aside and released is up to the caller. Its laws give each page a role (tables/specs/Roles):
 // a book lists those that are free and those set aside, and all others are the book's, the root, or tables.
+#![tactic(auto)]
+
 ghost use Rattle.std.specs.Prelude.{◌≡◌, ◌+◌, ◌*◌, ◌/◌, ◌%◌, ◌^◌, ◌<◌, ◌≤◌, true};
 ghost use Rattle.word.specs.Memory.{memory, holds};
 ghost use Rattle.pool.specs.Book as the;
@@ -31,7 +33,7 @@ const MOST: u64 = 4294967296;
 const LAST: u64 = 4611686018427387904;
 
 // A window's origin, and the pool in it by page numbers: its first page, how many it has, and the page of the root table.
-#[derive(Drop)]
+#[derive(Clone, Copy)]
 pub struct Space {
     pub origin: u64,
     pub first: u64,
@@ -40,7 +42,7 @@ pub struct Space {
 }
 
 // What a book's header counts.
-#[derive(Drop)]
+#[derive(Clone, Copy)]
 pub struct Book {
     pub head: u64,
     pub free: u64,
@@ -48,7 +50,7 @@ pub struct Book {
     pub tickets: u64,
 }
 
-#[derive(Drop)]
+#[derive(Clone, Copy)]
 pub enum Reason {
     OriginUnaligned,
     LengthUnaligned,
@@ -65,26 +67,26 @@ pub enum Reason {
     BadBook,
 }
 
-#[derive(Drop)]
+#[derive(Clone, Copy)]
 pub enum Fit {
     Fits,
     Refused(Reason),
 }
 
-#[derive(Drop)]
+#[derive(Clone, Copy)]
 pub enum Opened {
     Book(Book),
     Refused(Reason),
 }
 
-#[derive(Drop)]
+#[derive(Clone, Copy)]
 pub enum Listed {
     Page(u64),
     // a book lists what is no page for tables
     Bad,
 }
 
-#[derive(Drop)]
+#[derive(Clone, Copy)]
 pub enum Created {
     // the page of the root table
     Root(u64),
@@ -92,7 +94,7 @@ pub enum Created {
 }
 
 // What a report releases.
-#[derive(Drop)]
+#[derive(Clone, Copy)]
 pub enum Due {
     Pages(u64),
     // a ticket above the present one

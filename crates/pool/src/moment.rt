@@ -7,7 +7,7 @@ ghost use Rattle.pool.specs.State as say;
 use crate::{Book, Opened, Reason, Space, book_pages, open, ticket};
 
 // How many pages a pool has, how many of them are free, set aside, and tables beside the root; and the ticket of the moment.
-#[derive(Drop)]
+#[derive(Clone, Copy)]
 pub struct Counts {
     pub pages: u64,
     pub free: u64,
@@ -16,7 +16,7 @@ pub struct Counts {
     pub ticket: u64,
 }
 
-#[derive(Drop)]
+#[derive(Clone, Copy)]
 pub enum Stated {
     Counts(Counts),
     Refused(Reason),

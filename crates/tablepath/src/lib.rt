@@ -16,7 +16,7 @@ use plan::{Asked, Changing, Making, Reason, Unmapping};
 use pool::{Created, Due, Opened, Space, Stated};
 use walk::Found;
 
-#[derive(Drop)]
+#[derive(Clone, Copy)]
 pub enum Mapped {
     // how many tables were made for it
     Done(u64),
@@ -25,7 +25,7 @@ pub enum Mapped {
 
 // The page that was unmapped, how many tables were set aside, and the ticket with which to report that every cache was told. Calls that set
 // nothing aside answer the same ticket again: it speaks of the last moment at which it was answered.
-#[derive(Drop)]
+#[derive(Clone, Copy)]
 pub struct Gone {
     pub frame: u64,
     pub size: u64,
@@ -33,27 +33,27 @@ pub struct Gone {
     pub ticket: u64,
 }
 
-#[derive(Drop)]
+#[derive(Clone, Copy)]
 pub enum Unmapped {
     Done(Gone),
     Refused(Reason),
 }
 
 // The page whose rights changed, and the ticket, as of unmap.
-#[derive(Drop)]
+#[derive(Clone, Copy)]
 pub struct Altered {
     pub frame: u64,
     pub size: u64,
     pub ticket: u64,
 }
 
-#[derive(Drop)]
+#[derive(Clone, Copy)]
 pub enum Protected {
     Done(Altered),
     Refused(Reason),
 }
 
-#[derive(Drop)]
+#[derive(Clone, Copy)]
 pub enum Report {
     // how many pages are free again
     Released(u64),

@@ -12,7 +12,7 @@ use word::Cell;
 pub const HALF: u64 = 140737488355328;
 
 // What a number means as an address.
-#[derive(Drop)]
+#[derive(Clone, Copy)]
 pub enum Found {
     // the page's first address, its size, where it lies in physical memory, and the rights of the whole way
     Page {
@@ -30,7 +30,7 @@ pub enum Found {
 }
 
 // A walk on its way: at the table in a page, with the rights so far; or at its end.
-#[derive(Drop)]
+#[derive(Clone, Copy)]
 pub enum Place {
     Going(u64, Rights),
     Ended(Found),

@@ -19,7 +19,7 @@ pub const ENDLESS: u64 = 18446744073709551615;
 pub const PAGE_COUNT: u64 = 1099511627776;
 
 // What reading an entry answers.
-#[derive(Drop)]
+#[derive(Clone, Copy)]
 pub enum Cell {
     Word(u64),
     Outside,

@@ -1,0 +1,8 @@
+use Rattle.pool.specs.Layout.{head_at, free_at, aside_at, tickets_at}
+use Rattle.pool.specs.State.{book_now}
+use Rattle.std.proofs.Common.{rules}
+use Rattle.pool.proofs.header.book_now.Goals as goal
+
+pub returns : goal.returns
+unfolding book_now head_at free_at aside_at tickets_at
+returns c = rw (c.get.ensures.value_2, c.get-2.ensures.value_2, c.get-3.ensures.value_2, c.get-4.ensures.value_2)

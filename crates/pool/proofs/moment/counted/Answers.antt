@@ -1,0 +1,7 @@
+use Rattle.pool.specs.State.{counted_of}
+use Rattle.std.proofs.Common.{rules}
+use Rattle.pool.proofs.moment.counted.Goals as goal
+
+pub returns : goal.returns
+unfolding counted_of
+returns c = rw (c.book_pages.ensures, c.ticket.ensures)

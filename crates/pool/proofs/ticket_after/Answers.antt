@@ -1,0 +1,7 @@
+use Rattle.pool.specs.Book.{ticket_after}
+use Rattle.std.proofs.Common.{sym, rules}
+use Rattle.pool.proofs.ticket_after.Goals as goal
+
+pub returns : goal.returns
+unfolding ticket_after
+returns c = rw (sym c.ticket.ensures) c.wrapping_add_u64.ensures.value
