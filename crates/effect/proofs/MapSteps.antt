@@ -25,7 +25,7 @@ use Rattle.pool.specs.Layout.{book_pages}
 use Rattle.pool.specs.Book.{book_of, page_at}
 use Rattle.pool.specs.Booked.{setting_of, Taken}
 use Rattle.pool.specs.declared.Space.{Space}
-use Rattle.pool.proofs.Counts.{pool_in}
+use Rattle.pool.proofs.Counting.{pool_in}
 use Rattle.pool.proofs.Lists.{taken_none, taken_more}
 use Rattle.pool.proofs.Listing.{free_usable}
 use Rattle.pool.proofs.Taking.{next_free}

@@ -27,7 +27,7 @@ use Rattle.pool.proofs.Alone.{unmarking_one, alone_after}
 use Rattle.pool.specs.Booked.{setting_of}
 use Rattle.pool.specs.declared.Space.{Space}
 use Rattle.pool.proofs.Booked.{Beside, book_beside, numbered_beside, booked_beside}
-use Rattle.pool.proofs.Counts.{InPool}
+use Rattle.pool.proofs.Counting.{InPool}
 use Rattle.pool.proofs.Tickets.{ticket_sound}
 use Rattle.plan.specs.declared.finding.PageEntry.{PageEntry}
 use Rattle.plan.specs.declared.finding.Sought.{Sought}

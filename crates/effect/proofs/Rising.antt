@@ -23,7 +23,7 @@ use Rattle.pool.specs.Changes.{aside_writes, aside_book}
 use Rattle.pool.specs.declared.Space.{Space}
 use Rattle.pool.specs.declared.Book.{Book}
 use Rattle.pool.proofs.Booked.{Beside, book_beside, numbered_beside, booked_beside}
-use Rattle.pool.proofs.Counts.{InPool, pool_in, is_sound}
+use Rattle.pool.proofs.Counting.{InPool, pool_in, is_sound}
 use Rattle.pool.proofs.Pages.{built_owned}
 use Rattle.pool.proofs.Proper.{OfBook, aside_proper}
 use Rattle.pool.proofs.SettingAside.{aside_book_lem, aside_booked, aside_numbered, aside_others}

@@ -21,7 +21,7 @@ use Rattle.pool.specs.Layout.{book_pages}
 use Rattle.pool.specs.Book.{in_pool}
 use Rattle.pool.specs.Booked.{setting_of, Booked}
 use Rattle.pool.specs.declared.Space.{Space}
-use Rattle.pool.proofs.Counts.{in_pool_lem}
+use Rattle.pool.proofs.Counting.{in_pool_lem}
 use Rattle.pool.proofs.Pages.{root_page}
 use Rattle.plan.specs.declared.descent.Way.{Way}
 use Rattle.plan.specs.declared.descent.Why.{Why}

@@ -19,7 +19,7 @@ use Rattle.pool.specs.Booked.{setting_of, Numbered, tables_of}
 use Rattle.pool.specs.Stands.{takes_of}
 use Rattle.pool.specs.declared.Space.{Space}
 use Rattle.pool.specs.declared.Book.{Book}
-use Rattle.pool.proofs.Counts.{is_sound}
+use Rattle.pool.proofs.Counting.{is_sound}
 use Rattle.pool.proofs.Pages.{adds_up}
 use Rattle.pool.proofs.Tickets.{ticket_more}
 use Rattle.plan.specs.declared.Reason.{Reason}

@@ -12,7 +12,7 @@ use Rattle.entry.proofs.Fields.{table_small}
 use Rattle.walk.specs.Walk.{entry_of}
 use Rattle.pool.specs.Book.{in_pool}
 use Rattle.pool.specs.declared.Space.{Space}
-use Rattle.pool.proofs.Counts.{InPool, pool_in}
+use Rattle.pool.proofs.Counting.{InPool, pool_in}
 use Rattle.plan.specs.declared.descent.Way.{Way}
 use Rattle.plan.specs.declared.descent.Why.{Why}
 use Rattle.plan.specs.declared.descent.Why.TheVariants as why

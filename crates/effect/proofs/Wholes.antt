@@ -15,7 +15,7 @@ use Rattle.pool.specs.Booked.{setting_of, Booked, Owned}
 use Rattle.pool.specs.declared.Space.{Space}
 use Rattle.pool.specs.declared.Fit.TheVariants as fit
 use Rattle.pool.specs.declared.Opened.TheVariants as opened
-use Rattle.pool.proofs.Counts.{InPool, pool_in}
+use Rattle.pool.proofs.Counting.{InPool, pool_in}
 use Rattle.pool.proofs.Booked.{Beside}
 use Rattle.pool.proofs.Listing.{booked_names, booked_opens}
 use Rattle.pool.proofs.Pages.{built_owned}

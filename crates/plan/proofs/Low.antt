@@ -20,7 +20,7 @@ use Rattle.pool.specs.declared.Listed.{Listed}
 use Rattle.pool.specs.declared.Listed.TheVariants as listed
 use Rattle.pool.proofs.Listing.{listed_usable}
 use Rattle.pool.proofs.Opening as opening
-use Rattle.pool.proofs.Counts.{in_pool_lem}
+use Rattle.pool.proofs.Counting.{in_pool_lem}
 use Rattle.pool.proofs.Opening.{open_shows, names_room, names_stands}
 use Rattle.pool.specs.declared.Reason.TheVariants.{BadBook}
 use Rattle.plan.specs.Map as map

@@ -15,7 +15,7 @@ use Rattle.pool.specs.Book.{in_pool}
 use Rattle.pool.specs.Stands.{stands_of, read_entry_of, entry_writes}
 use Rattle.pool.specs.declared.Space.{Space}
 use Rattle.pool.specs.declared.Fit.TheVariants.{Fits}
-use Rattle.pool.proofs.Counts.{in_pool_lem, pool_in}
+use Rattle.pool.proofs.Counting.{in_pool_lem, pool_in}
 use Rattle.pool.proofs.Opening.{fit_runs}
 use Rattle.plan.specs.declared.descent.Way.{Way}
 use Rattle.plan.specs.declared.descent.Why.TheVariants.{Stray}

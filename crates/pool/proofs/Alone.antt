@@ -11,7 +11,7 @@ use Rattle.pool.specs.Layout.{signature_at}
 use Rattle.pool.specs.Book.{signature, adds_up_of}
 use Rattle.pool.specs.Booked.{Alone}
 use Rattle.pool.specs.Changes.{took_writes, aside_writes, release_writes}
-use Rattle.pool.proofs.Counts.{adds_up_is, slot_in}
+use Rattle.pool.proofs.Counting.{adds_up_is, slot_in}
 
 -- no write of the list is of the signature
 pub data Unmarking : List Write → Type 0 where

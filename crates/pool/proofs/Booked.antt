@@ -9,7 +9,7 @@ use Rattle.pool.specs.Layout.{signature_at, pages_at, root_at, head_at, free_at,
 use Rattle.pool.specs.Book.{word_of, signature, book_of, slot_of, page_at, AddsUp}
 use Rattle.pool.specs.Booked.{Lists, Booked, SameBook, Numbered}
 use Rattle.pool.proofs.Far.{word_at_lem}
-use Rattle.pool.proofs.Counts.{slot_in}
+use Rattle.pool.proofs.Counting.{slot_in}
 use Rattle.pool.proofs.Lists.{lists_same}
 use Rattle.pool.proofs.Words.{word_page, header_word, slot_word, puts, becomes, puts_word}
 

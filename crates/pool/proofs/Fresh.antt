@@ -13,7 +13,7 @@ use Rattle.pool.specs.Changes.{put}
 use Rattle.pool.specs.Create.{fills, blanks, unmarks, bared, slots, header_writes, new_free, lay_out, Roomy}
 use Rattle.pool.specs.Booked.{Lists, Booked, Alone, new_role}
 use Rattle.pool.proofs.Far.{word_at_lem}
-use Rattle.pool.proofs.Counts.{slot_ahead}
+use Rattle.pool.proofs.Counting.{slot_ahead}
 use Rattle.pool.proofs.Words.{word_page, header_word, slot_word, puts, becomes, puts_word}
 use Rattle.pool.proofs.Rows.{put_same, put_other, row_word, row_other, unmarks_first}
 use Rattle.pool.proofs.Booked.{booked_by}

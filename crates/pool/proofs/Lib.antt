@@ -1,5 +1,5 @@
 pub mod Far
-pub mod Counts
+pub mod Counting
 pub mod Opening
 pub mod Rows
 pub mod Lists

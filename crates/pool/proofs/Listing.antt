@@ -11,7 +11,7 @@ use Rattle.pool.specs.declared.Listed.TheVariants.{Page, Bad}
 use Rattle.pool.specs.Layout.{slot_at, book_pages}
 use Rattle.pool.specs.Book.{word_of, book_of, slot_of, page_at, in_pool, adds_up_of, names_of, opened_of, usable_of, named_of, listed_of}
 use Rattle.pool.specs.Booked.{Booked, Owned}
-use Rattle.pool.proofs.Counts.{InPool, pool_in, in_pool_lem, is_sound, slot_in}
+use Rattle.pool.proofs.Counting.{InPool, pool_in, in_pool_lem, is_sound, slot_in}
 use Rattle.pool.proofs.Words.{word_page, slot_word}
 use Rattle.pool.specs.declared.Fit.TheVariants as fit
 use Rattle.pool.specs.declared.Opened.TheVariants as opened

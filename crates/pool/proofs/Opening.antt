@@ -22,7 +22,7 @@ use Rattle.pool.proofs.Far.{word_at_lem}
 use Rattle.pool.specs.declared.Book.{Book}
 use Rattle.pool.specs.declared.Opened.{Opened}
 use Rattle.pool.specs.declared.Opened.TheVariants as opened
-use Rattle.pool.proofs.Counts.{InPool, pool_in, in_pool_lem, adds_up_is, is_sound}
+use Rattle.pool.proofs.Counting.{InPool, pool_in, in_pool_lem, adds_up_is, is_sound}
 
 module _ (s : List ℕ) (sp : Space) (k : ℕ) where
   pub named_word : (w : ℕ) → read_of s sp.origin (sp.first + k / 512) (k % 512) ≡ cell.Word w → usable_of sp w ≡ named_of (holds s sp.origin) (memory s sp.origin) sp k

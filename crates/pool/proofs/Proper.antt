@@ -10,7 +10,7 @@ use Rattle.pool.specs.Layout.{signature_at, pages_at, root_at, tickets_at, free_
 use Rattle.pool.specs.Book.{slot_of, adds_up_of, AddsUp}
 use Rattle.pool.specs.Changes.{put, took_writes, aside_writes, release_writes}
 use Rattle.pool.specs.Create.{row, fills, blanks, header_writes}
-use Rattle.pool.proofs.Counts.{adds_up_is, slot_in}
+use Rattle.pool.proofs.Counting.{adds_up_is, slot_in}
 use Rattle.pool.proofs.Words.{word_page, header_word, slot_word}
 
 -- page q is one of the book's

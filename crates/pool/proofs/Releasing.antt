@@ -9,7 +9,7 @@ use Rattle.pool.specs.Book.{word_of, book_of, slot_of, page_at, AddsUp, due_of}
 use Rattle.pool.specs.Changes.{release_writes}
 use Rattle.pool.specs.declared.Due.TheVariants as due
 use Rattle.pool.specs.Booked.{Lists, Booked, released, Numbered}
-use Rattle.pool.proofs.Counts.{is_sound}
+use Rattle.pool.proofs.Counting.{is_sound}
 use Rattle.tables.proofs.Unseen.{Shifted}
 use Rattle.pool.proofs.Lists.{among, lists_same, lists_thawed, thawed_free, thawed_stays, thawed_shifted}
 use Rattle.pool.proofs.Words.{header_slot, puts, becomes, puts_word, puts_book}

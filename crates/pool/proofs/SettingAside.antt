@@ -11,7 +11,7 @@ use Rattle.pool.specs.Layout.{signature_at, pages_at, root_at, head_at, free_at,
 use Rattle.pool.specs.Book.{word_of, book_of, slot_of, page_at, AddsUp}
 use Rattle.pool.specs.Changes.{aside_writes, aside_book}
 use Rattle.pool.specs.Booked.{Lists, Booked, Numbered, tables_of, is_table, Owned}
-use Rattle.pool.proofs.Counts.{is_sound, slot_apart}
+use Rattle.pool.proofs.Counting.{is_sound, slot_apart}
 use Rattle.pool.proofs.Lists.{lists_aside}
 use Rattle.pool.proofs.Census.{many_some}
 use Rattle.pool.proofs.Pages.{adds_up}

@@ -8,7 +8,7 @@ use Rattle.pool.specs.Layout.{signature_at, pages_at, root_at, head_at, free_at,
 use Rattle.pool.specs.Book.{word_of, book_of, slot_of, page_at, AddsUp}
 use Rattle.pool.specs.Changes.{took_writes}
 use Rattle.pool.specs.Booked.{Lists, Booked, Taken, Numbered}
-use Rattle.pool.proofs.Counts.{is_sound, slot_in, slot_more}
+use Rattle.pool.proofs.Counting.{is_sound, slot_in, slot_more}
 use Rattle.pool.proofs.Lists.{among, lists_same, lists_taken}
 use Rattle.pool.proofs.Words.{header_slot, puts, becomes, puts_word, puts_book}
 use Rattle.pool.proofs.Booked.{numbered_by, changed}

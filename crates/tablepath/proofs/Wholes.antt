@@ -23,7 +23,7 @@ use Rattle.pool.specs.declared.Fit.{Fit}
 use Rattle.pool.specs.declared.Fit.TheVariants.{Fits, Refused}
 use Rattle.pool.specs.declared.Reason.TheVariants.{OriginUnaligned, LengthUnaligned}
 use Rattle.pool.specs.declared.Space.{Space}
-use Rattle.pool.proofs.Counts.{in_pool_lem}
+use Rattle.pool.proofs.Counting.{in_pool_lem}
 use Rattle.pool.proofs.Opening.{may_fit, fit_small}
 use Rattle.pool.proofs.Makes.{create_makes}
 use Rattle.plan.specs.Map as map

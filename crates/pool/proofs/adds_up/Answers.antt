@@ -1,5 +1,5 @@
 use Rattle.std.proofs.Common.{sym, arith, rules}
-use Rattle.pool.proofs.Counts.{unsound, sound_last}
+use Rattle.pool.proofs.Counting.{unsound, sound_last}
 use Rattle.pool.proofs.adds_up.Goals as goal
 
 pub returns-then-pages-gt-MOST : goal.returns-then-pages-gt-MOST

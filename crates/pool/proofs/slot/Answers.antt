@@ -1,5 +1,5 @@
 use Rattle.std.proofs.Common.{sym, ◌∙◌, arith, rules}
-use Rattle.pool.proofs.Counts.{slot_ahead, slot_around}
+use Rattle.pool.proofs.Counting.{slot_ahead, slot_around}
 use Rattle.pool.proofs.slot.Goals as goal
 
 pub returns-then-pages-head : goal.returns-then-pages-head

@@ -8,8 +8,8 @@ returns-then-p-space c = simp (eq-eqb _ _ c.if-p-space.true)
 
 pub returns-then-in_pool : goal.returns-then-in_pool
 unfolding usable_of
-returns-then-in_pool c = simp (ne_eqb _ _ c.if-p-space.false, sym c.in_pool_lem.ensures ∙ c.if-in_pool.true)
+returns-then-in_pool c = simp (ne_eqb _ _ c.if-p-space.false, sym c.in_pool.ensures ∙ c.if-in_pool.true)
 
 pub returns : goal.returns
 unfolding usable_of
-returns c = simp (ne_eqb _ _ c.if-p-space.false, sym c.in_pool_lem.ensures ∙ c.if-in_pool.false)
+returns c = simp (ne_eqb _ _ c.if-p-space.false, sym c.in_pool.ensures ∙ c.if-in_pool.false)

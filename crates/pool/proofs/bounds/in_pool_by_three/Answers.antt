@@ -1,5 +1,5 @@
 use Rattle.std.proofs.Common.{sym, arith, rules}
-use Rattle.pool.proofs.Counts.{in_pool_lem, not_in_pool}
+use Rattle.pool.proofs.Counting.{in_pool_lem, not_in_pool}
 use Rattle.pool.proofs.bounds.in_pool_by_three.Goals as goal
 
 pub returns-then-p-space : goal.returns-then-p-space

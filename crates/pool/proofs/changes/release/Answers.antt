@@ -3,7 +3,7 @@ use Rattle.std.proofs.Common.{sym, ◌∙◌, arith, rules, le-leb}
 use borrow.Author.Tests.{lt-leb}
 use Rattle.word.proofs.Budget.{wrote_none, wrote_then}
 use Rattle.pool.specs.Changes.{release_writes}
-use Rattle.pool.proofs.Counts.{adds_up_is}
+use Rattle.pool.proofs.Counting.{adds_up_is}
 use Rattle.pool.proofs.changes.release.Goals as goal
 
 pub returns-then-book-k : goal.returns-then-book-k

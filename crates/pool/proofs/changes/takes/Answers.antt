@@ -2,7 +2,7 @@ use Rattle.std.proofs.Common.{◌+◌, ◌<◌, ◌≤◌, sym, ◌∙◌, arith
 use borrow.Author.Tests.{lt-leb}
 use Rattle.pool.specs.Layout.{book_pages}
 use Rattle.pool.specs.Stands.{takes_of}
-use Rattle.pool.proofs.Counts.{adds_up_is}
+use Rattle.pool.proofs.Counting.{adds_up_is}
 use Rattle.pool.proofs.changes.takes.Goals as goal
 
 pub overflow_sub-most : goal.overflow_sub-most

@@ -12,8 +12,8 @@ returns-in_default-h c = let e = sym c.room-fit.ensures ∙ c.in-Fits.is in rw (
 
 pub returns-then-in_pool : goal.returns-then-in_pool
 unfolding names_of names_in rooted_in
-returns-then-in_pool c = let e = sym c.room-fit.ensures ∙ c.in-Fits.is in rw (e, sym (c.headed-h.ensures e) ∙ c.in-Fits-h.is, sym c.in_pool_lem.ensures ∙ c.if-in_pool.true)
+returns-then-in_pool c = let e = sym c.room-fit.ensures ∙ c.in-Fits.is in rw (e, sym (c.headed-h.ensures e) ∙ c.in-Fits-h.is, sym c.in_pool.ensures ∙ c.if-in_pool.true)
 
 pub returns : goal.returns
 unfolding names_of names_in rooted_in
-returns c = let e = sym c.room-fit.ensures ∙ c.in-Fits.is in rw (e, sym (c.headed-h.ensures e) ∙ c.in-Fits-h.is, sym c.in_pool_lem.ensures ∙ c.if-in_pool.false)
+returns c = let e = sym c.room-fit.ensures ∙ c.in-Fits.is in rw (e, sym (c.headed-h.ensures e) ∙ c.in-Fits-h.is, sym c.in_pool.ensures ∙ c.if-in_pool.false)

@@ -1,0 +1,7 @@
+use Rattle.std.proofs.Common.{arith, rules}
+use Rattle.pool.specs.Layout.{book_pages}
+use Rattle.pool.proofs.bounds.book_by_half.Goals as goal
+
+pub returns : goal.returns
+unfolding book_pages
+returns c = omega arith
