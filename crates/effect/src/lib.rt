@@ -1,1 +1,2 @@
 // What the plans do to tables that we built: laws only, no code.
+#![tactic(auto)]

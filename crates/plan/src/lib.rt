@@ -1,4 +1,6 @@
 // Map, unmap and protect: each decides first, only reading, and then carries out a plan in which every word is computed already.
+#![tactic(auto)]
+
 mod building;
 mod descent;
 mod direct;
