@@ -3,6 +3,8 @@
 // Each operation that writes also stands here with a budget of writes (`up_to`): stopped after any of them, the bytes are those at entry
 // with the first so many planned writes carried out. That is the order in which it writes.
 // Each clause `answer` and `bytes` is for any bytes, `meaning` says what that is where the space is whole.
+#![tactic(auto)]
+
 ghost use Rattle.std.specs.Prelude.{◌≡◌};
 ghost use Rattle.word.specs.Writes.{Wrote, carried};
 ghost use Rattle.walk.specs.Walk.{walk};
