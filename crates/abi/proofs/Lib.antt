@@ -7,7 +7,7 @@ pub mod Named
 pub mod Reasons
 pub mod Says
 pub mod RoundTrips
-pub mod Created
+pub mod Creating
 pub mod Strict
 pub mod Refusals
 pub mod Handles

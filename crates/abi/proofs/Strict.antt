@@ -19,7 +19,7 @@ use Rattle.abi.proofs.Named.{rights_granted, call_leaves}
 use Rattle.abi.proofs.Walked.{rights_told}
 use Rattle.abi.proofs.Says.{look_up_address}
 use Rattle.abi.proofs.RoundTrips.{looks}
-use Rattle.abi.proofs.Created.{create_done}
+use Rattle.abi.proofs.Creating.{create_done}
 
 module _ (n : Numbers) (a : AlignedNumbers n) (s : List ℕ) where
   -- what the tables mean, as C gets it

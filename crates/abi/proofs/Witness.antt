@@ -13,7 +13,7 @@ use Rattle.tablepath.proofs.Witness.{one_page, goes}
 use Rattle.abi.specs.Answers.{created_to_c, mapped_to_c}
 use Rattle.abi.specs.Calls.{create_answer}
 use Rattle.abi.specs.Relied.{Numbers, granted, WholeAt, tp_create, create_leaves, tp_map}
-use Rattle.abi.proofs.Created.{create_leaves_lem, create_done}
+use Rattle.abi.proofs.Creating.{create_leaves_lem, create_done}
 use Rattle.abi.proofs.Named.{map_answers}
 
 module _ (s : List ℕ) (e : length s ≡ 20480) where

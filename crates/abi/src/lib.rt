@@ -1,6 +1,8 @@
 // What C and Rust call: plain numbers in, and a struct of plain numbers out. A space is four numbers in bytes: the physical address
 // of the window's first byte, that of the pool's first page, how many pages the pool has, and the physical address of the root table.
 // Rights are bits: bit 0 writable, bit 1 user, bit 2 not executable. The header's tp_map and its like call these, with one struct for a space.
+#![tactic(auto)]
+
 ghost use Rattle.std.specs.Prelude.{◌≡◌};
 ghost use Rattle.abi.specs.Answers as the;
 ghost use Rattle.abi.specs.Calls as call;

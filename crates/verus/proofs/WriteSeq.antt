@@ -5,7 +5,7 @@ use mathlib.Core.Logic.{◌≢◌}
 use mathlib.Core.Option.{some}
 use mathlib.Core.Path.{◌≡◌, refl, ap, ◌∙◌, subst}
 use native.Mathlib.Omega.{arith}
-use Rattle.word.specs.Memory.{set}
+use Rattle.word.specs.Memory.{at, set}
 use Rattle.word.specs.Writes.{Write, after}
 use Rattle.word.proofs.Set.{set_same, set_other}
 use Rattle.word.proofs.Writes.{after_append}
@@ -15,7 +15,7 @@ use Rattle.verus.specs.WriteSeq.{place_of, write_at}
 pub write_seq_idle : (m : ℕ → ℕ) (xs : List Write) (a : ℕ) → ((i : ℕ) (x : Write) → write_at xs i ≡ some x → place_of x ≢ a) → after m xs a ≡ m a
 unfolding after write_at
 write_seq_idle m [] a n = refl
-write_seq_idle m (x ∷ xs) a n = write_seq_idle _ xs a (λ i y e. n (suc i) y e) ∙ set_other m (place_of x) x.word a (n 0 x refl)
+write_seq_idle m (x ∷ xs) a n = write_seq_idle (set m (at x.page x.index) x.word) xs a (λ i y e. n (suc i) y e) ∙ set_other m (place_of x) x.word a (n 0 x refl)
 
 -- LEMMA_WRITE_SEQ_PUSH: one more at the end
 pub write_seq_push : (m : ℕ → ℕ) (xs : List Write) (x : Write) → after m (xs ++ (x ∷ [])) ≡ set (after m xs) (place_of x) x.word
@@ -36,4 +36,4 @@ write_seq_read m (y ∷ xs) zero x e n =
     let same : y ≡ x = cc in
     subst (λ (z : Write). after (set m (place_of y) y.word) xs (place_of z) ≡ z.word) same
     (write_seq_idle _ xs (place_of y) (λ i z f k. absurd (omega (arith, n (suc i) z f (k ∙ ap place_of same)))) ∙ set_same m (place_of y) y.word)
-write_seq_read m (y ∷ xs) (suc i) x e n = write_seq_read _ xs i x e (λ j z f k. omega (arith, n (suc j) z f k))
+write_seq_read m (y ∷ xs) (suc i) x e n = write_seq_read (set m (at y.page y.index) y.word) xs i x e (λ j z f k. omega (arith, n (suc j) z f k))

@@ -1,0 +1,7 @@
+use Rattle.entry.specs.Entry.{bit}
+use borrow.Author.Rules.{rules}
+use Rattle.abi.proofs.entries.dirty.Goals as goal
+
+pub returns : goal.returns
+unfolding bit
+returns c = c.bit.ensures

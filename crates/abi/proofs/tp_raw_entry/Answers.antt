@@ -1,0 +1,17 @@
+use mathlib.Core.Path.{sym, ◌∙◌}
+use borrow.Author.Tests.{lt-ltb, le-ltb}
+use Rattle.abi.specs.Entries.{entry_answer, said_in}
+use borrow.Author.Rules.{rules}
+use Rattle.abi.proofs.tp_raw_entry.Goals as goal
+
+pub returns-then-level-ge4 : goal.returns-then-level-ge4
+unfolding entry_answer
+returns-then-level-ge4 c = record { answer = simp (le-ltb _ _ c.if-level-ge4.true, c.bare.ensures) }
+
+pub returns-in-Word : goal.returns-in-Word
+unfolding entry_answer said_in
+returns-in-Word c = record { answer = simp (lt-ltb _ _ c.if-level-ge4.false, sym c.table.ensures, sym c.read-c.ensures ∙ c.in-Word.is, c.of_word.ensures) }
+
+pub returns-in-Outside : goal.returns-in-Outside
+unfolding entry_answer said_in
+returns-in-Outside c = record { answer = simp (lt-ltb _ _ c.if-level-ge4.false, sym c.table.ensures, sym c.read-c.ensures ∙ c.in-Outside.is, c.bare-in-Outside.ensures) }
