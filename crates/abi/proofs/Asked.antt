@@ -2,7 +2,7 @@
 use Prim.Native.Nat.{ℕ}
 use mathlib.Core.Bool.{Bool, true, false, cond}
 use mathlib.Core.List.{List}
-use mathlib.Core.Path.{◌≡◌, refl, sym, ap, ◌∙◌}
+use mathlib.Core.Path.{◌≡◌, refl}
 use Rattle.word.specs.Memory.{memory, holds}
 use Rattle.word.specs.Writes.{Wrote, carried}
 use Rattle.word.proofs.Budget.{wrote_nothing}
@@ -19,7 +19,6 @@ use Rattle.tablepath.specs.Answers as the
 use Rattle.abi.specs.ReasonNumbers.{reason_of}
 use Rattle.abi.specs.Answers.{rights_in, mapped_to_c, protected_to_c}
 use Rattle.abi.specs.Calls.{site_of, shaped_site, asked_site, misplaced_by, misplaced_of, bytes_after, InOrder, map_answer, map_writes, map_bytes, strict_site, protect_answer, protect_writes, protect_bytes}
-use Rattle.abi.specs.declared.sites.Sited.{Sited}
 use Rattle.abi.specs.declared.sites.Sited.TheVariants.{At, Refused}
 
 module _ (q : Asked) (origin pool pages root : ℕ) where

@@ -3,7 +3,7 @@ use Prim.Native.Nat.{ℕ}
 use mathlib.Core.List.{List}
 use mathlib.Core.Path.{◌≡◌, refl, ap, ◌∙◌}
 use native.Mathlib.Omega.{arith}
-use Rattle.word.specs.Memory.{memory, holds}
+use Rattle.word.specs.Memory.{memory}
 use Rattle.pool.specs.Book.{book_of}
 use Rattle.pool.specs.State.{state_of, stated_of, counted_of}
 use Rattle.pool.proofs.Pages.{adds_up}

@@ -1,22 +1,21 @@
 -- What tp_raw_entry answers, by the cases of the word: it rests on the definition of what a word says.
-use Prim.Native.Nat.{ℕ, ◌+◌, ◌*◌, ◌/◌, ◌%◌, ◌^◌, ◌<◌, ◌≤◌}
-use mathlib.Core.Bool.{Bool, true, false, cond, ◌&&◌}
+use Prim.Native.Nat.{ℕ, ◌+◌, ◌*◌, ◌/◌, ◌%◌, ◌^◌, ◌<◌}
+use mathlib.Core.Bool.{Bool, true, false, cond}
 use mathlib.Core.List.{List}
 use mathlib.Core.Logic.{◌≢◌}
 use mathlib.Core.Path.{◌≡◌, refl, sym, ap, ◌∙◌}
 use native.Mathlib.Decide.{dec_lt, ℕ_discrete}
 use native.Mathlib.Omega.{arith}
 use borrow.Author.Tests.{lt-ltb, le-ltb, eq-eqb, ne_eqb}
-use lib.Dec.{ltb, eqb}
-use Rattle.word.specs.Memory.{memory, holds, read_of}
-use Rattle.word.specs.declared.Cell.TheVariants as cell
+use lib.Dec.{eqb}
+use Rattle.word.specs.Memory.{holds, read_of}
 use Rattle.entry.specs.Entry.{bit, table_of, says}
 use Rattle.entry.specs.Words.{flag}
 use Rattle.entry.specs.declared.Rights.{Rights}
-use Rattle.entry.specs.declared.Entry.TheVariants.{Nothing, Page, Table}
+use Rattle.entry.specs.declared.Entry.TheVariants.{Nothing}
 use Rattle.abi.specs.Answers.{rights_word}
 use Rattle.abi.specs.Entries.{bare_of, silent_of, said_of, said_in, entry_answer}
-use Rattle.abi.specs.EntrySays.{Readable, word_there, bare, Says, EntrySays}
+use Rattle.abi.specs.EntrySays.{Readable, word_there, bare, EntrySays}
 use Rattle.abi.specs.Relied.{granted}
 use Rattle.abi.proofs.Named.{rights_granted}
 use Rattle.abi.proofs.Walked.{rights_told}

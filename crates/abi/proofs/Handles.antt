@@ -1,10 +1,10 @@
 -- ONE HANDLE, by the numbers that C gives. In a whole space a call with other pages, another root or another page of the pool as its first is
 -- refused and touches nothing; and no call on one space touches another.
-use Prim.Native.Nat.{ℕ, ◌+◌, ◌*◌, ◌/◌, ◌%◌, ◌<◌, ◌≤◌}
+use Prim.Native.Nat.{ℕ, ◌+◌, ◌*◌, ◌/◌, ◌%◌, ◌<◌}
 use mathlib.Core.Bool.{Bool, true, false, cond}
 use mathlib.Core.List.{List}
 use mathlib.Core.Logic.{◌⊎◌, inl, inr, ◌≢◌}
-use mathlib.Core.Path.{◌≡◌, refl, sym, ap, ◌∙◌, subst}
+use mathlib.Core.Path.{◌≡◌, sym, ap, ◌∙◌, subst}
 use native.Mathlib.Decide.{ℕ_discrete}
 use native.Mathlib.Omega.{arith}
 use borrow.Author.Tests.{eq-eqb, ne_eqb}
@@ -24,7 +24,7 @@ use Rattle.abi.specs.Relied as c
 use Rattle.abi.specs.Relied.{Numbers, AlignedNumbers, space_of, WholeAt, Call, call_of, leaves, reason}
 use Rattle.abi.specs.Handles.{Rejected, Disjoint}
 use Rattle.abi.specs.declared.sites.Sited.{Sited}
-use Rattle.abi.specs.declared.sites.Sited.TheVariants.{At, Refused}
+use Rattle.abi.specs.declared.sites.Sited.TheVariants.{Refused}
 use Rattle.abi.proofs.Named.{call_leaves, map_answers, unmap_answers, protect_answers, told_answers}
 use Rattle.abi.proofs.Reasons.{never_done, pool_never_done}
 use Rattle.abi.proofs.Refusals.{call_refused}

@@ -10,7 +10,7 @@ use borrow.Author.Tests.{lt-ltb, le-ltb, ltb-true, ltb-false}
 use Rattle.abi.specs.ReasonNumbers as why
 use Rattle.abi.specs.ReasonNumbers.{number_of}
 use Rattle.abi.specs.Answers.{rights_in}
-use Rattle.abi.specs.Calls.{site_of, asked_site, strict_site, ask, rights_site, bytes_after, map_answer, map_writes, protect_answer, protect_writes}
+use Rattle.abi.specs.Calls.{site_of, asked_site, strict_site, ask, rights_site, bytes_after, map_answer, protect_answer}
 use Rattle.abi.specs.Relied as c
 use Rattle.abi.specs.Relied.{Numbers, Call, KnownRights, leaves, reason, tp_map, tp_protect}
 use Rattle.abi.specs.declared.sites.Sited.{Sited}

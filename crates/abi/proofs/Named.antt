@@ -14,7 +14,7 @@ use Rattle.pool.specs.State.{state_of}
 use Rattle.tablepath.specs.Calls.{call_writes}
 use Rattle.tablepath.specs.Answers as the
 use Rattle.abi.specs.Answers.{rights_in, rights_word, mapped_to_c, unmapped_to_c, protected_to_c, told_to_c, counted_to_c}
-use Rattle.abi.specs.Calls.{site_of, asked_site, strict_site, ask, bytes_after, unmap_answer, protect_answer, told_answer, state_answer}
+use Rattle.abi.specs.Calls.{site_of, asked_site, strict_site, ask, bytes_after, unmap_answer, told_answer, state_answer}
 use Rattle.abi.specs.Relied as c
 use Rattle.abi.specs.Relied.{Numbers, AlignedNumbers, space_of, Call, KnownRights, call_of, granted, asked, leaves, tp_map, tp_unmap, tp_protect, tp_told, tp_state}
 use Rattle.abi.specs.declared.sites.Sited.TheVariants.{At}

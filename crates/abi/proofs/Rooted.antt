@@ -1,5 +1,5 @@
 -- The root of a pool that was made lies in a page whose number has 40 bits.
-use Prim.Native.Nat.{ℕ, ◌+◌, ◌^◌, ◌<◌}
+use Prim.Native.Nat.{ℕ, ◌^◌, ◌<◌}
 use mathlib.Core.List.{List}
 use mathlib.Core.Path.{◌≡◌, refl, sym, ◌∙◌}
 use native.Mathlib.Omega.{arith}

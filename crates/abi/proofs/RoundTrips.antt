@@ -11,7 +11,6 @@ use Rattle.tablepath.specs.Calls.{call_writes}
 use Rattle.tablepath.specs.declared.Unmapped.TheVariants as unmap
 use Rattle.tablepath.specs.declared.Report.TheVariants as report
 use Rattle.tablepath.specs.declared.Gone.{Gone}
-use Rattle.tablepath.proofs.RoundTrips as the
 use Rattle.tablepath.specs.Looks as the_laws
 use Rattle.tablepath.specs.Looks.{look_up}
 use Rattle.tablepath.proofs.RoundTrips.{look_up_after_map, look_up_beside_map, look_up_after_unmap, look_up_after_protect, look_up_after_told}
@@ -24,7 +23,6 @@ use Rattle.abi.specs.Relied.{Numbers, AlignedNumbers, space_of, WholeAt, Call, K
 use Rattle.abi.proofs.Named.{rights_granted, rights_back, call_leaves, unmap_answers, told_answers}
 use Rattle.abi.proofs.Meant.{meant_or_same, map_meant, protect_meant}
 use Rattle.abi.proofs.Says.{map_says, unmap_says, protect_says}
-use Rattle.abi.proofs.Walked.{rights_told}
 
 -- Rights in answers ----------------------------------------------------------------------------------------------------------------
 

@@ -1,9 +1,9 @@
 -- NO PAGE IS WRITABLE AND EXECUTABLE, by C's numbers: look-up answers none after tp_raw_create, and every call keeps it so.
-use Prim.Native.Nat.{ℕ, ◌*◌, ◌/◌}
+use Prim.Native.Nat.{ℕ}
 use mathlib.Core.Bool.{Bool, true, false}
 use mathlib.Core.List.{List}
 use mathlib.Core.Logic.{◌⊎◌, inl, inr}
-use mathlib.Core.Path.{◌≡◌, refl, sym, ap, ◌∙◌, subst}
+use mathlib.Core.Path.{◌≡◌, refl, sym, ap, ◌∙◌}
 use native.Mathlib.Omega.{arith}
 use Rattle.walk.specs.Walk.{canonical}
 use Rattle.walk.specs.declared.Found.{Found}

@@ -1,5 +1,5 @@
 -- ONE HANDLE, by the numbers that C gives: a call that names another space than the one that is there.
-use Rattle.std.specs.Prelude.{ℕ, ◌+◌, ◌*◌, ◌≤◌, List, ◌⊎◌, ◌≢◌, ◌≡◌}
+use Rattle.std.specs.Prelude.{ℕ, ◌+◌, ◌*◌, ◌≤◌, List, ◌⊎◌, ◌≢◌}
 use Rattle.abi.specs.Relied.{Numbers, Call, leaves, reason, others, Untouched}
 
 -- it is refused: every byte is what it was, and every other field of the answer is 0

@@ -33,7 +33,7 @@ use Rattle.plan.specs.declared.finding.PageEntry.{PageEntry}
 use Rattle.plan.specs.declared.finding.Sought.{Sought}
 use Rattle.plan.specs.declared.finding.Sought.TheVariants as sought
 use Rattle.plan.specs.declared.protects.Change.{Change}
-use Rattle.plan.specs.declared.protects.Changing.TheVariants.{Go, Refused}
+use Rattle.plan.specs.declared.protects.Changing.TheVariants.{Go}
 use Rattle.plan.specs.Find.{find_of}
 use Rattle.plan.specs.Protect.{change_of, changing_of, decide_of, writes_of}
 use Rattle.effect.proofs.Unmarking.{page_unmarked}

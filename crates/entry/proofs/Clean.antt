@@ -1,5 +1,5 @@
 -- What keeps a page's entry as we write it: its own word, marks, and other rights.
-use Rattle.std.proofs.Common.{◌≡◌, ℕ, zero, suc, ◌+◌, ◌*◌, ◌/◌, ◌%◌, ◌^◌, ◌<◌, ◌≤◌, sym, refl, ap, ◌∙◌, subst, arith}
+use Rattle.std.proofs.Common.{◌≡◌, ℕ, zero, suc, ◌+◌, ◌*◌, ◌/◌, ◌%◌, ◌^◌, ◌<◌, sym, refl, ap, ◌∙◌, subst, arith}
 use Rattle.entry.specs.Entry.{size_of, frame_of, says}
 use Rattle.entry.specs.Clean.{Clean}
 use Rattle.entry.specs.Kept.{regranted}

@@ -1,9 +1,8 @@
 -- What a word says depends on its fields alone: present, the bits from 7 up, and the rights.
-use Rattle.std.proofs.Common.{◌≡◌, ℕ, zero, suc, ◌+◌, ◌*◌, ◌/◌, ◌%◌, ◌^◌, ◌<◌, ◌≤◌, Bool, true, false, cond, ◌&&◌, eqb, leb, sym, refl, ap, ◌∙◌, arith, eq-eqb, le-leb}
+use Rattle.std.proofs.Common.{◌≡◌, ℕ, zero, suc, ◌*◌, ◌/◌, ◌%◌, ◌^◌, ◌<◌, ◌≤◌, Bool, true, false, cond, ◌&&◌, leb, sym, ap, ◌∙◌, arith, eq-eqb, le-leb}
 use native.Mathlib.Nat.{div-div-eq-div-mul}
 use Rattle.entry.specs.Entry.{size_of, bit, rights_of, frame_of, table_of, padded, large_of, present_of, says}
 use Rattle.entry.specs.declared.Rights.{Rights}
-use Rattle.entry.specs.declared.Entry.{Entry}
 use Rattle.entry.specs.declared.Entry.TheVariants.{Nothing, Page, Table}
 use Rattle.entry.proofs.Levels.{bit_on, bit_off, present_above}
 

@@ -1,5 +1,5 @@
 -- Sizes and fields at the four levels, each fact proved at the four numerals.
-use Rattle.std.proofs.Common.{◌≡◌, ℕ, zero, suc, ◌*◌, ◌/◌, ◌%◌, ◌^◌, ◌<◌, ◌≤◌, true, false, cond, refl, arith, eq-eqb, ne_eqb}
+use Rattle.std.proofs.Common.{◌≡◌, ℕ, zero, suc, ◌/◌, ◌%◌, ◌^◌, ◌<◌, true, false, cond, refl, arith, eq-eqb, ne_eqb}
 use Rattle.entry.specs.Entry.{size_of, frame_of, bit, rights_of, table_of, large_of, present_of}
 use Rattle.entry.specs.declared.Entry.TheVariants.{Table}
 use Rattle.entry.specs.Words.{large_flag}

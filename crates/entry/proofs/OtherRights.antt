@@ -1,11 +1,10 @@
 -- A word with other rights says the same with these rights, at every level; every other bit is as it was.
-use Rattle.std.proofs.Common.{◌≡◌, ℕ, zero, suc, ◌+◌, ◌*◌, ◌/◌, ◌%◌, ◌^◌, ◌<◌, ◌≤◌, Bool, true, false, cond, ◌&&◌, eqb, sym, refl, ap, ◌∙◌, arith}
+use Rattle.std.proofs.Common.{◌≡◌, ℕ, zero, suc, ◌+◌, ◌*◌, ◌/◌, ◌%◌, ◌^◌, ◌<◌, Bool, true, false, cond, eqb, sym, refl, ap, ◌∙◌, arith}
 use borrow.Author.Tests.{lt-leb}
 use Rattle.entry.specs.Entry.{size_of, bit, rights_of, frame_of, table_of, padded, large_of, present_of, says}
-use Rattle.entry.specs.Words.{flag, with_rights}
+use Rattle.entry.specs.Words.{with_rights}
 use Rattle.entry.specs.Kept.{SameButRights, regranted}
 use Rattle.entry.specs.declared.Rights.{Rights}
-use Rattle.entry.specs.declared.Entry.{Entry}
 use Rattle.entry.specs.declared.Entry.TheVariants.{Nothing, Page, Table}
 use Rattle.entry.proofs.Written.{flag_lt, bit_flag}
 

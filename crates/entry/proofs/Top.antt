@@ -1,9 +1,9 @@
 -- At the root: bits 0 and 7 of a word by one test of the number before it.
-use Rattle.std.proofs.Common.{◌≡◌, ℕ, ◌+◌, ◌-◌, ◌*◌, ◌/◌, ◌%◌, ◌^◌, ◌<◌, ◌≤◌, Bool, true, false, cond, ◌&&◌, leb, sym, refl, ap, ◌∙◌, subst, arith}
+use Rattle.std.proofs.Common.{◌≡◌, ℕ, ◌+◌, ◌*◌, ◌/◌, ◌%◌, ◌^◌, ◌<◌, ◌≤◌, sym, refl, ap, ◌∙◌, subst, arith}
 use native.Mathlib.Decide.{dec_le}
 use borrow.Author.Tests.{lt-leb}
 use lib.Bits.{bit_and, and_block, and_mask}
-use Rattle.entry.specs.Entry.{bit, says, present_of, large_of, table_of, rights_of}
+use Rattle.entry.specs.Entry.{says, large_of, table_of, rights_of}
 use Rattle.entry.specs.declared.Entry.TheVariants.{Nothing, Table}
 use Rattle.entry.proofs.Levels.{bit_off, bit_on, present_above}
 

@@ -1,11 +1,10 @@
 -- What we write says what we asked.
-use Rattle.std.proofs.Common.{◌≡◌, ℕ, zero, suc, ◌+◌, ◌*◌, ◌/◌, ◌%◌, ◌^◌, ◌<◌, ◌≤◌, Bool, true, false, cond, ◌&&◌, sym, refl, ap, ◌∙◌, subst, mul_comm, arith, ltb-true, eqb-true, leb-true}
+use Rattle.std.proofs.Common.{◌≡◌, ℕ, zero, suc, ◌+◌, ◌*◌, ◌/◌, ◌%◌, ◌^◌, ◌<◌, ◌≤◌, Bool, true, false, sym, refl, ap, ◌∙◌, subst, mul_comm, arith, ltb-true, eqb-true, leb-true}
 use Rattle.word.proofs.Tests.{and_both}
 use Rattle.entry.specs.Entry.{size_of, bit, rights_of, frame_of, table_of, says, everything}
-use Rattle.entry.specs.Words.{flag, large_flag, fits, page_word, table_word, with_rights}
+use Rattle.entry.specs.Words.{flag, large_flag, fits, page_word, table_word}
 use Rattle.entry.specs.declared.Rights.{Rights}
-use Rattle.entry.specs.declared.Entry.{Entry}
-use Rattle.entry.specs.declared.Entry.TheVariants.{Nothing, Page, Table}
+use Rattle.entry.specs.declared.Entry.TheVariants.{Page, Table}
 use Rattle.entry.proofs.Levels.{bit_on, bit_off}
 use Rattle.entry.proofs.Fields.{says_table, says_last, says_large}
 

@@ -1,5 +1,5 @@
 -- What follows from what the code keeps of a way, for the search of a page and for map.
-use Rattle.std.proofs.Common.{◌≡◌, ℕ, ◌-◌, ◌%◌, ◌<◌, ◌≤◌, Bool, true, false, sym, refl, ap, ◌∙◌, subst, arith, le-leb}
+use Rattle.std.proofs.Common.{◌≡◌, ℕ, ◌-◌, ◌<◌, ◌≤◌, Bool, true, false, sym, ap, ◌∙◌, arith, le-leb}
 use borrow.Author.Tests.{lt-leb}
 use Rattle.entry.specs.Entry.{size_of, says}
 use Rattle.entry.specs.Words.{made_page}
@@ -13,8 +13,6 @@ use Rattle.plan.specs.declared.descent.Way.{Way}
 use Rattle.plan.specs.declared.descent.Why.{Why}
 use Rattle.plan.specs.declared.descent.Why.TheVariants as why
 use Rattle.plan.specs.declared.descent.Arrival.{Arrival}
-use Rattle.plan.specs.declared.finding.PageEntry.{PageEntry}
-use Rattle.plan.specs.declared.finding.Sought.{Sought}
 use Rattle.plan.specs.declared.finding.Sought.TheVariants.{Found, Refused}
 use Rattle.plan.specs.declared.maps.Asked.{Asked}
 use Rattle.plan.specs.declared.maps.Placing.{Placing}

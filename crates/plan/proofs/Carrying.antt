@@ -1,5 +1,5 @@
 -- Windows after the lists of a plan, as its functions leave them.
-use Rattle.std.proofs.Common.{◌≡◌, ℕ, ◌+◌, ◌-◌, ◌<◌, ◌≤◌, Bool, true, false, cond, leb, List, [], ◌∷◌, ◌++◌, sym, refl, ap, ◌∙◌, subst, arith, le-leb, leb-false, leb-true}
+use Rattle.std.proofs.Common.{◌≡◌, ℕ, ◌+◌, ◌-◌, ◌<◌, ◌≤◌, Bool, true, false, cond, leb, List, [], ◌∷◌, refl, ap, ◌∙◌, subst, arith, leb-false, leb-true}
 use Rattle.word.specs.Memory.{holds}
 use Rattle.word.specs.Writes.{Write, Wrote, write, up_to}
 use Rattle.word.proofs.Writes.{holds_carried}
@@ -13,7 +13,7 @@ use Rattle.pool.specs.declared.Fit.TheVariants.{Fits}
 use Rattle.pool.specs.declared.Space.{Space}
 use Rattle.pool.specs.declared.Book.{Book}
 use Rattle.plan.specs.declared.unmaps.Removal.{Removal}
-use Rattle.plan.specs.Unmap.{cut_book, cut_writes, book1, book2, writes_of}
+use Rattle.plan.specs.Unmap.{cut_book, cut_writes, book2, writes_of}
 use Rattle.plan.specs.Map.{next_of, grow_of, reached0, reached1, reached2, reached3, build_of, Buildable}
 
 -- Map -------------------------------------------------------------------------------------------------------------------------

@@ -1,11 +1,11 @@
 -- What is done at once is what was decided.
-use Rattle.std.proofs.Common.{◌≡◌, ℕ, suc, ◌+◌, ◌^◌, ◌<◌, ◌≤◌, Bool, true, false, cond, List, [], ◌∷◌, sym, refl, ap, ◌∙◌, arith}
+use Rattle.std.proofs.Common.{◌≡◌, ℕ, suc, ◌+◌, ◌^◌, ◌≤◌, Bool, true, false, cond, List, sym, refl, ap, ◌∙◌, arith}
 use Rattle.word.specs.Memory.{memory, holds}
 use Rattle.word.specs.Writes.{Wrote}
 use Rattle.entry.specs.Entry.{size_of}
 use Rattle.entry.specs.Words.{made_page}
 use Rattle.entry.specs.declared.Made.TheVariants.{Word}
-use Rattle.walk.specs.Walk.{index_of, entry_of}
+use Rattle.walk.specs.Walk.{index_of}
 use Rattle.pool.specs.Book.{names_of}
 use Rattle.pool.specs.declared.Space.{Space}
 use Rattle.pool.specs.declared.Fit.TheVariants.{Fits}
@@ -20,7 +20,7 @@ use Rattle.plan.specs.declared.direct.Once.TheVariants as once
 use Rattle.plan.specs.declared.maps.Asked.{Asked}
 use Rattle.plan.specs.declared.maps.Shape.TheVariants.{Level}
 use Rattle.plan.specs.Descend.{Going, start_of, push_of, stop_of, down_of, end_of, way_of}
-use Rattle.plan.specs.Map.{Placed, Refused, fits_of, shape_of, allowed_of, meets_of, because_of, stopped_of, fitting_of, standing_of, shaped_of, decide_of, placing_of}
+use Rattle.plan.specs.Map.{Placed, Refused, fits_of, shape_of, allowed_of, meets_of, because_of, stopped_of, fitting_of, standing_of, shaped_of, decide_of}
 use Rattle.plan.specs.Rights.{write_execute}
 use Rattle.plan.specs.AtOnce.{lead_of, Comes, once_of, once_writes, Found, AtOnce}
 use Rattle.plan.proofs.Leads.{lead_page, lead_nothing, lead_table}

@@ -1,5 +1,5 @@
 -- A way by what its entries lead to, and what is decided then.
-use Rattle.std.proofs.Common.{◌≡◌, ℕ, zero, suc, ◌<◌, ◌≤◌, Bool, true, false, cond, eqb, List, [], ◌∷◌, sym, refl, ap, ◌∙◌, arith, eq-eqb, ne_eqb}
+use Rattle.std.proofs.Common.{◌≡◌, ℕ, zero, suc, Bool, true, false, cond, eqb, refl, ap, ◌∙◌, arith, eq-eqb, ne_eqb}
 use Rattle.entry.specs.Entry.{says}
 use Rattle.entry.specs.declared.Entry.{Entry}
 use Rattle.entry.specs.declared.Entry.TheVariants as entry
@@ -7,12 +7,11 @@ use Rattle.walk.specs.Walk.{entry_of}
 use Rattle.pool.specs.Book.{in_pool}
 use Rattle.pool.specs.declared.Space.{Space}
 use Rattle.plan.specs.declared.descent.Way.{Way}
-use Rattle.plan.specs.declared.descent.Why.{Why}
 use Rattle.plan.specs.declared.descent.Why.TheVariants as why
 use Rattle.plan.specs.declared.direct.Lead.{Lead}
 use Rattle.plan.specs.declared.direct.Lead.TheVariants as lead
 use Rattle.plan.specs.Descend.{Descent, Going, Stopped, push_of, stop_of, at_entry_of, arrive_of, step_down_of, down_of, end_of}
-use Rattle.plan.specs.AtOnce.{lead_by, lead_of, Comes, Leads}
+use Rattle.plan.specs.AtOnce.{lead_by, lead_of, Leads}
 
 module _ (h : ℕ → Bool) (m : ℕ → ℕ) (sp : Space) (target va : ℕ) where
   -- a step by what the entry leads to

@@ -4,7 +4,6 @@ use Rattle.word.specs.Memory.{holds}
 use Rattle.word.specs.Scan.{besides_of}
 use Rattle.word.proofs.Memory.{held}
 use Rattle.entry.specs.Words.{made_page}
-use Rattle.entry.specs.declared.Entry.TheVariants as entry
 use Rattle.entry.specs.declared.Made.{Made}
 use Rattle.entry.specs.declared.Made.TheVariants as made
 use Rattle.walk.specs.Walk.{index_of}

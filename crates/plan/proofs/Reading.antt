@@ -1,5 +1,5 @@
 -- A step of the way by what it read; and an entry of the way that is set.
-use Rattle.std.proofs.Common.{◌≡◌, ℕ, Bool, true, false, cond, List, [], ◌∷◌, sym, refl, ◌∙◌, arith, le-leb}
+use Rattle.std.proofs.Common.{◌≡◌, ℕ, Bool, true, false, cond, List, [], ◌∷◌, refl, arith, le-leb}
 use Rattle.word.specs.Memory.{memory, holds}
 use Rattle.word.specs.Writes.{write}
 use Rattle.word.specs.Runs.{among_of}

@@ -1,11 +1,10 @@
 -- What it shows that a space stands.
-use Rattle.std.proofs.Common.{◌≡◌, ℕ, Bool, true, false, cond, refl, arith}
+use Rattle.std.proofs.Common.{◌≡◌, ℕ, Bool, true, false, refl, arith}
 use Rattle.pool.specs.Book.{in_pool, room_of, rooted_in}
 use Rattle.pool.specs.Stands.{stands_of}
 use Rattle.pool.specs.declared.Space.{Space}
 use Rattle.pool.specs.declared.Fit.{Fit}
 use Rattle.pool.specs.declared.Fit.TheVariants.{Fits, Refused}
-use Rattle.pool.specs.declared.Reason.TheVariants.{BadRoot}
 use Rattle.pool.proofs.Opening.{Fitting, fitting}
 
 pub record Stands (h : ℕ → Bool) (sp : Space) : Type 0 where

@@ -1,6 +1,6 @@
 -- The way from the root towards the entry of an address at a target level: a fold of steps that read one entry each.
 -- It goes through pages of the pool only, and remembers the tables that it came through, the last one first.
-use Rattle.std.specs.Prelude.{◌≡◌, ℕ, zero, suc, Bool, cond, ◌&&◌, ◌==◌}
+use Rattle.std.specs.Prelude.{◌≡◌, ℕ, zero, suc, Bool, cond, ◌==◌}
 use Rattle.entry.specs.declared.Rights.{Rights}
 use Rattle.entry.specs.Entry.{says}
 use Rattle.entry.specs.declared.Entry.{Entry}

@@ -1,5 +1,5 @@
 -- Protect: the decision, and the one write of its plan.
-use Rattle.std.specs.Prelude.{ℕ, ◌<◌, Bool, cond, List, [], ◌∷◌}
+use Rattle.std.specs.Prelude.{ℕ, Bool, cond, List, [], ◌∷◌}
 use Rattle.word.specs.Writes.{Write, write}
 use Rattle.entry.specs.Words.{with_rights}
 use Rattle.entry.specs.declared.Rights.{Rights}

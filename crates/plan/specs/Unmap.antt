@@ -1,5 +1,5 @@
 -- Unmap: the decision, a function of the memory and what is asked, and the writes of its plan.
-use Rattle.std.specs.Prelude.{ℕ, zero, suc, ◌+◌, ◌<◌, Bool, true, false, cond, ◌&&◌, ◌||◌, List, [], ◌∷◌, ◌++◌, ◌==◌, nat_le}
+use Rattle.std.specs.Prelude.{ℕ, ◌+◌, ◌<◌, Bool, cond, List, [], ◌∷◌, ◌++◌, ◌==◌, nat_le}
 use Rattle.word.specs.Scan.{besides_of}
 use Rattle.word.specs.Writes.{Write, write}
 use Rattle.walk.specs.Walk.{index_of}
@@ -11,7 +11,6 @@ use Rattle.pool.specs.declared.Book.{Book}
 use Rattle.pool.specs.declared.Opened.{Opened}
 use Rattle.pool.specs.declared.Opened.TheVariants as opened
 use Rattle.pool.specs.declared.Reason.TheVariants.{BadBook}
-use Rattle.plan.specs.declared.Reason.{Reason}
 use Rattle.plan.specs.declared.Reason.TheVariants.{Pool}
 use Rattle.plan.specs.declared.descent.Way.{Way}
 use Rattle.plan.specs.declared.finding.PageEntry.{PageEntry}

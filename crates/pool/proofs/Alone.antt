@@ -1,5 +1,5 @@
 -- ONE BOOK IN A POOL: no other page of it begins with a signature, and no write of a word that is none makes one.
-use Rattle.std.proofs.Common.{◌≡◌, ℕ, zero, suc, ◌+◌, ◌-◌, ◌^◌, ◌<◌, ◌≤◌, Bool, true, false, cond, ◌&&◌, leb, ◌≢◌, List, [], ◌∷◌, ◌++◌, sym, refl, ◌∙◌, arith, leb-true}
+use Rattle.std.proofs.Common.{◌≡◌, ℕ, zero, suc, ◌+◌, ◌<◌, Bool, true, false, cond, ◌&&◌, leb, ◌≢◌, List, [], ◌∷◌, ◌++◌, sym, refl, ◌∙◌, arith, leb-true}
 use native.Mathlib.Decide.{ℕ_discrete}
 use Rattle.word.specs.Memory.{at, set}
 use Rattle.word.specs.Writes.{Write, write, after, zeros}

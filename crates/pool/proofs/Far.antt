@@ -1,5 +1,5 @@
 -- A page from 2 ^ 40 on is not written; and a word of the book as an entry.
-use Rattle.std.proofs.Common.{◌≡◌, ℕ, ◌+◌, ◌-◌, ◌*◌, ◌/◌, ◌%◌, ◌^◌, ◌<◌, ◌≤◌, Bool, true, false, cond, ◌&&◌, ltb, List, sym, refl, ◌∙◌, arith}
+use Rattle.std.proofs.Common.{◌≡◌, ℕ, ◌+◌, ◌-◌, ◌*◌, ◌/◌, ◌%◌, ◌^◌, ◌≤◌, Bool, true, false, cond, ◌&&◌, ltb, List, sym, refl, arith}
 use Rattle.word.specs.Bytes.{put_word}
 use Rattle.word.specs.Memory.{at, written}
 use Rattle.word.proofs.Holding.{far}

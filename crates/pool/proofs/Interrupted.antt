@@ -12,7 +12,7 @@ use Rattle.pool.specs.declared.Opened.TheVariants as opened
 use Rattle.pool.specs.Layout.{signature_at, pages_at, root_at, tickets_at, free_at, aside_at, header_words, slot_at}
 use Rattle.pool.specs.Book.{word_of, signature, opened_of}
 use Rattle.pool.specs.Changes.{put}
-use Rattle.pool.specs.Create.{may_create, new_space, row, fills, blanks, unmarks, bared, slots, header_writes, new_free, lay_out, create_writes, create_in, created_up_to}
+use Rattle.pool.specs.Create.{may_create, new_space, row, fills, unmarks, bared, slots, header_writes, new_free, lay_out, create_writes, create_in, created_up_to}
 use Rattle.pool.proofs.Far.{word_at_lem}
 use Rattle.pool.proofs.Words.{book_some}
 use Rattle.pool.proofs.Rows.{put_same}

@@ -12,7 +12,7 @@ use Rattle.pool.specs.declared.Created.TheVariants as created
 use Rattle.pool.specs.Layout.{signature_at, head_at, header_words, slot_at, count_at, book_pages}
 use Rattle.pool.specs.Book.{word_of, signature, room_of}
 use Rattle.pool.specs.Changes.{put}
-use Rattle.pool.specs.Create.{may_create, new_space, fills, blanks, unmarks, bared, slots, header_writes, new_free, lay_out, Roomy, created_of, created_in, create_writes, create_in}
+use Rattle.pool.specs.Create.{may_create, new_space, fills, blanks, bared, slots, header_writes, new_free, lay_out, Roomy, created_of, created_in, create_writes, create_in}
 use Rattle.pool.specs.Booked.{setting_of, Booked, Alone, new_role}
 use Rattle.pool.proofs.Opening.{Fitting, may_fit, fit_small, fit_inside, roomy}
 use Rattle.pool.proofs.Proper.{OfBook, fills_proper, rest_proper, header_writes_proper, mark_proper}

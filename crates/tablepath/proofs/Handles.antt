@@ -1,14 +1,14 @@
 -- ONE HANDLE. Where a space is whole, every call that names its first page with other pages or another root, or begins at another page of its
 -- pool, is refused and writes nothing. A call that is not refused found a book with exactly its numbers; and it leaves every other space.
-use Prim.Native.Nat.{ℕ, ◌+◌, ◌*◌, ◌/◌, ◌%◌, ◌<◌, ◌≤◌}
+use Prim.Native.Nat.{ℕ, ◌+◌, ◌*◌, ◌/◌, ◌%◌, ◌<◌}
 use mathlib.Core.Bool.{Bool, true, false}
-use mathlib.Core.List.{List, []}
+use mathlib.Core.List.{List}
 use mathlib.Core.Logic.{◌⊎◌, inl, inr, ◌≢◌}
 use mathlib.Core.Path.{◌≡◌, refl, sym, ap, ◌∙◌, subst}
 use native.Mathlib.Omega.{arith}
 use borrow.Author.Tests.{eq-eqb, ne_eqb}
 use Rattle.word.specs.Memory.{at, memory, holds}
-use Rattle.word.specs.Writes.{Write, after, carried, Every, none}
+use Rattle.word.specs.Writes.{after, carried, Every, none}
 use Rattle.word.proofs.Writes.{every_map, after_other, holds_carried, memory_carried}
 use Rattle.entry.specs.declared.Rights.{Rights}
 use Rattle.entry.specs.Pat.{PatClear}
@@ -16,8 +16,8 @@ use Rattle.entry.specs.Entry.{says}
 use Rattle.tables.specs.Roles.{Role, left}
 use Rattle.tables.proofs.Unseen.{TablesAlike, alike_sound}
 use Rattle.pool.specs.Layout.{signature_at, pages_at, root_at}
-use Rattle.pool.specs.Book.{word_of, signature, room_of, headed_of, rooted_in, names_in, names_of, opened_of, opened_in}
-use Rattle.pool.specs.Booked.{setting_of, SameBook}
+use Rattle.pool.specs.Book.{room_of, headed_of, rooted_in, names_in, names_of, opened_of, opened_in}
+use Rattle.pool.specs.Booked.{SameBook}
 use Rattle.pool.specs.declared.Space.{Space}
 use Rattle.pool.specs.declared.Fit.{Fit}
 use Rattle.pool.specs.declared.Fit.TheVariants as fit
@@ -43,7 +43,7 @@ use Rattle.effect.specs.Whole.{Whole}
 use Rattle.tablepath.specs.Answers.{map_answer, map_writes, map_said, unmap_answer, unmap_writes, unmap_said, protect_answer, protect_writes, protect_said, told_answer, told_writes, told_said, told_did}
 use Rattle.tablepath.specs.Calls.{Call, call_writes}
 use Rattle.tablepath.specs.Calls as calls
-use Rattle.tablepath.specs.Handles.{Refuses, Rejected, NamedNot, RefusedFor, BookAt, Disjoint}
+use Rattle.tablepath.specs.Handles.{Rejected, NamedNot, RefusedFor, BookAt, Disjoint}
 use Rattle.tablepath.proofs.InPool.{call_in_pool}
 use Rattle.tablepath.specs.Looks.{WholeBytes}
 

@@ -1,20 +1,17 @@
 -- WHAT EACH OPERATION MEANS, of the bytes: what its answer says, carried over from the memory that the bytes are.
-use Prim.Native.Nat.{ℕ, ◌*◌}
+use Prim.Native.Nat.{ℕ}
 use mathlib.Core.List.{List}
-use mathlib.Core.Path.{◌≡◌, subst}
-use Rattle.word.specs.Memory.{memory, holds}
 use Rattle.word.specs.Writes.{carried}
 use Rattle.word.proofs.Writes.{holds_carried, memory_carried}
 use Rattle.entry.specs.declared.Rights.{Rights}
 use Rattle.walk.specs.Walk.{walk}
-use Rattle.tables.specs.Roles.{Role}
 use Rattle.pool.specs.State.{state_of}
 use Rattle.pool.specs.declared.Space.{Space}
 use Rattle.plan.specs.declared.maps.Asked.{Asked}
 use Rattle.tablepath.specs.Answers.{map_answer, map_writes, unmap_answer, unmap_writes, protect_answer, protect_writes, told_answer, told_writes}
 use Rattle.tablepath.specs.Calls.{call_writes}
 use Rattle.tablepath.specs.Calls as calls
-use Rattle.tablepath.specs.Looks.{in_window, WholeBytes}
+use Rattle.tablepath.specs.Looks.{in_window}
 use Rattle.tablepath.specs.Means.{MapMeans, UnmapMeans, ProtectMeans, ToldMeans, StateMeans, LookUpMeans}
 use Rattle.tablepath.proofs.SaysAny.{refusal_leaves}
 use Rattle.tablepath.proofs.Wholes.{call_leaves, call_kept}

@@ -1,22 +1,21 @@
 -- NUMBERS AND TICKETS ALONG A RUN: no ticket falls, a call hands out the ticket of the moment after it, and a page with a number below the first ticket had
 -- that number from the beginning, so that no call linked it.
-use Prim.Native.Nat.{ℕ, ◌+◌, ◌<◌, ◌≤◌}
+use Prim.Native.Nat.{ℕ, ◌<◌, ◌≤◌}
 use mathlib.Core.Bool.{Bool}
 use mathlib.Core.List.{List, [], ◌∷◌, ◌++◌}
 use mathlib.Core.Logic.{inl, inr}
-use mathlib.Core.Path.{◌≡◌, refl, sym, ap, ◌∙◌, subst}
+use mathlib.Core.Path.{◌≡◌, sym, ap, ◌∙◌, subst}
 use native.Mathlib.Omega.{arith}
 use Rattle.word.specs.Writes as word
 use Rattle.world.specs.Events.{Event, after}
 use Rattle.world.proofs.Events.{after_append}
-use Rattle.tables.specs.Roles.{Role, free, aside}
+use Rattle.tables.specs.Roles.{Role, free}
 use Rattle.tables.proofs.Clearing.{events_after}
 use Rattle.pool.specs.Book.{book_of, ticket_of}
 use Rattle.pool.specs.Booked.{Numbered}
 use Rattle.pool.specs.declared.Space.{Space}
 use Rattle.effect.specs.Whole.{Whole}
-use Rattle.tablepath.specs.Calls.{Call, Within, call_writes, Saw, Act, act_writes, wrote, Runs, UpTo}
-use Rattle.tablepath.specs.Calls as calls
+use Rattle.tablepath.specs.Calls.{Within, call_writes, Saw, Act, act_writes, wrote, Runs, UpTo}
 use Rattle.tablepath.specs.Tickets.{Handed}
 use Rattle.tablepath.specs.Nights.{Some}
 use Rattle.tablepath.specs.Gone.{Links}

@@ -1,14 +1,14 @@
 -- A table that is set aside is named by nothing, and read by no walk that begins now.
-use Prim.Native.Nat.{ℕ, ◌+◌, ◌*◌, ◌/◌, ◌<◌}
+use Prim.Native.Nat.{ℕ, ◌<◌}
 use mathlib.Core.Bool.{Bool}
-use mathlib.Core.Path.{◌≡◌, sym, ap, ◌∙◌, subst}
+use mathlib.Core.Path.{◌≡◌, ap, ◌∙◌}
 use native.Mathlib.Omega.{arith}
 use Rattle.word.specs.Memory.{at}
 use Rattle.word.proofs.Writes.{page_of}
 use Rattle.entry.specs.declared.Rights.{Rights}
 use Rattle.entry.specs.declared.Entry.TheVariants.{Table}
 use Rattle.world.specs.Walker.{Reads}
-use Rattle.tables.specs.Roles.{Role, aside, left, Live, entry_at}
+use Rattle.tables.specs.Roles.{Role, left, Live, entry_at}
 use Rattle.tables.specs.Discipline.{walker_of}
 use Rattle.tables.proofs.Discipline.{unread}
 use Rattle.pool.specs.Booked.{setting_of, Numbered}

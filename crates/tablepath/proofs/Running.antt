@@ -24,18 +24,17 @@ use Rattle.tables.proofs.Unseen.{alike_built}
 use Rattle.tables.proofs.Meaning.{live_home}
 use Rattle.tables.proofs.Reach.{walk_reads_tables}
 use Rattle.tables.specs.Discipline.{walker_of}
-use Rattle.tables.specs.Clearing.{events_of}
 use Rattle.tables.proofs.Clearing.{events_after}
 use Rattle.tables.proofs.Walks.{laws_of}
 use Rattle.pool.specs.Book.{book_of, ticket_of}
-use Rattle.pool.specs.Booked.{setting_of, Booked, Numbered}
+use Rattle.pool.specs.Booked.{setting_of}
 use Rattle.pool.specs.declared.Space.{Space}
 use Rattle.pool.proofs.Booked.{same_counts}
 use Rattle.effect.specs.Whole.{Whole}
 use Rattle.effect.specs.Numbers.{KeepsNumbers}
 use Rattle.effect.proofs.Numbers.{same_keeps}
-use Rattle.tablepath.specs.Calls.{Call, Within, call_writes, PoolWord, Saw, Act, act_writes, wrote, Runs, UpTo, Others, Reached, From}
-use Rattle.tablepath.proofs.Marking.{writes_append, planned_writes, planned_others, wrote_writes, saw_self, saw_back, others_saw, others_all, wrote_others, saw_book, saw_agree, saw_alike, others_fair, book_fits, saw_whole}
+use Rattle.tablepath.specs.Calls.{Within, call_writes, PoolWord, Saw, Act, act_writes, wrote, Runs, UpTo, Reached, From}
+use Rattle.tablepath.proofs.Marking.{planned_writes, planned_others, wrote_writes, saw_self, saw_back, others_saw, others_all, wrote_others, saw_book, saw_agree, saw_alike, others_fair, book_fits, saw_whole}
 use Rattle.tablepath.proofs.Serving.{IsBuilt, Served, numbered_aside}
 use Rattle.tablepath.proofs.Serves.{serves}
 

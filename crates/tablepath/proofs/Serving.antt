@@ -1,15 +1,14 @@
 -- What a call shows: what holds between operations holds after it, and its writes obey from the ticket n on.
-use Prim.Native.Nat.{ℕ, ◌+◌, ◌*◌, ◌/◌, ◌<◌, ◌≤◌}
+use Prim.Native.Nat.{ℕ, ◌/◌, ◌<◌, ◌≤◌}
 use mathlib.Core.Bool.{Bool}
-use mathlib.Core.List.{List, [], ◌∷◌, ◌++◌}
-use mathlib.Core.Logic.{◌⊎◌, inl, inr, ◌≢◌}
-use mathlib.Core.Path.{◌≡◌, refl, sym, ap, ◌∙◌, subst}
+use mathlib.Core.List.{List}
+use mathlib.Core.Logic.{◌≢◌}
+use mathlib.Core.Path.{◌≡◌, sym, ap, ◌∙◌}
 use native.Mathlib.Omega.{arith}
 use Rattle.word.specs.Writes.{Write, after}
 use Rattle.walk.specs.declared.Found.{Found}
-use Rattle.world.specs.Events.{Event, Among, All}
+use Rattle.world.specs.Events.{Among, All}
 use Rattle.world.proofs.Events.{all_map}
-use Rattle.world.specs.Events as world
 use Rattle.world.specs.Rules.{Obeys}
 use Rattle.world.specs.Frozen.{SomeReads}
 use Rattle.world.proofs.Frozen.{obeys_from, among_none}
@@ -17,7 +16,6 @@ use Rattle.tables.specs.Roles.{Role, aside, left, Built}
 use Rattle.tables.specs.Discipline.{Aside, walker_of}
 use Rattle.tables.proofs.Discipline.{Unread}
 use Rattle.tables.specs.Clearing.{events_of}
-use Rattle.tables.proofs.Clearing.{events_after}
 use Rattle.tables.specs.Operation.{Moment, Changed}
 use Rattle.tables.proofs.Operation.{changed_unread}
 use Rattle.tables.proofs.Walks.{laws_of}

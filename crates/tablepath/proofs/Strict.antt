@@ -49,9 +49,9 @@ use Rattle.tablepath.specs.declared.Unmapped.TheVariants as unmapped
 use Rattle.tablepath.specs.declared.Protected.TheVariants as protected
 use Rattle.tablepath.specs.declared.Altered.{Altered}
 use Rattle.tablepath.specs.Answers.{create_answer, create_writes, map_answer, map_said, unmap_answer, unmap_said, protect_answer, protect_said}
-use Rattle.tablepath.specs.Calls.{means, Call, Within, call_writes, Saw, Act, act_writes, wrote, Runs, UpTo, Reached}
+use Rattle.tablepath.specs.Calls.{means, Call, call_writes, Act, act_writes, wrote, Runs, UpTo, Reached}
 use Rattle.tablepath.specs.Looks.{WholeBytes}
-use Rattle.tablepath.specs.Nights.{Night, dusk, calls, happens, begins, done, history, last_began, last_since, due, uncovered, untold_kept, upper_dropped, Protects, Gets, Honest, Telling, Complete}
+use Rattle.tablepath.specs.Nights.{Night, dusk, calls, happens, begins, done, history, last_began, last_since, due, uncovered, untold_kept, upper_dropped, Protects, Honest, Telling, Complete}
 use Rattle.tablepath.specs.Gone.{dawn}
 use Rattle.tablepath.specs.Strict.{NotBoth, Strict, StrictBytes, RefusesBoth, NightStrict, NeverBoth}
 use Rattle.tablepath.proofs.SaysAny.{map_done_by, protect_done_by}

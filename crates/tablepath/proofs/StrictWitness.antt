@@ -1,20 +1,16 @@
 -- TWO WITNESSES, of any five pages made a pool, with a page mapped there: as it is, no address means a page that is writable and executable; and with
 -- a word as older versions of this library wrote it, one does, and the space is whole all the same.
 use Prim.Native.Nat.{ℕ}
-use mathlib.Core.Bool.{Bool, true, false, true≢false}
+use mathlib.Core.Bool.{Bool, true≢false}
 use mathlib.Core.List.{List}
-use mathlib.Core.Path.{◌≡◌, refl, sym, ap, ◌∙◌, subst}
-use native.Mathlib.Omega.{arith}
+use mathlib.Core.Path.{◌≡◌, refl, subst}
 use lib.ListN.{length}
 use Rattle.word.specs.Memory.{memory, holds}
 use Rattle.word.specs.Writes.{after}
 use Rattle.entry.specs.Entry.{everything}
 use Rattle.tables.specs.Roles.{Role}
-use Rattle.tables.specs.Near.{Near}
-use Rattle.pool.specs.Book.{book_of, ticket_in}
 use Rattle.pool.specs.Booked.{setting_of, new_role}
 use Rattle.plan.specs.Map as map
-use Rattle.plan.specs.Protect as protect
 use Rattle.plan.specs.Rights.{write_execute}
 use Rattle.plan.specs.Find.{find_of}
 use Rattle.plan.specs.declared.finding.PageEntry.{PageEntry}

@@ -1,5 +1,5 @@
 -- ONE HANDLE: what a call does that names another space than the one that is there; and what a call on one space does to another.
-use Rattle.std.specs.Prelude.{ℕ, ◌+◌, ◌≤◌, Bool, false, List, [], ◌⊎◌, ◌≢◌, ◌≡◌}
+use Rattle.std.specs.Prelude.{ℕ, ◌+◌, ◌≤◌, Bool, false, [], ◌⊎◌, ◌≢◌, ◌≡◌}
 use Rattle.pool.specs.Layout.{signature_at, pages_at, root_at}
 use Rattle.pool.specs.Book.{word_of, signature, names_of}
 use Rattle.pool.specs.declared.Space.{Space}

@@ -1,5 +1,5 @@
 -- THE THEOREMS OF A NIGHT, as statements. N is an honest night, and complete (exact where that is said, not even complete where "whatever is told" is); the proofs have the same names in small letters.
-use Rattle.std.specs.Prelude.{ℕ, ◌+◌, ◌<◌, ◌≤◌, Bool, List, [], ◌++◌, ◌⊎◌, ◌≡◌}
+use Rattle.std.specs.Prelude.{ℕ, ◌<◌, ◌≤◌, Bool, List, [], ◌++◌, ◌⊎◌, ◌≡◌}
 use Rattle.word.specs.Memory.{at}
 use Rattle.walk.specs.declared.Found.{Found}
 use Rattle.walk.specs.declared.Found.TheVariants.{Nothing}

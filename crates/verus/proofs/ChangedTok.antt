@@ -2,7 +2,7 @@
 -- that (lemma_no_empty_directories_with_changed_tok): for any memories, of one table and what lies below it.
 use Prim.Native.Nat.{ℕ, zero, suc, ◌/◌, ◌%◌, ◌<◌}
 use mathlib.Core.Bool.{false}
-use mathlib.Core.Logic.{◌↔◌, ◌≢◌}
+use mathlib.Core.Logic.{◌↔◌}
 use mathlib.Core.Path.{◌≡◌, refl, sym, ap, ◌∙◌, subst}
 use Rattle.word.specs.Memory.{at}
 use Rattle.entry.specs.Entry.{bit, says}

@@ -1,18 +1,16 @@
 -- THE ENTRIES' FUNCTIONS: each clause that the source promises of them, of the words that we write and read.
 use Prim.Native.Nat.{ℕ, zero, suc, ◌+◌, ◌*◌, ◌/◌, ◌%◌, ◌^◌, ◌<◌, ◌≤◌}
-use mathlib.Core.Bool.{Bool, true, false, cond, ◌&&◌}
+use mathlib.Core.Bool.{Bool, true, false}
 use mathlib.Core.Logic.{◌↔◌, ◌≢◌}
 use mathlib.Core.Path.{◌≡◌, refl, sym, ap, ◌∙◌, subst}
 use native.Mathlib.Omega.{arith}
-use borrow.Author.Tests.{le-leb, eq-eqb}
-use lib.Dec.{eqb, leb}
-use Rattle.entry.specs.Entry.{size_of, bit, rights_of, frame_of, table_of, padded, large_of, present_of, says, everything}
-use Rattle.entry.specs.Kept.{SameButRights, regranted}
+use Rattle.entry.specs.Entry.{size_of, bit, rights_of, frame_of, table_of, says}
+use Rattle.entry.specs.Kept.{regranted}
 use Rattle.entry.specs.Words.{flag, large_flag, page_word, table_word, with_rights}
 use Rattle.entry.specs.declared.Rights.{Rights}
 use Rattle.entry.specs.declared.Entry.{Entry}
 use Rattle.entry.specs.declared.Entry.TheVariants.{Nothing, Page, Table}
-use Rattle.entry.proofs.Fields.{says_absent, says_last, says_table, says_large, last_no_table}
+use Rattle.entry.proofs.Fields.{says_last, says_table, says_large, last_no_table}
 use Rattle.entry.proofs.Levels.{bit_on, bit_off}
 use Rattle.entry.proofs.OtherRights.{with_rights_says, with_rights_kept}
 use Rattle.entry.proofs.Written.{FrameFits, flag_lt, bit_flag, page_word_says, table_word_says}

@@ -16,8 +16,8 @@ use Rattle.entry.specs.declared.Entry.TheVariants.{Nothing, Page, Table}
 use Rattle.walk.specs.Walk.{canonical}
 use Rattle.walk.proofs.Addresses.{Halves, halves, in_lower, in_upper}
 use Rattle.verus.specs.Regions.{Flags, PTE, from_bits, combine}
-use Rattle.verus.specs.Mappings.{Mappings, SameMap, inserted, removed, max_base}
-use Rattle.verus.specs.Walks.{align, valid, layer0, layer1, layer2, layer3, pt_walk, based, view, interp}
+use Rattle.verus.specs.Mappings.{SameMap, inserted, removed, max_base}
+use Rattle.verus.specs.Walks.{valid, layer0, layer1, layer2, layer3, pt_walk, based, view, interp}
 
 -- BELOW 2 ^ 47
 pub view_below : (m : ℕ → ℕ) (pml4 va : ℕ) → va < 2 ^ 47 → view m pml4 va ≡ interp m pml4 va

@@ -16,7 +16,7 @@ use Rattle.entry.specs.declared.Rights.{Rights}
 use Rattle.entry.specs.declared.Entry.TheVariants.{Table}
 use Rattle.walk.specs.Walk.{index_of}
 use Rattle.walk.proofs.Digits.{index_lt}
-use Rattle.tables.specs.Roles.{Setting, Role, free, book, table, left, entry_at, Plain}
+use Rattle.tables.specs.Roles.{Setting, Role, free, table, left, entry_at, Plain}
 use Rattle.tables.specs.Way.{Comes, begin, onto}
 use Rattle.tables.proofs.Way.{comes_top, comes_same, comes_left}
 use Rattle.tables.proofs.OneWrite.{nothing_plain, page_plain}

@@ -1,8 +1,8 @@
 -- A range of addresses that changes its meaning, as a change of the map from bases; and the test of overlap.
-use Prim.Native.Nat.{ℕ, ◌+◌, ◌^◌, ◌<◌, ◌≤◌}
-use mathlib.Core.Bool.{Bool, true, false, cond}
+use Prim.Native.Nat.{ℕ, ◌+◌, ◌<◌, ◌≤◌}
+use mathlib.Core.Bool.{cond}
 use mathlib.Core.Logic.{◌↔◌, ◌⊎◌, inl, inr, ◌≢◌}
-use mathlib.Core.Option.{Option, none, some}
+use mathlib.Core.Option.{none, some}
 use mathlib.Core.Path.{◌≡◌, refl, sym, ap, ◌∙◌}
 use native.Mathlib.Decide.{ℕ_discrete, dec_lt, dec_le}
 use native.Mathlib.Omega.{arith}
@@ -10,7 +10,6 @@ use borrow.Author.Tests.{eq-eqb, ne_eqb}
 use lib.Dec.{eqb}
 use Rattle.entry.specs.Entry.{table_of}
 use Rattle.entry.specs.declared.Rights.{Rights}
-use Rattle.walk.specs.Walk.{walk}
 use Rattle.walk.specs.declared.Found.{Found}
 use Rattle.walk.specs.declared.Found.TheVariants.{Page, Nothing, Outside}
 use Rattle.tables.specs.Roles.{Setting}
@@ -19,7 +18,7 @@ use Rattle.tables.specs.Overlap.{MappedIn}
 use Rattle.verus.specs.Regions.{PTE, pte_of}
 use Rattle.verus.specs.Mappings.{CandidateOverlaps, inserted, removed}
 use Rattle.verus.specs.Walks.{interp}
-use Rattle.verus.proofs.Walks.{at_base, interp_found, meaning_is_interp, Based, interp_is_meaning}
+use Rattle.verus.proofs.Walks.{at_base, meaning_is_interp, Based, interp_is_meaning}
 
 -- an address of the range
 abbrev pub In : ℕ → ℕ → ℕ → Type 0

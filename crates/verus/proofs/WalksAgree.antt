@@ -1,13 +1,13 @@
 -- LEMMA_PT_WALK_AGREES_IN_FRAME, for any memory and any numbers: every address of a page's range is walked as its base is.
 use Prim.Native.Nat.{ℕ, ◌+◌, ◌-◌, ◌/◌, ◌%◌, ◌^◌, ◌<◌, ◌≤◌}
-use mathlib.Core.Path.{◌≡◌, refl, sym, ap, ◌∙◌}
+use mathlib.Core.Path.{◌≡◌, sym, ap, ◌∙◌}
 use native.Mathlib.Omega.{arith}
 use Rattle.word.specs.Memory.{at}
 use Rattle.entry.specs.Entry.{says}
 use Rattle.entry.specs.declared.Entry.{Entry}
 use Rattle.entry.specs.declared.Entry.TheVariants.{Nothing, Page, Table}
 use Rattle.verus.specs.Regions.{Flags, PTE, from_bits, combine}
-use Rattle.verus.specs.Walks.{WalkResult, Valid, invalid, valid, layer0, layer1, layer2, layer3, pt_walk}
+use Rattle.verus.specs.Walks.{Valid, invalid, valid, layer0, layer1, layer2, layer3, pt_walk}
 
 module _ (m : ℕ → ℕ) (a b : ℕ) (p : PTE) (low : a ≤ b) (high : b < a + p.frame.size) where
   never : {A : Type 0} → invalid a ≡ Valid a p → A

@@ -1,6 +1,6 @@
 -- What the source promises of its entries' functions (impl PDE of impl_u/l2_impl.rs), over a word: a mask of one bit is that bit, the view of an
 -- entry is what the word says, and MASK_ADDR is bits 12 to 51. Its layers 0 to 3 are our levels 3 to 0.
-use Rattle.std.specs.Prelude.{ℕ, suc, ◌*◌, ◌/◌, ◌%◌, ◌^◌, ◌≤◌, Bool, true, false, ◌≢◌, ◌≡◌}
+use Rattle.std.specs.Prelude.{ℕ, ◌*◌, ◌/◌, ◌%◌, ◌^◌, true, false, ◌≢◌, ◌≡◌}
 use Rattle.entry.specs.Entry.{size_of, bit, says, everything}
 use Rattle.entry.specs.Kept.{SameButRights}
 use Rattle.entry.specs.declared.Rights.{Rights}

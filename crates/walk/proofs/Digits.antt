@@ -1,5 +1,5 @@
 -- The indices of an address: its digits in base 512.
-use Rattle.std.proofs.Common.{◌≡◌, ℕ, zero, suc, ◌+◌, ◌-◌, ◌*◌, ◌/◌, ◌%◌, ◌^◌, ◌<◌, ◌≤◌, sym, refl, ap, ◌∙◌, mod-lt, pow-suc, div-add-mod', div-mul-le_self, arith}
+use Rattle.std.proofs.Common.{◌≡◌, ℕ, zero, suc, ◌+◌, ◌-◌, ◌*◌, ◌/◌, ◌%◌, ◌^◌, ◌<◌, ◌≤◌, sym, ap, ◌∙◌, mod-lt, pow-suc, div-add-mod', div-mul-le_self, arith}
 use native.Mathlib.Nat.{div-div-eq-div-mul}
 use lib.Arith.{digits_div}
 use native.Mathlib.Decide.{ℕ_discrete}

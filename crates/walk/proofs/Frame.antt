@@ -6,7 +6,6 @@ use Rattle.word.proofs.Set.{set_at, set_same, set_other}
 use Rattle.entry.specs.Entry.{says}
 use Rattle.entry.specs.Marks.{Marked}
 use Rattle.entry.specs.declared.Rights.{Rights}
-use Rattle.entry.specs.declared.Entry.{Entry}
 use Rattle.entry.proofs.Marks.{marks_say_nothing}
 use Rattle.walk.specs.Walk.{entry_of, entered, step_of, run, start, found_of, walk}
 use Rattle.walk.specs.Reads.{ReadsNow, Reads, ComesBy, by_start, by_step}

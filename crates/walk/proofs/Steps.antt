@@ -1,5 +1,5 @@
 -- A step by what its read answered, and a walk that has ended.
-use Rattle.std.proofs.Common.{◌≡◌, ℕ, zero, suc, ◌-◌, ◌<◌, Bool, true, false, List, refl, ap, ◌∙◌, arith}
+use Rattle.std.proofs.Common.{◌≡◌, ℕ, zero, suc, ◌-◌, ◌<◌, Bool, List, refl, arith}
 use Rattle.word.specs.Memory.{memory, holds, read_of}
 use Rattle.word.specs.declared.Cell.TheVariants as cell
 use Rattle.word.proofs.Memory.{read_word, read_outside}

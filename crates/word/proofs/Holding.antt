@@ -1,5 +1,5 @@
 -- Which pages lie in the window: by one comparison each, by all of them, and by the one that the code makes.
-use Rattle.std.proofs.Common.{◌≡◌, ℕ, ◌+◌, ◌-◌, ◌*◌, ◌%◌, ◌^◌, ◌<◌, ◌≤◌, Bool, true, false, ◌&&◌, ltb, leb, List, length, sym, refl, ◌∙◌, arith, le-ltb, lt-ltb, le-leb}
+use Rattle.std.proofs.Common.{◌≡◌, ℕ, ◌+◌, ◌*◌, ◌%◌, ◌^◌, ◌<◌, ◌≤◌, Bool, true, false, ◌&&◌, ltb, leb, List, length, sym, refl, ◌∙◌, arith, le-ltb, lt-ltb, le-leb}
 use native.Mathlib.Decide.{dec_le}
 use borrow.Author.Tests.{lt-leb}
 use Rattle.word.specs.Memory.{holds}

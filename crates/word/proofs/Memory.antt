@@ -1,5 +1,5 @@
 -- Writing a word into the bytes is setting the memory at one place: the one law by which everything above speaks of bytes.
-use Rattle.std.proofs.Common.{◌≡◌, ℕ, ◌+◌, ◌-◌, ◌*◌, ◌^◌, ◌<◌, ◌≤◌, Bool, true, false, cond, ◌&&◌, ltb, leb, ◌≢◌, List, length, sym, refl, ap, ◌∙◌, arith, ltb-true, lt-ltb, le-leb, leb-true}
+use Rattle.std.proofs.Common.{◌≡◌, ℕ, ◌+◌, ◌-◌, ◌*◌, ◌^◌, ◌<◌, ◌≤◌, Bool, true, false, cond, ◌&&◌, ltb, List, length, sym, refl, ◌∙◌, arith, ltb-true, lt-ltb, le-leb, leb-true}
 use mathlib.Core.Path.{fun_ext}
 use native.Mathlib.Decide.{dec_le, ℕ_discrete}
 use borrow.Author.Tests.{lt-leb}

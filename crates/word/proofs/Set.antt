@@ -1,5 +1,5 @@
 -- The function m with v at a: it is v there, and m elsewhere.
-use Rattle.std.proofs.Common.{◌≡◌, ℕ, ◌≢◌, sym, refl, ap, ◌∙◌}
+use Rattle.std.proofs.Common.{◌≡◌, ℕ, ◌≢◌, refl}
 use native.Mathlib.Decide.{ℕ_discrete}
 use Rattle.word.specs.Memory.{set}
 

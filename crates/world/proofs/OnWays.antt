@@ -5,9 +5,9 @@ use mathlib.Core.Logic.{◌⊎◌, inl, inr}
 use Prim.Native.Nat.{ℕ, zero, suc}
 use Rattle.word.specs.Memory.{set}
 use Rattle.word.proofs.Set.{set_other}
-use Rattle.world.specs.Events.{Event, write, mark, store, happen, after, Among, All}
+use Rattle.world.specs.Events.{Event, write, mark, store, happen, Among, All}
 use Rattle.world.proofs.Events.{among_map, all_first, all_moments, mark_same}
-use Rattle.world.specs.Walker.{Walker, WalkerLaws, cell, Reads, ReadsIn, Below, On, here, down}
+use Rattle.world.specs.Walker.{Walker, WalkerLaws, Reads, ReadsIn, Below, On, here}
 use Rattle.world.proofs.Ways.{follows_step, follows_agree, on_step, on_same, on_write, below_reads}
 use Rattle.world.specs.Held.{MayHold, None, Can}
 use Rattle.world.proofs.Held.{Always, always_held}

@@ -6,7 +6,7 @@ use Prim.Native.Nat.{ℕ, zero, suc}
 use Rattle.word.specs.Memory.{set}
 use Rattle.world.specs.Events.{Event, write, mark, store, happen, after}
 use Rattle.world.proofs.Events.{mark_same}
-use Rattle.world.specs.Walker.{Walker, WalkerLaws, cell, Reads, ReadsIn, Below, On, here, down}
+use Rattle.world.specs.Walker.{Walker, WalkerLaws, cell, Reads, ReadsIn, On, here}
 use Rattle.world.proofs.Ways.{on_step, on_follows, on_same, on_write, below_reads}
 use Rattle.world.specs.Discipline.{Grow, Safe}
 use Rattle.world.specs.Rules.{frozen}

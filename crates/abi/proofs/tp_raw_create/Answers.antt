@@ -1,5 +1,4 @@
 use Rattle.word.proofs.Budget.{wrote_all}
-use borrow.Author.Rules.{rules}
 use Rattle.abi.proofs.tp_raw_create.Goals as goal
 
 pub returns : goal.returns

@@ -1,7 +1,6 @@
 use mathlib.Core.Path.{sym, ◌∙◌}
 use borrow.Author.Tests.{lt-ltb, le-ltb}
 use Rattle.abi.specs.Entries.{entry_answer, said_in}
-use borrow.Author.Rules.{rules}
 use Rattle.abi.proofs.tp_raw_entry.Goals as goal
 
 pub returns-then-level-ge4 : goal.returns-then-level-ge4

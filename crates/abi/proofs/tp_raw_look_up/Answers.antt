@@ -1,4 +1,3 @@
-use borrow.Author.Rules.{rules}
 use Rattle.abi.proofs.tp_raw_look_up.Goals as goal
 
 pub returns : goal.returns

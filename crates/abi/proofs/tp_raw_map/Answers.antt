@@ -1,5 +1,4 @@
 use Rattle.abi.proofs.Shortcut.{in_order_all}
-use borrow.Author.Rules.{rules}
 use Rattle.abi.proofs.tp_raw_map.Goals as goal
 
 pub returns : goal.returns

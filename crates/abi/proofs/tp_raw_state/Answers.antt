@@ -1,6 +1,5 @@
 use mathlib.Core.Path.{sym, ◌∙◌}
 use Rattle.abi.specs.Calls.{state_answer}
-use borrow.Author.Rules.{rules}
 use Rattle.abi.proofs.tp_raw_state.Goals as goal
 
 pub returns-in-Refused : goal.returns-in-Refused

@@ -1,4 +1,4 @@
-use Rattle.std.proofs.Common.{arith, rules}
+use Rattle.std.proofs.Common.{arith}
 use Rattle.entry.proofs.Top.{root_table, root_nothing}
 use Rattle.entry.proofs.at_root.Goals as goal
 

@@ -1,5 +1,5 @@
 use Rattle.entry.specs.Entry.{says, present_of}
-use Rattle.std.proofs.Common.{arith, rules}
+use Rattle.std.proofs.Common.{arith}
 use Rattle.entry.proofs.Levels.{bit_off, bit_on, present_above}
 use Rattle.entry.proofs.decode.Goals as goal
 

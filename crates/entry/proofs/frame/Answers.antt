@@ -1,5 +1,5 @@
 use Rattle.entry.specs.Entry.{frame_of}
-use Rattle.std.proofs.Common.{arith, rules}
+use Rattle.std.proofs.Common.{arith}
 use Rattle.entry.proofs.Levels.{size_pos, size_parts, frame_lt}
 use Rattle.entry.proofs.frame.Goals as goal
 

@@ -1,5 +1,5 @@
 use Rattle.entry.specs.Entry.{large_of, padded}
-use Rattle.std.proofs.Common.{arith, rules, eq-eqb, ne_eqb, le-leb}
+use Rattle.std.proofs.Common.{arith, eq-eqb, ne_eqb, le-leb}
 use borrow.Author.Tests.{lt-leb}
 use Rattle.entry.proofs.Levels.{size_units}
 use Rattle.entry.proofs.large.Goals as goal

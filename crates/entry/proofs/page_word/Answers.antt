@@ -1,5 +1,5 @@
 use Rattle.entry.specs.Words.{made_page, fits, page_word}
-use Rattle.std.proofs.Common.{arith, rules, le-ltb, lt-ltb, eq-eqb, ne_eqb, le-leb}
+use Rattle.std.proofs.Common.{arith, le-ltb, lt-ltb, eq-eqb, ne_eqb, le-leb}
 use borrow.Author.Tests.{lt-leb}
 use Rattle.entry.proofs.Levels.{size_pos}
 use Rattle.entry.proofs.page_word.Goals as goal

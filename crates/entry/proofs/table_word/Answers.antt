@@ -1,5 +1,5 @@
 use Rattle.entry.specs.Words.{made_table, table_word}
-use Rattle.std.proofs.Common.{rules, le-ltb, lt-ltb}
+use Rattle.std.proofs.Common.{le-ltb, lt-ltb}
 use Rattle.entry.proofs.table_word.Goals as goal
 
 pub returns-then-p-ge-PAGE_COUNT : goal.returns-then-p-ge-PAGE_COUNT

@@ -1,5 +1,4 @@
 use Rattle.entry.specs.Words.{with_rights}
-use Rattle.std.proofs.Common.{rules}
 use Rattle.entry.proofs.with_rights.Goals as goal
 
 pub returns : goal.returns

@@ -1,4 +1,4 @@
-use Rattle.std.proofs.Common.{sym, arith, rules}
+use Rattle.std.proofs.Common.{sym, arith}
 use Rattle.pool.proofs.Counting.{unsound, sound_last}
 use Rattle.pool.proofs.adds_up.Goals as goal
 

@@ -1,4 +1,4 @@
-use Rattle.std.proofs.Common.{arith, rules}
+use Rattle.std.proofs.Common.{arith}
 use Rattle.pool.specs.Layout.{book_pages}
 use Rattle.pool.proofs.book_pages.Goals as goal
 

@@ -1,5 +1,5 @@
 use Rattle.pool.specs.Layout.{slot_at}
-use Rattle.std.proofs.Common.{sym, ◌∙◌, arith, rules, le-ltb, lt-ltb}
+use Rattle.std.proofs.Common.{sym, ◌∙◌, arith, le-ltb, lt-ltb}
 use Rattle.pool.specs.Book.{listed_of}
 use Rattle.pool.proofs.Counting.{adds_up_is, slot_in}
 use Rattle.pool.proofs.free_page.Goals as goal

@@ -1,4 +1,4 @@
-use Rattle.std.proofs.Common.{◌+◌, ◌/◌, sym, ◌∙◌, arith, rules}
+use Rattle.std.proofs.Common.{◌+◌, ◌/◌, sym, ◌∙◌, arith}
 use Rattle.pool.specs.Book.{named_of}
 use Rattle.word.proofs.Holding.{far}
 use Rattle.pool.proofs.Opening.{named_word, named_outside}

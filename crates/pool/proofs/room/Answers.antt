@@ -1,4 +1,4 @@
-use Rattle.std.proofs.Common.{◌+◌, sym, ◌∙◌, arith, rules, le-leb}
+use Rattle.std.proofs.Common.{◌+◌, sym, ◌∙◌, arith, le-leb}
 use borrow.Author.Tests.{lt-leb}
 use Rattle.pool.specs.Layout.{book_pages}
 use Rattle.pool.specs.Book.{room_of}

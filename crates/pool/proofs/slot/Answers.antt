@@ -1,4 +1,4 @@
-use Rattle.std.proofs.Common.{sym, ◌∙◌, arith, rules}
+use Rattle.std.proofs.Common.{sym, ◌∙◌, arith}
 use Rattle.pool.proofs.Counting.{slot_ahead, slot_around}
 use Rattle.pool.proofs.slot.Goals as goal
 

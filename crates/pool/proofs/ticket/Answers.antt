@@ -1,5 +1,4 @@
 use Rattle.pool.specs.Book.{ticket_in}
-use Rattle.std.proofs.Common.{rules}
 use Rattle.pool.proofs.ticket.Goals as goal
 
 pub returns : goal.returns

@@ -1,5 +1,5 @@
 use Rattle.pool.specs.Book.{ticket_after}
-use Rattle.std.proofs.Common.{sym, rules}
+use Rattle.std.proofs.Common.{sym}
 use Rattle.pool.proofs.ticket_after.Goals as goal
 
 pub returns : goal.returns

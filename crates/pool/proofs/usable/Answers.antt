@@ -1,4 +1,4 @@
-use Rattle.std.proofs.Common.{sym, ◌∙◌, rules, eq-eqb, ne_eqb}
+use Rattle.std.proofs.Common.{sym, ◌∙◌, eq-eqb, ne_eqb}
 use Rattle.pool.specs.Book.{usable_of}
 use Rattle.pool.proofs.usable.Goals as goal
 

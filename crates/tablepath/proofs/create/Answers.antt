@@ -1,6 +1,5 @@
 use Rattle.word.proofs.Budget.{wrote_all}
 use Rattle.tablepath.proofs.SaysCreate.{create_says}
-use borrow.Author.Rules.{rules}
 use Rattle.tablepath.proofs.create.Goals as goal
 
 pub returns : goal.returns

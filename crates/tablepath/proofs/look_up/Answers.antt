@@ -1,5 +1,4 @@
 use Rattle.tablepath.proofs.Means.{look_up_means}
-use borrow.Author.Rules.{rules}
 use Rattle.tablepath.proofs.look_up.Goals as goal
 
 pub returns : goal.returns

@@ -2,7 +2,6 @@ use mathlib.Core.Path.{sym, ap, ◌∙◌}
 use Rattle.plan.proofs.Placings.{making_refused, making_done}
 use Rattle.tablepath.specs.declared.Mapped.TheVariants as mapped
 use Rattle.tablepath.specs.Answers.{map_answer, map_writes, map_said}
-use borrow.Author.Rules.{rules}
 use Rattle.tablepath.proofs.map_up_to.Goals as goal
 
 pub returns-in-Refused : goal.returns-in-Refused

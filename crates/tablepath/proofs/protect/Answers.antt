@@ -1,6 +1,5 @@
 use Rattle.word.proofs.Budget.{wrote_all}
 use Rattle.tablepath.proofs.Means.{protect_means}
-use borrow.Author.Rules.{rules}
 use Rattle.tablepath.proofs.protect.Goals as goal
 
 pub returns : goal.returns

@@ -1,6 +1,5 @@
 use mathlib.Core.Path.{sym, ◌∙◌}
 use Rattle.tablepath.specs.Answers.{protect_answer, protect_writes, protect_said, altered_of}
-use borrow.Author.Rules.{rules}
 use Rattle.tablepath.proofs.protect_up_to.Goals as goal
 
 pub returns-in-Refused : goal.returns-in-Refused

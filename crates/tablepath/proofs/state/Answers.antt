@@ -1,5 +1,4 @@
 use Rattle.tablepath.proofs.Means.{state_means}
-use borrow.Author.Rules.{rules}
 use Rattle.tablepath.proofs.state.Goals as goal
 
 pub returns : goal.returns

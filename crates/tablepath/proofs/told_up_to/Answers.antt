@@ -1,7 +1,6 @@
 use mathlib.Core.Path.{sym, ◌∙◌}
 use Rattle.word.proofs.Budget.{wrote_none}
 use Rattle.tablepath.specs.Answers.{told_answer, told_writes, told_said, told_did, due_said, due_did}
-use borrow.Author.Rules.{rules}
 use Rattle.tablepath.proofs.told_up_to.Goals as goal
 
 pub returns-in-Refused : goal.returns-in-Refused

@@ -1,7 +1,6 @@
 use mathlib.Core.Path.{sym, ◌∙◌}
 use Rattle.plan.proofs.Unmappings.{unmapping_refused, unmapping_done}
 use Rattle.tablepath.specs.Answers.{unmap_answer, unmap_writes, unmap_said, gone_of}
-use borrow.Author.Rules.{rules}
 use Rattle.tablepath.proofs.unmap_up_to.Goals as goal
 
 pub returns-in-Refused : goal.returns-in-Refused

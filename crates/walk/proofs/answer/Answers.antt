@@ -1,5 +1,4 @@
 use Rattle.walk.specs.Walk.{found_of}
-use Rattle.std.proofs.Common.{rules}
 use Rattle.walk.proofs.answer.Goals as goal
 
 pub returns-in-Going : goal.returns-in-Going

@@ -1,4 +1,4 @@
-use Rattle.std.proofs.Common.{◌≡◌, sym, ◌∙◌, arith, rules}
+use Rattle.std.proofs.Common.{sym, ◌∙◌, arith}
 use Rattle.walk.proofs.Steps.{step_read, step_outside}
 use Rattle.walk.proofs.arrive.Goals as goal
 

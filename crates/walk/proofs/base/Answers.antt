@@ -1,4 +1,4 @@
-use Rattle.std.proofs.Common.{div-mul-le_self, arith, rules}
+use Rattle.std.proofs.Common.{div-mul-le_self, arith}
 use Rattle.walk.specs.Walk.{base_of}
 use Rattle.walk.proofs.base.Goals as goal
 

@@ -1,4 +1,4 @@
-use Rattle.std.proofs.Common.{sym, ◌∙◌, rules}
+use Rattle.std.proofs.Common.{sym, ◌∙◌}
 use Rattle.walk.specs.Walk.{start}
 use Rattle.walk.proofs.begin.Goals as goal
 

@@ -1,5 +1,4 @@
 use Rattle.walk.proofs.Addresses.{by_wrapping}
-use Rattle.std.proofs.Common.{rules}
 use Rattle.walk.proofs.canonical.Goals as goal
 
 pub returns : goal.returns

@@ -1,5 +1,5 @@
 use Rattle.walk.specs.Walk.{entered}
-use Rattle.std.proofs.Common.{arith, rules}
+use Rattle.std.proofs.Common.{arith}
 use Rattle.walk.proofs.enter.Goals as goal
 
 pub returns-in-Nothing : goal.returns-in-Nothing

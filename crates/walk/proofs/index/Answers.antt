@@ -1,5 +1,4 @@
 use Rattle.walk.specs.Walk.{index_of}
-use Rattle.std.proofs.Common.{rules}
 use Rattle.walk.proofs.index.Goals as goal
 
 pub nonzero_div-result : goal.nonzero_div-result

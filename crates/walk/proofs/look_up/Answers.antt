@@ -1,6 +1,5 @@
-use Rattle.std.proofs.Common.{◌≡◌, ◌≤◌, sym, refl, ap, ◌∙◌, arith, rules}
-use Rattle.word.specs.Memory.{memory, holds}
-use Rattle.walk.specs.Walk.{walk, run, start, found_of}
+use Rattle.std.proofs.Common.{◌≡◌, sym, ap, ◌∙◌, arith}
+use Rattle.walk.specs.Walk.{walk, found_of}
 use Rattle.walk.proofs.Steps.{run_down, run_none}
 use Rattle.walk.proofs.look_up.Goals as goal
 

@@ -1,7 +1,6 @@
-use Rattle.std.proofs.Common.{◌≡◌, ◌≤◌, sym, refl, ap, ◌∙◌, arith, rules}
+use Rattle.std.proofs.Common.{◌≡◌, ◌≤◌}
 use Rattle.word.specs.Memory.{memory, holds}
-use Rattle.walk.specs.Walk.{walk, run, start, found_of}
-use Rattle.walk.proofs.Steps.{run_down, run_none}
+use Rattle.walk.specs.Walk.{run, start}
 use Rattle.walk.proofs.look_up.Given as goal
 
 abbrev pub invariant-loop-n : goal.invariant-loop-n

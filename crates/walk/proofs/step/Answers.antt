@@ -1,5 +1,5 @@
-use Rattle.std.proofs.Common.{refl, arith, rules}
-use Rattle.walk.specs.Walk.{step_of, going}
+use Rattle.std.proofs.Common.{refl, arith}
+use Rattle.walk.specs.Walk.{step_of}
 use Rattle.walk.proofs.step.Goals as goal
 
 pub returns-then-n-gt3 : goal.returns-then-n-gt3

@@ -1,5 +1,4 @@
-use Rattle.std.proofs.Common.{◌≡◌, ◌-◌, ◌≤◌, ap, ◌∙◌, arith}
-use Rattle.word.specs.Writes.{Wrote, zeros}
+use Rattle.std.proofs.Common.{◌≡◌, arith}
 use Rattle.word.proofs.Budget.{wrote_no_zero, wrote_zero, length_wrote}
 use Rattle.word.proofs.clear.Goals as goal
 

@@ -1,6 +1,5 @@
-use Rattle.std.proofs.Common.{◌≡◌, ◌-◌, ◌≤◌, ap, ◌∙◌, arith}
+use Rattle.std.proofs.Common.{◌-◌, ◌≤◌}
 use Rattle.word.specs.Writes.{Wrote, zeros}
-use Rattle.word.proofs.Budget.{wrote_no_zero, wrote_zero, length_wrote}
 use Rattle.word.proofs.clear.Given as goal
 
 abbrev pub invariant-loop-i : goal.invariant-loop-i

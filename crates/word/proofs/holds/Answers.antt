@@ -1,4 +1,4 @@
-use Rattle.std.proofs.Common.{sym, arith, rules}
+use Rattle.std.proofs.Common.{sym, arith}
 use Rattle.word.proofs.Holding.{high_origin, short}
 use Rattle.word.proofs.holds.Goals as goal
 

@@ -1,4 +1,4 @@
-use Rattle.std.proofs.Common.{sym, arith, rules}
+use Rattle.std.proofs.Common.{sym, arith}
 use Rattle.word.proofs.Holding.{far, wraps}
 use Rattle.word.proofs.holds_within.Goals as goal
 

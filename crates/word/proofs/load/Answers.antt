@@ -1,6 +1,6 @@
 use Rattle.word.specs.Bytes.{word_at}
-use Rattle.word.proofs.Bytes.{Part, part_first, part_more}
-use Rattle.std.proofs.Common.{refl, arith, rules}
+use Rattle.word.proofs.Bytes.{part_first, part_more}
+use Rattle.std.proofs.Common.{refl, arith}
 use Rattle.word.proofs.load.Goals as goal
 
 pub returns : goal.returns

@@ -1,4 +1,4 @@
-use Rattle.std.proofs.Common.{◌≡◌, sym, ap, ◌∙◌, arith, rules, le-ltb, lt-ltb}
+use Rattle.std.proofs.Common.{sym, ◌∙◌, arith, le-ltb, lt-ltb}
 use Rattle.word.specs.Memory.{written}
 use Rattle.word.proofs.Memory.{offset}
 use Rattle.word.proofs.put.Goals as goal

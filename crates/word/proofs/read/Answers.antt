@@ -1,4 +1,4 @@
-use Rattle.std.proofs.Common.{◌≡◌, sym, ap, ◌∙◌, arith, rules, le-ltb, lt-ltb}
+use Rattle.std.proofs.Common.{sym, ◌∙◌, arith, le-ltb, lt-ltb}
 use Rattle.word.specs.Memory.{read_of}
 use Rattle.word.proofs.Memory.{offset, memory_in, held, held_lies}
 use Rattle.word.proofs.read.Goals as goal

@@ -1,5 +1,4 @@
 use Rattle.word.proofs.Budget.{spent_all, spent_none, spent_one}
-use Rattle.std.proofs.Common.{rules}
 use Rattle.word.proofs.spend.Goals as goal
 
 pub returns-then-n-ge-ENDLESS : goal.returns-then-n-ge-ENDLESS

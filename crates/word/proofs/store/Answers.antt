@@ -1,4 +1,4 @@
-use Rattle.std.proofs.Common.{add-zero, div-one, arith, length-set, rules}
+use Rattle.std.proofs.Common.{add-zero, div-one, arith, length-set}
 use Rattle.word.specs.Bytes.{put_bytes, put_word}
 use Rattle.word.proofs.store.Goals as goal
 

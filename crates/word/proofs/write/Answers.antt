@@ -1,4 +1,4 @@
-use Rattle.std.proofs.Common.{sym, ◌∙◌, rules}
+use Rattle.std.proofs.Common.{sym, ◌∙◌}
 use Rattle.word.proofs.Budget.{wrote_one, wrote_stopped}
 use Rattle.word.proofs.write.Goals as goal
 

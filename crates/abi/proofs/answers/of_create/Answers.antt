@@ -1,6 +1,5 @@
 use Rattle.abi.specs.Answers.{created_to_c}
 use native.Mathlib.Omega.{arith}
-use borrow.Author.Rules.{rules}
 use Rattle.abi.proofs.answers.of_create.Goals as goal
 
 pub returns-then-p-ge-PAGE_COUNT : goal.returns-then-p-ge-PAGE_COUNT

@@ -1,5 +1,4 @@
 use Rattle.abi.specs.Answers.{looked_up_to_c}
-use borrow.Author.Rules.{rules}
 use Rattle.abi.proofs.answers.of_look_up.Goals as goal
 
 pub returns-in-Page : goal.returns-in-Page

@@ -1,5 +1,4 @@
 use Rattle.abi.specs.Answers.{mapped_to_c}
-use borrow.Author.Rules.{rules}
 use Rattle.abi.proofs.answers.of_map.Goals as goal
 
 pub returns-in-Refused : goal.returns-in-Refused

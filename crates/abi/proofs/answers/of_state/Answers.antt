@@ -1,5 +1,4 @@
 use Rattle.abi.specs.Answers.{counted_to_c}
-use borrow.Author.Rules.{rules}
 use Rattle.abi.proofs.answers.of_state.Goals as goal
 
 pub returns-in-Refused : goal.returns-in-Refused

@@ -1,5 +1,4 @@
 use Rattle.abi.specs.Answers.{rights_word}
-use borrow.Author.Rules.{rules}
 use Rattle.abi.proofs.answers.rights_word.Goals as goal
 
 pub returns : goal.returns

@@ -2,7 +2,6 @@ use mathlib.Core.Path.{sym, ◌∙◌}
 use native.Mathlib.Omega.{arith}
 use Rattle.abi.specs.Entries.{said_of}
 use Rattle.entry.proofs.Fields.{table_small}
-use borrow.Author.Rules.{rules}
 use Rattle.abi.proofs.entries.of_word.Goals as goal
 
 pub overflow_mul-result-in-Table : goal.overflow_mul-result-in-Table

@@ -1,7 +1,6 @@
 use native.Mathlib.Omega.{arith}
 use Rattle.entry.proofs.Levels.{bit_off, bit_on}
 use Rattle.abi.specs.Entries.{silent_of}
-use borrow.Author.Rules.{rules}
 use Rattle.abi.proofs.entries.silent.Goals as goal
 
 pub returns-then-w-eq0 : goal.returns-then-w-eq0

@@ -1,5 +1,4 @@
 use mathlib.Core.Path.{refl, sym, ◌∙◌}
-use borrow.Author.Rules.{rules}
 use Rattle.abi.proofs.maps.at_once.Goals as goal
 
 pub returns-in-Refused : goal.returns-in-Refused

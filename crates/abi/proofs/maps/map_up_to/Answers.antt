@@ -1,7 +1,6 @@
 use mathlib.Core.Path.{refl}
 use Rattle.abi.specs.Calls.{rights_site, map_answer}
 use borrow.Author.Tests.{lt-ltb, le-ltb}
-use borrow.Author.Rules.{rules}
 use Rattle.abi.proofs.maps.map_up_to.Goals as goal
 
 pub returns-then-rights-ge8 : goal.returns-then-rights-ge8

@@ -1,7 +1,6 @@
-use mathlib.Core.Path.{sym, ◌∙◌}
+use mathlib.Core.Path.{sym}
 use Rattle.abi.specs.ReasonNumbers.{reason_of}
 use Rattle.abi.proofs.Shortcut.{done, overlap, unsaid}
-use borrow.Author.Rules.{rules}
 use Rattle.abi.proofs.maps.sized.Goals as goal
 
 pub returns-in-Done : goal.returns-in-Done

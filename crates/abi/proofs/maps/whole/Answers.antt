@@ -1,7 +1,6 @@
 use mathlib.Core.Path.{refl, sym, ◌∙◌}
 use Rattle.abi.specs.Calls.{map_answer}
 use Rattle.abi.proofs.Asked.{refused_asked, answer_asked, order_asked}
-use borrow.Author.Rules.{rules}
 use Rattle.abi.proofs.maps.whole.Goals as goal
 
 pub returns-in-Refused : goal.returns-in-Refused

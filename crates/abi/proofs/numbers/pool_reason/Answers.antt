@@ -1,5 +1,4 @@
 use Rattle.abi.specs.ReasonNumbers.{pool_reason}
-use borrow.Author.Rules.{rules}
 use Rattle.abi.proofs.numbers.pool_reason.Goals as goal
 
 pub returns-in-OriginUnaligned : goal.returns-in-OriginUnaligned

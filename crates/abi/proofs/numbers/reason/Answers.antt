@@ -1,5 +1,4 @@
 use Rattle.abi.specs.ReasonNumbers.{reason_of}
-use borrow.Author.Rules.{rules}
 use Rattle.abi.proofs.numbers.reason.Goals as goal
 
 pub returns-in-Size : goal.returns-in-Size

@@ -1,6 +1,5 @@
 use mathlib.Core.Path.{sym, ◌∙◌}
 use Rattle.abi.specs.Calls.{misplaced_of, misplaced_by}
-use borrow.Author.Rules.{rules}
 use Rattle.abi.proofs.sites.misplaced.Goals as goal
 
 pub returns-in-Bad : goal.returns-in-Bad

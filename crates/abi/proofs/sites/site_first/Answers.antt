@@ -1,6 +1,5 @@
 use borrow.Author.Tests.{eq-eqb}
 use Rattle.abi.specs.Calls.{site_of}
-use borrow.Author.Rules.{rules}
 use Rattle.abi.proofs.sites.site_first.Goals as goal
 
 pub returns-then-root-eq0 : goal.returns-then-root-eq0

@@ -4,7 +4,6 @@ use Rattle.word.proofs.Budget.{wrote_none}
 use Rattle.abi.specs.ReasonNumbers.{pool_reason}
 use Rattle.abi.specs.Calls.{create_answer, create_writes}
 use Rattle.abi.proofs.Rooted.{root_low}
-use borrow.Author.Rules.{rules}
 use Rattle.abi.proofs.up_to.create_up_to.Goals as goal
 
 pub returns-then-origin-ne0 : goal.returns-then-origin-ne0

@@ -2,7 +2,6 @@ use Rattle.abi.specs.ReasonNumbers.{reason_of}
 use mathlib.Core.Path.{refl, sym, ◌∙◌}
 use Rattle.abi.specs.Calls.{rights_site, strict_site, protect_answer}
 use borrow.Author.Tests.{lt-ltb, le-ltb}
-use borrow.Author.Rules.{rules}
 use Rattle.abi.proofs.up_to.protect_up_to.Goals as goal
 
 pub returns-then-rights-ge8 : goal.returns-then-rights-ge8

@@ -1,6 +1,5 @@
 use mathlib.Core.Path.{refl, sym, ◌∙◌}
 use Rattle.abi.specs.Calls.{told_answer}
-use borrow.Author.Rules.{rules}
 use Rattle.abi.proofs.up_to.told_up_to.Goals as goal
 
 pub returns-in-Refused : goal.returns-in-Refused

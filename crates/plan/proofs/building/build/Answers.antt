@@ -1,4 +1,4 @@
-use Rattle.std.proofs.Common.{ap, ◌∙◌, arith, rules}
+use Rattle.std.proofs.Common.{ap, ◌∙◌}
 use Rattle.word.proofs.Budget.{wrote_as}
 use Rattle.walk.proofs.Digits.{index_lt}
 use Rattle.pool.proofs.Opening.{entry_one}

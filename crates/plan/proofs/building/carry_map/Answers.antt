@@ -1,4 +1,4 @@
-use Rattle.std.proofs.Common.{rules, le-ltb, lt-ltb}
+use Rattle.std.proofs.Common.{le-ltb, lt-ltb}
 use Rattle.word.proofs.Budget.{wrote_none, wrote_then}
 use Rattle.plan.specs.Map.{writes_of}
 use Rattle.plan.proofs.building.carry_map.Goals as goal

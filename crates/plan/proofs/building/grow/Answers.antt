@@ -1,4 +1,4 @@
-use Rattle.std.proofs.Common.{arith, rules, le-leb}
+use Rattle.std.proofs.Common.{le-leb}
 use borrow.Author.Tests.{lt-leb}
 use Rattle.word.proofs.Budget.{wrote_none, wrote_then, wrote_as}
 use Rattle.walk.proofs.Digits.{index_lt}

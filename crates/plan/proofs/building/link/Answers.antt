@@ -1,4 +1,4 @@
-use Rattle.std.proofs.Common.{rules, lt-ltb}
+use Rattle.std.proofs.Common.{lt-ltb}
 use Rattle.entry.specs.Words.{table_word}
 use Rattle.plan.specs.Map.{link_of}
 use Rattle.plan.proofs.building.link.Goals as goal

@@ -1,5 +1,5 @@
 use Rattle.plan.proofs.Low.{map_low, held_low}
-use Rattle.std.proofs.Common.{sym, ◌∙◌, rules}
+use Rattle.std.proofs.Common.{sym, ◌∙◌}
 use Rattle.word.proofs.Budget.{wrote_none, wrote_as}
 use Rattle.plan.specs.Map.{did_of, making_of}
 use Rattle.plan.proofs.Placings.{placing_refused, placing_built, placing_here, here_did, here_made}

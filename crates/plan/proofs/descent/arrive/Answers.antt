@@ -1,7 +1,7 @@
 use Rattle.plan.proofs.Ways.{told_stop, nothing_framed}
 use Rattle.plan.proofs.Reading.{arrive_word, arrive_outside}
 use Rattle.plan.specs.Descend.{descending_of}
-use Rattle.std.proofs.Common.{sym, refl, ap, ◌∙◌, rules}
+use Rattle.std.proofs.Common.{sym, ap, ◌∙◌}
 use Rattle.plan.proofs.descent.arrive.Goals as goal
 
 pub returns-in-Word : goal.returns-in-Word

@@ -1,6 +1,6 @@
 use Rattle.plan.proofs.Ways.{told_stop}
 use Rattle.plan.specs.Descend.{at_entry_of, framed_of, descending_of}
-use Rattle.std.proofs.Common.{◌≡◌, sym, ap, ◌∙◌, rules, eq-eqb, ne_eqb}
+use Rattle.std.proofs.Common.{sym, ap, ◌∙◌, eq-eqb, ne_eqb}
 use Rattle.plan.proofs.descent.at_entry.Goals as goal
 
 pub returns-in-Nothing : goal.returns-in-Nothing

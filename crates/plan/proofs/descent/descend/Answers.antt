@@ -1,6 +1,6 @@
 use Rattle.plan.proofs.Ways.{down_low}
 use Rattle.plan.specs.Descend.{way_of, down_of}
-use Rattle.std.proofs.Common.{arith, rules}
+use Rattle.std.proofs.Common.{arith}
 use Rattle.plan.proofs.descent.descend.Goals as goal
 
 pub returns : goal.returns

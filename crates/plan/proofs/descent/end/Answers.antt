@@ -1,6 +1,6 @@
 use Rattle.plan.proofs.Ways.{descending_going, descending_stopped, end_kept}
 use Rattle.plan.specs.Descend.{end_of, stop_at}
-use Rattle.std.proofs.Common.{sym, ◌∙◌, rules}
+use Rattle.std.proofs.Common.{sym, ◌∙◌}
 use Rattle.plan.proofs.descent.end.Goals as goal
 
 pub returns-in-Going : goal.returns-in-Going

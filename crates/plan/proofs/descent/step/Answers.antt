@@ -1,6 +1,6 @@
 use Rattle.plan.proofs.Ways.{descending_going, descending_stopped, step_kept}
 use Rattle.plan.specs.Descend.{step_down_of}
-use Rattle.std.proofs.Common.{sym, ◌∙◌, rules}
+use Rattle.std.proofs.Common.{sym, ◌∙◌}
 use Rattle.plan.proofs.descent.step.Goals as goal
 
 pub returns-in-Going : goal.returns-in-Going

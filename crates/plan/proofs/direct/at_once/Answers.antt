@@ -1,5 +1,5 @@
 use Rattle.pool.proofs.Opening.{names_stands}
-use Rattle.std.proofs.Common.{sym, ◌∙◌, arith, rules}
+use Rattle.std.proofs.Common.{sym, ◌∙◌, arith}
 use Rattle.word.proofs.Budget.{wrote_none}
 use Rattle.plan.proofs.Directly.{found_at_once}
 use Rattle.plan.proofs.direct.at_once.Goals as goal

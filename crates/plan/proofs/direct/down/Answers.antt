@@ -1,4 +1,4 @@
-use Rattle.std.proofs.Common.{◌≡◌, suc, sym, ◌∙◌, arith, rules}
+use Rattle.std.proofs.Common.{◌≡◌, sym, ◌∙◌, arith}
 use Rattle.plan.proofs.Leads.{lead_on, leads, ends_page}
 use Rattle.plan.proofs.direct.down.Goals as goal
 

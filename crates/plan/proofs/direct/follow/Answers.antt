@@ -1,4 +1,4 @@
-use Rattle.std.proofs.Common.{sym, ap, ◌∙◌, rules}
+use Rattle.std.proofs.Common.{sym, ap, ◌∙◌}
 use Rattle.plan.specs.AtOnce.{lead_by}
 use Rattle.plan.proofs.Reading.{lead_word, lead_outside}
 use Rattle.plan.proofs.direct.follow.Goals as goal

@@ -1,4 +1,4 @@
-use Rattle.std.proofs.Common.{refl, rules}
+use Rattle.std.proofs.Common.{refl}
 use Rattle.word.proofs.Budget.{wrote_none}
 use Rattle.plan.proofs.Directly.{settled}
 use Rattle.plan.proofs.direct.placed.Goals as goal

@@ -1,5 +1,5 @@
 use Rattle.word.proofs.Budget.{wrote_none, wrote_as}
-use Rattle.std.proofs.Common.{◌≡◌, sym, ◌∙◌, arith, rules}
+use Rattle.std.proofs.Common.{sym, ◌∙◌, arith}
 use Rattle.plan.specs.AtOnce.{once_of, once_writes}
 use Rattle.plan.proofs.Reading.{lead_entry}
 use Rattle.plan.proofs.direct.settle.Goals as goal

@@ -1,7 +1,7 @@
 use Rattle.pool.proofs.Opening.{names_stands}
 use Rattle.plan.proofs.Ways.{way_paged}
 use Rattle.plan.specs.Find.{find_of, sought_of}
-use Rattle.std.proofs.Common.{sym, ◌∙◌, rules}
+use Rattle.std.proofs.Common.{sym, ◌∙◌}
 use Rattle.plan.proofs.finding.find.Goals as goal
 
 pub descend-requires : goal.descend-requires

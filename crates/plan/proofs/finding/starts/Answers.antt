@@ -1,5 +1,4 @@
 use Rattle.plan.specs.Find.{starts_of}
-use Rattle.std.proofs.Common.{rules}
 use Rattle.plan.proofs.finding.starts.Goals as goal
 
 pub returns : goal.returns

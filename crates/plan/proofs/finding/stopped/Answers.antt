@@ -1,5 +1,5 @@
 use Rattle.plan.proofs.Arrivals.{stopped_far, stopped_stray, stopped_nothing, stopped_table, stopped_page, stopped_astride}
-use Rattle.std.proofs.Common.{sym, ◌∙◌, arith, rules}
+use Rattle.std.proofs.Common.{sym, ◌∙◌, arith}
 use Rattle.plan.proofs.finding.stopped.Goals as goal
 
 pub returns-then-w-gt3 : goal.returns-then-w-gt3

@@ -1,4 +1,4 @@
-use Rattle.std.proofs.Common.{sym, ◌∙◌, rules}
+use Rattle.std.proofs.Common.{sym, ◌∙◌}
 use Rattle.plan.specs.Map.{allowed_of, strict_of}
 use Rattle.plan.proofs.maps.allowed.Goals as goal
 

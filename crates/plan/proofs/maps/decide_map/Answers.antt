@@ -1,7 +1,7 @@
 use Rattle.plan.proofs.Placings.{shaped_made}
 use Rattle.plan.proofs.Shapes.{shaped, allowed_shape}
 use Rattle.plan.specs.Map.{decide_of, shaped_of, placing_of}
-use Rattle.std.proofs.Common.{sym, ◌∙◌, rules}
+use Rattle.std.proofs.Common.{sym, ◌∙◌}
 use Rattle.plan.proofs.maps.decide_map.Goals as goal
 
 pub standing-requires : goal.standing-requires

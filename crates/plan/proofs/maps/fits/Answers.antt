@@ -1,4 +1,4 @@
-use Rattle.std.proofs.Common.{arith, rules, eq-eqb, le-leb}
+use Rattle.std.proofs.Common.{arith, eq-eqb, le-leb}
 use Rattle.plan.specs.Map.{fits_of}
 use Rattle.plan.proofs.Shapes.{size_small, on_aligned, on_address, frame_ends}
 use Rattle.plan.proofs.maps.fits.Goals as goal

@@ -1,6 +1,5 @@
 use Rattle.plan.specs.Map.{meets_of}
-use Rattle.std.proofs.Common.{◌+◌, ◌*◌, ◌<◌, ◌≤◌, arith, rules, le-ltb, lt-ltb, eq-eqb, ne_eqb, le-leb}
-use borrow.Author.Tests.{lt-leb}
+use Rattle.std.proofs.Common.{◌+◌, ◌*◌, ◌≤◌, arith, le-ltb, lt-ltb}
 use Rattle.plan.proofs.maps.meets.Goals as goal
 
 pub returns-then-space-gt-PAGE_COUNT : goal.returns-then-space-gt-PAGE_COUNT

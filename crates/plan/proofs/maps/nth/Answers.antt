@@ -1,5 +1,5 @@
 use Rattle.plan.specs.Map.{nth_of}
-use Rattle.std.proofs.Common.{rules, le-ltb, lt-ltb, eq-eqb, ne_eqb, le-leb}
+use Rattle.std.proofs.Common.{le-leb}
 use borrow.Author.Tests.{lt-leb}
 use Rattle.plan.proofs.maps.nth.Goals as goal
 

@@ -1,5 +1,4 @@
 use Rattle.plan.proofs.Placings.{place_lacking, place_pages}
-use Rattle.std.proofs.Common.{rules}
 use Rattle.plan.proofs.maps.place.Goals as goal
 
 pub returns-in-Lacking : goal.returns-in-Lacking

@@ -1,7 +1,6 @@
-use Rattle.std.proofs.Common.{◌≤◌, refl, arith, rules, le-ltb, lt-ltb, eq-eqb, ne_eqb, le-leb}
+use Rattle.std.proofs.Common.{refl, arith, eq-eqb, ne_eqb}
 use Rattle.entry.specs.Entry.{size_of}
 use Rattle.plan.specs.Map.{shape_of}
-use borrow.Author.Tests.{lt-leb}
 use Rattle.plan.proofs.maps.shaped.Goals as goal
 
 pub fits-requires : goal.fits-requires

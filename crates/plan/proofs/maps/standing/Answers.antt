@@ -1,6 +1,6 @@
 use Rattle.pool.proofs.Opening.{names_shows, names_stands}
 use Rattle.plan.specs.Map.{standing_of, fitting_of, placing_of}
-use Rattle.std.proofs.Common.{sym, ◌∙◌, rules}
+use Rattle.std.proofs.Common.{sym, ◌∙◌}
 use Rattle.plan.proofs.maps.standing.Goals as goal
 
 pub returns-then-meets : goal.returns-then-meets

@@ -1,5 +1,4 @@
 use Rattle.plan.proofs.Arrivals.{stopped_vacant, stopped_overlap, stopped_over_table, stopped_astray}
-use Rattle.std.proofs.Common.{rules}
 use Rattle.plan.proofs.maps.stopped.Goals as goal
 
 pub returns-in-Nothing : goal.returns-in-Nothing

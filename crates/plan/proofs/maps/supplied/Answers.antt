@@ -1,6 +1,5 @@
 use Rattle.plan.specs.Map.{supply_of, stock_of}
-use Rattle.std.proofs.Common.{◌≡◌, sym, ◌∙◌, rules, le-ltb, lt-ltb, eq-eqb, ne_eqb, le-leb}
-use borrow.Author.Tests.{lt-leb}
+use Rattle.std.proofs.Common.{sym, ◌∙◌, le-ltb, lt-ltb, eq-eqb, ne_eqb}
 use Rattle.plan.proofs.maps.supplied.Goals as goal
 
 pub returns-then-need-eq0 : goal.returns-then-need-eq0

@@ -1,5 +1,5 @@
 use Rattle.plan.specs.Map.{fresh_of, fresh_three}
-use Rattle.std.proofs.Common.{◌≡◌, sym, ◌∙◌, rules}
+use Rattle.std.proofs.Common.{sym, ◌∙◌}
 use Rattle.plan.proofs.maps.take_fresh.Goals as goal
 
 pub returns-in_default : goal.returns-in_default

@@ -1,5 +1,5 @@
 use Rattle.plan.specs.Map.{fits_of}
-use Rattle.std.proofs.Common.{sym, ◌∙◌, rules, eq-eqb, ne_eqb, le-leb}
+use Rattle.std.proofs.Common.{sym, ◌∙◌, eq-eqb, ne_eqb, le-leb}
 use borrow.Author.Tests.{lt-leb}
 use Rattle.plan.proofs.maps.tested.Goals as goal
 

@@ -1,4 +1,4 @@
-use Rattle.std.proofs.Common.{arith, rules}
+use Rattle.std.proofs.Common.{arith}
 use Rattle.plan.proofs.Arrivals.{vacant_here, vacant_built}
 use Rattle.plan.proofs.maps.vacant.Goals as goal
 

@@ -1,5 +1,4 @@
 use Rattle.plan.specs.Protect.{writes_of}
-use Rattle.std.proofs.Common.{rules}
 use Rattle.plan.proofs.protects.carry_protect.Goals as goal
 
 pub returns : goal.returns

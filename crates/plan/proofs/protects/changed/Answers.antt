@@ -1,5 +1,4 @@
 use Rattle.plan.specs.Protect.{change_of}
-use Rattle.std.proofs.Common.{rules}
 use Rattle.plan.proofs.protects.changed.Goals as goal
 
 pub returns : goal.returns

@@ -1,7 +1,7 @@
 use Rattle.plan.specs.Protect.{decide_of, changing_of}
 use Rattle.plan.proofs.Found.{found_at}
 use Rattle.pool.proofs.Opening.{names_room, now_is}
-use Rattle.std.proofs.Common.{◌≡◌, sym, ◌∙◌, rules}
+use Rattle.std.proofs.Common.{sym, ◌∙◌}
 use Rattle.plan.proofs.protects.decide_protect.Goals as goal
 
 pub returns-then-write_execute : goal.returns-then-write_execute

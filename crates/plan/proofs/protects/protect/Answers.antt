@@ -1,4 +1,4 @@
-use Rattle.std.proofs.Common.{sym, ◌∙◌, rules}
+use Rattle.std.proofs.Common.{sym, ◌∙◌}
 use Rattle.word.proofs.Budget.{wrote_none}
 use Rattle.plan.specs.Protect.{did_of}
 use Rattle.plan.proofs.protects.protect.Goals as goal

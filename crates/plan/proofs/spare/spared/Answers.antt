@@ -1,4 +1,4 @@
-use Rattle.std.proofs.Common.{sym, ◌∙◌, rules}
+use Rattle.std.proofs.Common.{sym, ◌∙◌}
 use Rattle.plan.specs.Map.{spared_of}
 use Rattle.plan.proofs.spare.spared.Goals as goal
 

@@ -1,5 +1,5 @@
 use Rattle.plan.specs.Unmap.{booked_of}
-use Rattle.std.proofs.Common.{◌≡◌, sym, ◌∙◌, rules}
+use Rattle.std.proofs.Common.{sym, ◌∙◌}
 use Rattle.plan.proofs.unmaps.booked.Goals as goal
 
 pub returns-then-takes : goal.returns-then-takes

@@ -1,4 +1,4 @@
-use Rattle.std.proofs.Common.{arith, rules}
+use Rattle.std.proofs.Common.{arith}
 use Rattle.word.proofs.Budget.{length_wrote}
 use Rattle.plan.proofs.Carrying.{cuts_wrote, cuts_none}
 use Rattle.plan.proofs.unmaps.carry_unmap.Goals as goal

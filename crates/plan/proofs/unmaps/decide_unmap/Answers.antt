@@ -1,6 +1,6 @@
 use Rattle.plan.proofs.Found.{found_at}
 use Rattle.plan.specs.Unmap.{decide_of, removing_of}
-use Rattle.std.proofs.Common.{◌≡◌, sym, ◌∙◌, rules}
+use Rattle.std.proofs.Common.{sym, ◌∙◌}
 use Rattle.plan.proofs.unmaps.decide_unmap.Goals as goal
 
 pub returns-in-Refused : goal.returns-in-Refused

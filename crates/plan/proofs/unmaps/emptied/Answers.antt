@@ -1,5 +1,5 @@
 use Rattle.plan.specs.Unmap.{emptied_of}
-use Rattle.std.proofs.Common.{◌≡◌, sym, ◌∙◌, arith, rules, le-ltb, lt-ltb, eq-eqb, ne_eqb, le-leb}
+use Rattle.std.proofs.Common.{sym, ◌∙◌, arith, le-leb}
 use borrow.Author.Tests.{lt-leb}
 use Rattle.plan.proofs.unmaps.emptied.Goals as goal
 

@@ -1,6 +1,5 @@
 use Rattle.plan.specs.Unmap.{remove_of, open_of}
-use Rattle.std.proofs.Common.{◌≡◌, sym, ◌∙◌, rules, le-ltb, lt-ltb, eq-eqb, ne_eqb, le-leb}
-use borrow.Author.Tests.{lt-leb}
+use Rattle.std.proofs.Common.{sym, ◌∙◌, eq-eqb, ne_eqb}
 use Rattle.plan.proofs.unmaps.remove.Goals as goal
 
 pub returns-then-n-eq0 : goal.returns-then-n-eq0

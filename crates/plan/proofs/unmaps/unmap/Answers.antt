@@ -1,5 +1,5 @@
 use Rattle.pool.proofs.Opening.{now_is}
-use Rattle.std.proofs.Common.{sym, ◌∙◌, rules}
+use Rattle.std.proofs.Common.{sym, ◌∙◌}
 use Rattle.word.proofs.Budget.{wrote_none}
 use Rattle.plan.specs.Unmap.{did_of, unmapping_of}
 use Rattle.plan.proofs.Low.{unmap_fits, unmap_room}

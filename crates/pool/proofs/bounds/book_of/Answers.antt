@@ -1,4 +1,4 @@
-use Rattle.std.proofs.Common.{refl, rules}
+use Rattle.std.proofs.Common.{refl}
 use Rattle.pool.specs.Layout.{book_pages}
 use Rattle.pool.proofs.bounds.book_of.Goals as goal
 

@@ -1,4 +1,4 @@
-use Rattle.std.proofs.Common.{rules, le-leb}
+use Rattle.std.proofs.Common.{le-leb}
 use borrow.Author.Tests.{lt-leb}
 use Rattle.pool.specs.Stands.{read_entry_of}
 use Rattle.pool.proofs.bounds.entry.Goals as goal

@@ -1,5 +1,5 @@
-use Rattle.std.proofs.Common.{sym, ◌∙◌, arith, rules}
-use Rattle.pool.proofs.Counting.{InPool, in_pool_lem, not_in_pool}
+use Rattle.std.proofs.Common.{sym, arith}
+use Rattle.pool.proofs.Counting.{in_pool_lem, not_in_pool}
 use Rattle.pool.proofs.bounds.in_pool_by_one.Goals as goal
 
 pub returns-then-behind-space : goal.returns-then-behind-space

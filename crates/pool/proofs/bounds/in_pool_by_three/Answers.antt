@@ -1,4 +1,4 @@
-use Rattle.std.proofs.Common.{sym, arith, rules}
+use Rattle.std.proofs.Common.{sym, arith}
 use Rattle.pool.proofs.Counting.{in_pool_lem, not_in_pool}
 use Rattle.pool.proofs.bounds.in_pool_by_three.Goals as goal
 

@@ -1,4 +1,4 @@
-use Rattle.std.proofs.Common.{rules, le-leb}
+use Rattle.std.proofs.Common.{le-leb}
 use borrow.Author.Tests.{lt-leb}
 use Rattle.word.proofs.Budget.{wrote_none}
 use Rattle.pool.specs.Stands.{entry_writes}

@@ -1,4 +1,4 @@
-use Rattle.std.proofs.Common.{sym, ◌∙◌, arith, rules}
+use Rattle.std.proofs.Common.{sym, ◌∙◌, arith}
 use Rattle.word.proofs.Budget.{wrote_same}
 use Rattle.pool.proofs.Far.{written_far}
 use Rattle.pool.proofs.changes.put.Goals as goal

@@ -1,5 +1,5 @@
 use Rattle.pool.specs.Layout.{free_at, aside_at, tickets_at}
-use Rattle.std.proofs.Common.{sym, ◌∙◌, arith, rules, le-leb}
+use Rattle.std.proofs.Common.{sym, ◌∙◌, arith, le-leb}
 use borrow.Author.Tests.{lt-leb}
 use Rattle.word.proofs.Budget.{wrote_none, wrote_then}
 use Rattle.pool.specs.Changes.{release_writes}

@@ -1,5 +1,5 @@
 use Rattle.pool.specs.Layout.{aside_at, slot_at}
-use Rattle.std.proofs.Common.{◌+◌, sym, ◌∙◌, arith, rules}
+use Rattle.std.proofs.Common.{◌+◌, sym, ◌∙◌, arith}
 use Rattle.word.proofs.Budget.{wrote_none, wrote_then}
 use Rattle.pool.specs.Changes.{aside_writes, aside_book}
 use Rattle.pool.proofs.Counting.{adds_up_is, slot_in}

@@ -1,5 +1,5 @@
 use Rattle.pool.specs.Layout.{head_at, free_at}
-use Rattle.std.proofs.Common.{sym, ◌∙◌, rules, le-leb}
+use Rattle.std.proofs.Common.{sym, ◌∙◌, le-leb}
 use borrow.Author.Tests.{lt-leb}
 use Rattle.word.proofs.Budget.{wrote_none, wrote_then}
 use Rattle.pool.specs.Changes.{took_writes}

@@ -1,6 +1,5 @@
 use Rattle.pool.specs.Layout.{head_at, free_at, aside_at, tickets_at}
 use Rattle.pool.specs.State.{book_now}
-use Rattle.std.proofs.Common.{rules}
 use Rattle.pool.proofs.header.book_now.Goals as goal
 
 pub returns : goal.returns

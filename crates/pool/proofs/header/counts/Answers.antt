@@ -1,4 +1,4 @@
-use Rattle.std.proofs.Common.{sym, ◌∙◌, rules}
+use Rattle.std.proofs.Common.{sym, ◌∙◌}
 use Rattle.pool.proofs.Opening.{now_is}
 use Rattle.pool.specs.Book.{counts_of}
 use Rattle.pool.proofs.header.counts.Goals as goal

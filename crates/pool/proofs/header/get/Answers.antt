@@ -1,4 +1,4 @@
-use Rattle.std.proofs.Common.{sym, ◌∙◌, rules}
+use Rattle.std.proofs.Common.{sym, ◌∙◌}
 use Rattle.pool.specs.State.{word_now, word_in}
 use Rattle.pool.proofs.Opening.{head_is, head_out}
 use Rattle.pool.proofs.header.get.Goals as goal

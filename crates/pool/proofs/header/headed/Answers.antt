@@ -1,4 +1,4 @@
-use Rattle.std.proofs.Common.{sym, ◌∙◌, rules, eq-eqb, ne_eqb}
+use Rattle.std.proofs.Common.{eq-eqb, ne_eqb}
 use Rattle.pool.specs.Layout.{signature_at, pages_at, root_at}
 use Rattle.pool.specs.Book.{headed_of}
 use Rattle.pool.proofs.header.headed.Goals as goal

@@ -1,4 +1,4 @@
-use Rattle.std.proofs.Common.{sym, ◌∙◌, rules}
+use Rattle.std.proofs.Common.{sym, ◌∙◌}
 use Rattle.pool.specs.Book.{names_of, names_in, rooted_in}
 use Rattle.pool.proofs.header.names.Goals as goal
 

@@ -1,4 +1,4 @@
-use Rattle.std.proofs.Common.{sym, ◌∙◌, rules}
+use Rattle.std.proofs.Common.{sym, ◌∙◌}
 use Rattle.pool.specs.Book.{opened_of, opened_in}
 use Rattle.pool.proofs.Opening.{names_room}
 use Rattle.pool.proofs.header.open.Goals as goal

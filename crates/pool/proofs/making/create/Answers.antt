@@ -1,4 +1,4 @@
-use Rattle.std.proofs.Common.{sym, ◌∙◌, arith, rules}
+use Rattle.std.proofs.Common.{sym, ◌∙◌, arith}
 use Rattle.word.proofs.Budget.{wrote_none}
 use Rattle.pool.specs.Create.{created_of, created_in, create_writes, create_in}
 use Rattle.pool.proofs.Opening.{fit_small, may_fit, roomy}

@@ -1,9 +1,6 @@
-use Rattle.std.proofs.Common.{◌≡◌, ◌+◌, ◌-◌, ◌≤◌, arith}
+use Rattle.std.proofs.Common.{◌-◌, ◌≤◌}
 use Rattle.word.specs.Writes.{Wrote}
-use Rattle.word.proofs.Budget.{length_wrote}
-use Rattle.pool.specs.Layout.{slot_at}
 use Rattle.pool.specs.Create.{fills}
-use Rattle.pool.proofs.Rows.{wrote_no_word, wrote_word}
 use Rattle.pool.proofs.making.fill.Given as goal
 
 abbrev pub invariant-loop-j : goal.invariant-loop-j

@@ -1,7 +1,6 @@
 use Rattle.word.proofs.Budget.{wrote_then}
 use Rattle.pool.specs.Layout.{signature_at}
 use Rattle.pool.specs.Create.{lay_out}
-use Rattle.std.proofs.Common.{rules}
 use Rattle.pool.proofs.making.lay_out.Goals as goal
 
 pub returns : goal.returns

@@ -1,4 +1,4 @@
-use Rattle.std.proofs.Common.{rules, eq-eqb, ne_eqb}
+use Rattle.std.proofs.Common.{eq-eqb, ne_eqb}
 use Rattle.pool.specs.Create.{may_create}
 use Rattle.pool.proofs.making.may_create.Goals as goal
 

@@ -1,7 +1,6 @@
 use Rattle.word.proofs.Budget.{wrote_then}
 use Rattle.pool.specs.Layout.{pages_at, root_at, tickets_at, free_at, aside_at, header_words}
 use Rattle.pool.specs.Create.{header_writes}
-use Rattle.std.proofs.Common.{rules}
 use Rattle.pool.proofs.making.put_header.Goals as goal
 
 pub returns : goal.returns

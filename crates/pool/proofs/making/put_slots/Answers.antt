@@ -1,7 +1,6 @@
 use Rattle.word.proofs.Budget.{wrote_then}
 use Rattle.pool.specs.Layout.{header_words, slot_at}
 use Rattle.pool.specs.Create.{slots}
-use Rattle.std.proofs.Common.{rules}
 use Rattle.pool.proofs.making.put_slots.Goals as goal
 
 pub returns : goal.returns

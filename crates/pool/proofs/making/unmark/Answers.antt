@@ -1,7 +1,5 @@
-use Rattle.std.proofs.Common.{◌≡◌, ◌-◌, ◌≤◌, arith}
-use Rattle.word.specs.Writes.{Wrote}
+use Rattle.std.proofs.Common.{◌≡◌, arith}
 use Rattle.word.proofs.Budget.{length_wrote}
-use Rattle.pool.specs.Create.{unmarks}
 use Rattle.pool.proofs.Rows.{wrote_no_mark, wrote_mark}
 use Rattle.pool.proofs.making.unmark.Goals as goal
 

@@ -1,5 +1,4 @@
 use Rattle.pool.specs.State.{counted_of}
-use Rattle.std.proofs.Common.{rules}
 use Rattle.pool.proofs.moment.counted.Goals as goal
 
 pub returns : goal.returns

@@ -1,4 +1,4 @@
-use Rattle.std.proofs.Common.{sym, ◌∙◌, rules}
+use Rattle.std.proofs.Common.{sym, ◌∙◌}
 use Rattle.pool.specs.State.{state_of, stated_of}
 use Rattle.pool.proofs.Opening.{open_shows}
 use Rattle.pool.proofs.moment.state.Goals as goal

@@ -1,4 +1,4 @@
-use Rattle.std.proofs.Common.{◌+◌, sym, ◌∙◌, arith, rules}
+use Rattle.std.proofs.Common.{sym, ◌∙◌, arith}
 use mathlib.Core.Bool.{false≢true}
 use Rattle.word.proofs.Runs.{run_spans, spans_run, among_last, not_among}
 use Rattle.word.proofs.run.among.Goals as goal

@@ -1,6 +1,5 @@
-use Rattle.std.proofs.Common.{◌≡◌, ◌-◌, ◌≤◌, cond, [], arith}
-use Rattle.word.specs.Runs.{is_among, among_zeros}
-use Rattle.word.specs.Writes.{Wrote, zeros}
+use Rattle.std.proofs.Common.{◌≡◌, arith}
+use Rattle.word.specs.Runs.{among_zeros}
 use Rattle.word.proofs.Budget.{length_wrote}
 use Rattle.word.proofs.Cleared.{no_zero_among, zero_among}
 use Rattle.word.proofs.run.clear_among.Goals as goal

@@ -1,8 +1,6 @@
-use Rattle.std.proofs.Common.{◌≡◌, ◌-◌, ◌≤◌, cond, [], arith}
-use Rattle.word.specs.Runs.{is_among, among_zeros}
+use Rattle.std.proofs.Common.{◌-◌, ◌≤◌, cond, []}
+use Rattle.word.specs.Runs.{is_among}
 use Rattle.word.specs.Writes.{Wrote, zeros}
-use Rattle.word.proofs.Budget.{length_wrote}
-use Rattle.word.proofs.Cleared.{no_zero_among, zero_among}
 use Rattle.word.proofs.run.clear_among.Given as goal
 
 abbrev pub invariant-loop-i : goal.invariant-loop-i

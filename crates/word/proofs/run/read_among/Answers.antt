@@ -1,4 +1,4 @@
-use Rattle.std.proofs.Common.{sym, ◌∙◌, arith, rules}
+use Rattle.std.proofs.Common.{sym, ◌∙◌, arith}
 use Rattle.word.specs.Runs.{among_of}
 use Rattle.word.proofs.Memory.{offset, memory_in, held, held_lies}
 use Rattle.word.proofs.Runs.{is_among_lem, among_holds, among_word}

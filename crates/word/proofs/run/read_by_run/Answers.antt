@@ -1,5 +1,5 @@
 use Rattle.word.proofs.Runs.{among_read}
-use Rattle.std.proofs.Common.{sym, ◌∙◌, rules}
+use Rattle.std.proofs.Common.{sym, ◌∙◌}
 use Rattle.word.proofs.run.read_by_run.Goals as goal
 
 pub returns-in-Word : goal.returns-in-Word

@@ -1,4 +1,4 @@
-use Rattle.std.proofs.Common.{sym, arith, rules}
+use Rattle.std.proofs.Common.{sym, arith}
 use Rattle.word.proofs.Runs.{no_run, spans_last}
 use Rattle.word.proofs.run.spans.Goals as goal
 

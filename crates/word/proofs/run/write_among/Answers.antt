@@ -1,4 +1,4 @@
-use Rattle.std.proofs.Common.{sym, ◌∙◌, arith, rules}
+use Rattle.std.proofs.Common.{sym, ◌∙◌, arith}
 use Rattle.word.proofs.Budget.{wrote_none, wrote_one, wrote_stopped}
 use Rattle.word.proofs.Runs.{among_offset, among_index, among_written, one_among, none_among}
 use Rattle.word.proofs.run.write_among.Goals as goal

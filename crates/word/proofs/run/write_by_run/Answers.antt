@@ -1,6 +1,6 @@
 use Rattle.word.proofs.Budget.{wrote_as}
 use Rattle.word.proofs.Runs.{one_among}
-use Rattle.std.proofs.Common.{sym, ◌∙◌, rules}
+use Rattle.std.proofs.Common.{sym, ◌∙◌}
 use Rattle.word.proofs.run.write_by_run.Goals as goal
 
 pub returns-then-among : goal.returns-then-among

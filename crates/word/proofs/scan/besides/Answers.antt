@@ -1,4 +1,4 @@
-use Rattle.std.proofs.Common.{true, false, sym, refl, ◌∙◌, arith, rules}
+use Rattle.std.proofs.Common.{true, false, sym, refl, ◌∙◌, arith}
 use Rattle.word.proofs.Odds.{besides_before, besides_eights, besides_outside}
 use Rattle.word.proofs.scan.besides.Goals as goal
 

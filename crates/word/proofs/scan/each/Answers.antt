@@ -1,6 +1,4 @@
-use Rattle.std.proofs.Common.{◌≡◌, ◌-◌, sym, refl, ap, ◌∙◌, arith}
-use Rattle.word.specs.Memory.{memory}
-use Rattle.word.specs.Scan.{odd_of}
+use Rattle.std.proofs.Common.{◌≡◌, ◌-◌, sym, refl, ◌∙◌, arith}
 use Rattle.word.proofs.Odds.{odd_none, odd_one, odd_part}
 use Rattle.word.proofs.scan.each.Goals as goal
 

@@ -1,7 +1,6 @@
-use Rattle.std.proofs.Common.{◌≡◌, ◌-◌, sym, refl, ap, ◌∙◌, arith}
+use Rattle.std.proofs.Common.{◌≡◌, ◌-◌}
 use Rattle.word.specs.Memory.{memory}
 use Rattle.word.specs.Scan.{odd_of}
-use Rattle.word.proofs.Odds.{odd_none, odd_one, odd_part}
 use Rattle.word.proofs.scan.each.Given as goal
 
 abbrev pub invariant-loop-k : goal.invariant-loop-k

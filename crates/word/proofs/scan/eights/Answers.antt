@@ -1,6 +1,4 @@
-use Rattle.std.proofs.Common.{◌≡◌, ◌+◌, ◌-◌, ◌*◌, sym, refl, ap, ◌∙◌, arith}
-use Rattle.word.specs.Memory.{memory}
-use Rattle.word.specs.Scan.{odd_of}
+use Rattle.std.proofs.Common.{◌≡◌, ◌-◌, ◌*◌, sym, refl, ◌∙◌, arith}
 use Rattle.word.proofs.Odds.{odd_none, odd_eights}
 use Rattle.word.proofs.scan.eights.Goals as goal
 

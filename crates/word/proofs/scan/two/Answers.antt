@@ -1,4 +1,4 @@
-use Rattle.std.proofs.Common.{◌≡◌, sym, ◌∙◌, rules}
+use Rattle.std.proofs.Common.{sym, ◌∙◌}
 use Rattle.word.proofs.Odds.{odd_or, odd_one, odd_join}
 use Rattle.word.proofs.scan.two.Goals as goal
 

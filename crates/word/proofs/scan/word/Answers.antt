@@ -1,4 +1,4 @@
-use Rattle.std.proofs.Common.{◌≡◌, ◌∙◌, arith, rules}
+use Rattle.std.proofs.Common.{arith}
 use Rattle.word.proofs.Memory.{offset, memory_in, held, held_lies}
 use Rattle.word.proofs.scan.word.Goals as goal
 
