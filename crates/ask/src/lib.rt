@@ -1,8 +1,11 @@
 // Each operation, with what is asked and what came of it in words. After a refusal the window is compared with what it was.
+#![tactic(auto)]
+
 use entry::Rights;
 use plan::Asked;
 use pool::{Created, Space};
 use reasons::{not_released, pool_refused, refused};
+use std::io;
 use tablepath::{Altered, Gone, Mapped, Protected, Report, Unmapped};
 use walk::Found;
 use window::{book, copy, unchanged};
@@ -12,139 +15,145 @@ mod window;
 
 pub use window::{BYTES, FIRST, ORIGIN, PAGES, ROOT, space};
 
-fn asked_pool(space: Space) {
-    say::with_number(b"  create a pool of ", space.pages);
-    say::with_hex(b" pages from page ", space.first);
-    say::with_hex(b" on, in a window at ", space.origin);
-    say::line();
+fn asked_pool(rt: &impl Print, space: Space) -> io::Result<()> {
+    say::with_number(rt, "  create a pool of ", space.pages)?;
+    say::with_hex(rt, " pages from page ", space.first)?;
+    say::with_hex(rt, " on, in a window at ", space.origin)?;
+    say::line(rt)
 }
 
-pub fn create(mem: &mut [u8], space: Space) {
-    asked_pool(space);
+pub fn create(rt: &impl Print, mem: &mut [u8], space: Space) -> io::Result<()> {
+    asked_pool(rt, space)?;
     let old = copy(mem);
-    let c = tablepath::create(mem, space.origin, space.first, space.pages);
-    match c {
+    match tablepath::create(mem, space.origin, space.first, space.pages) {
         Created::Root(r) => {
-            say::with_hex(b"    done: the root is page ", r);
-            book(mem, space);
+            say::with_hex(rt, "    done: the root is page ", r)?;
+            book(rt, mem, space)
         }
         Created::Refused(r) => {
-            pool_refused(r);
-            unchanged(mem, &old);
+            pool_refused(rt, r)?;
+            unchanged(rt, mem, &old)
         }
     }
 }
 
-fn asked(q: Asked) {
-    let g = q.rights;
-    say::text(b"  map ");
-    say::mapping(q.base, q.size, q.frame, g);
-    say::line();
+fn asked(rt: &impl Print, q: Asked) -> io::Result<()> {
+    say::text(rt, "  map ")?;
+    say::mapping(rt, q.base, q.size, q.frame, q.rights)?;
+    say::line(rt)
 }
 
-pub fn map(mem: &mut [u8], space: Space, q: Asked) {
-    asked(q);
+pub fn map(rt: &impl Print, mem: &mut [u8], space: Space, q: Asked) -> io::Result<()> {
+    asked(rt, q)?;
     let old = copy(mem);
-    let m = tablepath::map(mem, space, q);
-    match m {
+    match tablepath::map(mem, space, q) {
         Mapped::Done(n) => {
-            say::text(b"    done: made ");
-            say::count(n, b"table");
-            book(mem, space);
+            say::text(rt, "    done: made ")?;
+            say::count(rt, n, "table")?;
+            book(rt, mem, space)
         }
         Mapped::Refused(r) => {
-            refused(r);
-            unchanged(mem, &old);
+            refused(rt, r)?;
+            unchanged(rt, mem, &old)
         }
     }
 }
 
-fn gone(g: Gone) {
-    say::text(b"    done: it was ");
-    say::frame(g.size, g.frame);
-    say::text(b"; set aside ");
-    say::count(g.aside, b"table");
-    say::with_number(b", ticket ", g.ticket);
+fn gone(rt: &impl Print, g: Gone) -> io::Result<()> {
+    say::text(rt, "    done: it was ")?;
+    say::frame(rt, g.size, g.frame)?;
+    say::text(rt, "; set aside ")?;
+    say::count(rt, g.aside, "table")?;
+    say::with_number(rt, ", ticket ", g.ticket)
 }
 
-pub fn unmap(mem: &mut [u8], space: Space, base: u64) {
-    say::with_hex(b"  unmap ", base);
-    say::line();
+pub fn unmap(rt: &impl Print, mem: &mut [u8], space: Space, base: u64) -> io::Result<()> {
+    say::with_hex(rt, "  unmap ", base)?;
+    say::line(rt)?;
     let old = copy(mem);
-    let u = tablepath::unmap(mem, space, base);
-    match u {
+    match tablepath::unmap(mem, space, base) {
         Unmapped::Done(g) => {
-            gone(g);
-            book(mem, space);
+            gone(rt, g)?;
+            book(rt, mem, space)
         }
         Unmapped::Refused(r) => {
-            refused(r);
-            unchanged(mem, &old);
+            refused(rt, r)?;
+            unchanged(rt, mem, &old)
         }
     }
 }
 
-fn still(s: Altered) {
-    say::text(b"    done: it is ");
-    say::frame(s.size, s.frame);
-    say::with_number(b"; ticket ", s.ticket);
-    say::line();
+fn still(rt: &impl Print, s: Altered) -> io::Result<()> {
+    say::text(rt, "    done: it is ")?;
+    say::frame(rt, s.size, s.frame)?;
+    say::with_number(rt, "; ticket ", s.ticket)?;
+    say::line(rt)
 }
 
-pub fn protect(mem: &mut [u8], space: Space, base: u64, rights: Rights) {
-    say::with_hex(b"  protect ", base);
-    say::text(b", now ");
-    say::rights(rights);
-    say::line();
+pub fn protect(
+    rt: &impl Print,
+    mem: &mut [u8],
+    space: Space,
+    base: u64,
+    rights: Rights,
+) -> io::Result<()> {
+    say::with_hex(rt, "  protect ", base)?;
+    say::text(rt, ", now ")?;
+    say::rights(rt, rights)?;
+    say::line(rt)?;
     let old = copy(mem);
-    let p = tablepath::protect(mem, space, base, rights);
-    match p {
-        Protected::Done(s) => still(s),
+    match tablepath::protect(mem, space, base, rights) {
+        Protected::Done(s) => still(rt, s),
         Protected::Refused(r) => {
-            refused(r);
-            unchanged(mem, &old);
+            refused(rt, r)?;
+            unchanged(rt, mem, &old)
         }
     }
 }
 
-pub fn told(mem: &mut [u8], space: Space, ticket: u64) {
-    say::with_number(b"  every cache was told, ticket ", ticket);
-    say::line();
+pub fn told(rt: &impl Print, mem: &mut [u8], space: Space, ticket: u64) -> io::Result<()> {
+    say::with_number(rt, "  every cache was told, ticket ", ticket)?;
+    say::line(rt)?;
     let old = copy(mem);
-    let t = tablepath::told(mem, space, ticket);
-    if let Report::Released(n) = t {
-        say::text(b"    done: released ");
-        say::count(n, b"page");
-        book(mem, space);
-        return;
+    match tablepath::told(mem, space, ticket) {
+        Report::Released(n) => {
+            say::text(rt, "    done: released ")?;
+            say::count(rt, n, "page")?;
+            book(rt, mem, space)
+        }
+        t => {
+            not_released(rt, t)?;
+            unchanged(rt, mem, &old)
+        }
     }
-    not_released(t);
-    unchanged(mem, &old);
 }
 
 // What an address means.
-fn meaning(f: Found) {
-    say::text(b"    ");
+fn meaning(rt: &impl Print, f: Found) -> io::Result<()> {
+    say::text(rt, "    ")?;
     match f {
         Found::Page {
-            base: b,
-            size: s,
-            frame: a,
-            rights: r,
-        } => say::page(b, s, a, r),
-        Found::Nothing => say::text(b"nothing is mapped there"),
-        Found::Outside => say::text(b"outside, the way leaves the window"),
-        Found::NoAddress => say::text(b"that is no address"),
+            base,
+            size,
+            frame,
+            rights,
+        } => say::page(rt, base, size, frame, rights)?,
+        Found::Nothing => say::text(rt, "nothing is mapped there")?,
+        Found::Outside => say::text(rt, "outside, the way leaves the window")?,
+        Found::NoAddress => say::text(rt, "that is no address")?,
     }
-    say::line();
+    say::line(rt)
 }
 
 // The root is given as in CR3, by its address.
-pub fn look_up(mem: &[u8], space: Space, va: u64) {
-    say::with_hex(b"  look up ", va);
-    say::line();
+pub fn look_up(rt: &impl Print, mem: &[u8], space: Space, va: u64) -> io::Result<()> {
+    say::with_hex(rt, "  look up ", va)?;
+    say::line(rt)?;
     if word::PAGE_COUNT <= space.root {
-        return;
+        return Ok(());
     }
-    meaning(tablepath::look_up(mem, space.origin, space.root * 4096, va));
+    meaning(
+        rt,
+        tablepath::look_up(mem, space.origin, space.root * 4096, va),
+    )
 }

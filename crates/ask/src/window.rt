@@ -1,5 +1,6 @@
 // The window of the demonstration, the pool in it, and a copy that shows whether a byte of the window changed.
 use pool::{Opened, Space};
+use std::io;
 
 // The window begins at 1 MiB and has eight pages; the pool has all but the first and the last of them.
 pub const ORIGIN: u64 = 0x10_0000;
@@ -58,23 +59,22 @@ fn differs(mem: &[u8], old: &[u8]) -> bool {
 }
 
 // Says so, after a refusal.
-pub fn unchanged(mem: &[u8], old: &[u8]) {
+pub fn unchanged(rt: &impl Print, mem: &[u8], old: &[u8]) -> io::Result<()> {
     if differs(mem, old) {
-        say::text(b"; THE WINDOW CHANGED\n");
+        println!(rt; "; THE WINDOW CHANGED")
     } else {
-        say::text(b"; no byte changed\n");
+        println!(rt; "; no byte changed")
     }
 }
 
 // What the book counts.
-pub fn book(mem: &[u8], space: Space) {
-    let o = pool::open(mem, space);
-    match o {
+pub fn book(rt: &impl Print, mem: &[u8], space: Space) -> io::Result<()> {
+    match pool::open(mem, space) {
         Opened::Book(b) => {
-            say::with_number(b" (free ", b.free);
-            say::with_number(b", set aside ", b.aside);
-            say::text(b")\n");
+            say::with_number(rt, " (free ", b.free)?;
+            say::with_number(rt, ", set aside ", b.aside)?;
+            println!(rt; ")")
         }
-        Opened::Refused(_) => say::text(b" (no book)\n"),
+        Opened::Refused(_) => println!(rt; " (no book)"),
     }
 }

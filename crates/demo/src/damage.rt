@@ -2,6 +2,7 @@
 use crate::usual;
 use ask::{BYTES, FIRST, ORIGIN, ROOT};
 use pool::{FREE_AT, HEADER, TICKETS_AT};
+use std::io;
 
 const HERE: u64 = 0x1000;
 
@@ -10,68 +11,72 @@ fn overwrite(mem: &mut [u8], page: u64, index: u64, w: u64) {
     word::write(mem, &mut left, ORIGIN, page, index, w)
 }
 
-fn begin(mem: &mut [u8]) {
-    usual::create(mem);
-    usual::map(mem, 0x1000, 0x20_0000, HERE);
+fn begin(rt: &impl Print, mem: &mut [u8]) -> io::Result<()> {
+    usual::create(rt, mem)?;
+    usual::map(rt, mem, 0x1000, 0x20_0000, HERE)
 }
 
 // Entry 0 of the root names the table in page 0x103.
-fn stray(mem: &mut [u8]) {
-    say::text(b" the root's entry 0 now names page 0x900, which nobody lent\n");
+fn stray(rt: &impl Print, mem: &mut [u8]) -> io::Result<()> {
+    println!(rt; " the root's entry 0 now names page 0x900, which nobody lent")?;
     overwrite(mem, ROOT, 0, 0x90_0007);
-    usual::unmap(mem, HERE);
-    usual::look_up(mem, HERE);
+    usual::unmap(rt, mem, HERE)?;
+    usual::look_up(rt, mem, HERE)?;
     overwrite(mem, ROOT, 0, 0x10_3007);
+    Ok(())
 }
 
-fn book_as_table(mem: &mut [u8]) {
-    say::text(b" now it names the book\n");
+fn book_as_table(rt: &impl Print, mem: &mut [u8]) -> io::Result<()> {
+    println!(rt; " now it names the book")?;
     overwrite(mem, ROOT, 0, 0x10_1007);
-    usual::map(mem, 0x1000, 0x30_0000, 0x2000);
+    usual::map(rt, mem, 0x1000, 0x30_0000, 0x2000)?;
     overwrite(mem, ROOT, 0, 0x10_3007);
+    Ok(())
 }
 
 // Three pages were taken, so the free one is in slot 3, behind the book's header.
-fn bad_list(mem: &mut [u8]) {
-    say::text(b" the book lists the root as free\n");
+fn bad_list(rt: &impl Print, mem: &mut [u8]) -> io::Result<()> {
+    println!(rt; " the book lists the root as free")?;
     overwrite(mem, FIRST, HEADER + 3, ROOT);
-    usual::map(mem, 0x20_0000, 0x40_0000, 0x4000_0000);
+    usual::map(rt, mem, 0x20_0000, 0x40_0000, 0x4000_0000)?;
     overwrite(mem, FIRST, HEADER + 3, 0x106);
+    Ok(())
 }
 
-fn bad_count(mem: &mut [u8]) {
-    say::text(b" the book counts a thousand free pages\n");
+fn bad_count(rt: &impl Print, mem: &mut [u8]) -> io::Result<()> {
+    println!(rt; " the book counts a thousand free pages")?;
     overwrite(mem, FIRST, FREE_AT, 1000);
-    usual::unmap(mem, HERE);
+    usual::unmap(rt, mem, HERE)?;
     overwrite(mem, FIRST, FREE_AT, 1);
+    Ok(())
 }
 
-fn go_on(mem: &mut [u8]) {
-    say::text(b" every word is back\n");
-    usual::look_up(mem, HERE);
-    usual::map(mem, 0x20_0000, 0x40_0000, 0x4000_0000);
+fn go_on(rt: &impl Print, mem: &mut [u8]) -> io::Result<()> {
+    println!(rt; " every word is back")?;
+    usual::look_up(rt, mem, HERE)?;
+    usual::map(rt, mem, 0x20_0000, 0x40_0000, 0x4000_0000)
 }
 
 // Tickets end at 2^62.
-fn spent(mem: &mut [u8]) {
-    say::text(b" as if 2^62 tickets had been used up\n");
+fn spent(rt: &impl Print, mem: &mut [u8]) -> io::Result<()> {
+    println!(rt; " as if 2^62 tickets had been used up")?;
     overwrite(mem, FIRST, TICKETS_AT, 0x4000_0000_0000_0000);
-    usual::unmap(mem, HERE);
-    usual::told(mem, 0x4000_0000_0000_0002);
+    usual::unmap(rt, mem, HERE)?;
+    usual::told(rt, mem, 0x4000_0000_0000_0002)
 }
 
-fn first_half(mem: &mut [u8]) {
-    begin(mem);
-    stray(mem);
-    book_as_table(mem);
+fn first_half(rt: &impl Print, mem: &mut [u8]) -> io::Result<()> {
+    begin(rt, mem)?;
+    stray(rt, mem)?;
+    book_as_table(rt, mem)
 }
 
-pub fn act() {
-    say::text(b"DAMAGE\n");
+pub fn act(rt: &impl Print) -> io::Result<()> {
+    println!(rt; "DAMAGE")?;
     let mut mem = [0xa5u8; BYTES];
-    first_half(&mut mem);
-    bad_list(&mut mem);
-    bad_count(&mut mem);
-    go_on(&mut mem);
-    spent(&mut mem);
+    first_half(rt, &mut mem)?;
+    bad_list(rt, &mut mem)?;
+    bad_count(rt, &mut mem)?;
+    go_on(rt, &mut mem)?;
+    spent(rt, &mut mem)
 }

@@ -1,4 +1,8 @@
 // The demonstration: what the library does for the correlator's node, and what it refuses and why.
+#![tactic(auto)]
+
+use std::io;
+
 mod damage;
 mod dry;
 mod edges;
@@ -7,11 +11,11 @@ mod pools;
 mod refusals;
 mod usual;
 
-fn main() {
-    node::act();
-    dry::act();
-    edges::act();
-    refusals::act();
-    pools::act();
-    damage::act();
+fn main(rt: HostRuntime) -> io::Result<()> {
+    node::act(&rt)?;
+    dry::act(&rt)?;
+    edges::act(&rt)?;
+    refusals::act(&rt)?;
+    pools::act(&rt)?;
+    damage::act(&rt)
 }

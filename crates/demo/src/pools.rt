@@ -2,56 +2,57 @@
 use crate::usual::page;
 use ask::{BYTES, FIRST, ORIGIN, PAGES, ROOT, space};
 use pool::Space;
+use std::io;
 
 fn with(origin: u64, first: u64, pages: u64, root: u64) -> Space {
     Space {
-        origin: origin,
-        first: first,
-        pages: pages,
-        root: root,
+        origin,
+        first,
+        pages,
+        root,
     }
 }
 
-fn asked(mem: &mut [u8], space: Space) {
-    ask::map(mem, space, page(0x1000, 0x20_0000, 0x1000));
+fn asked(rt: &impl Print, mem: &mut [u8], space: Space) -> io::Result<()> {
+    ask::map(rt, mem, space, page(0x1000, 0x20_0000, 0x1000))
 }
 
 // The window's ends are page boundaries.
-fn windows(mem: &mut [u8]) {
+fn windows(rt: &impl Print, mem: &mut [u8]) -> io::Result<()> {
     let mut odd = [0xa5u8; 32767];
-    say::text(b" a window that begins, or ends, in the middle of a page\n");
-    ask::create(mem, with(ORIGIN + 8, FIRST, PAGES, ROOT));
-    ask::create(&mut odd, space());
+    println!(rt; " a window that begins, or ends, in the middle of a page")?;
+    ask::create(rt, mem, with(ORIGIN + 8, FIRST, PAGES, ROOT))?;
+    ask::create(rt, &mut odd, space())
 }
 
-fn sizes(mem: &mut [u8]) {
-    say::text(b" too small, too large, and a page longer than the window\n");
-    ask::create(mem, with(ORIGIN, FIRST, 2, ROOT));
-    ask::create(mem, with(ORIGIN, FIRST, 0x1_0000_0001, ROOT));
-    ask::create(mem, with(ORIGIN, FIRST, 8, ROOT));
+fn sizes(rt: &impl Print, mem: &mut [u8]) -> io::Result<()> {
+    println!(rt; " too small, too large, and a page longer than the window")?;
+    ask::create(rt, mem, with(ORIGIN, FIRST, 2, ROOT))?;
+    ask::create(rt, mem, with(ORIGIN, FIRST, 0x1_0000_0001, ROOT))?;
+    ask::create(rt, mem, with(ORIGIN, FIRST, 8, ROOT))
 }
 
-fn no_book(mem: &mut [u8]) {
-    say::text(b" before a pool was created: all bytes are 0\n");
-    asked(mem, space());
-    ask::told(mem, space(), 1);
-    ask::create(mem, space());
+fn no_book(rt: &impl Print, mem: &mut [u8]) -> io::Result<()> {
+    println!(rt; " before a pool was created: all bytes are 0")?;
+    asked(rt, mem, space())?;
+    ask::told(rt, mem, space(), 1)?;
+    ask::create(rt, mem, space())
 }
 
-fn spaces(mem: &mut [u8]) {
-    say::text(
-        b" the book as the root, a pool of five pages where it has six, and a pool behind the window\n",
-    );
-    asked(mem, with(ORIGIN, FIRST, PAGES, FIRST));
-    asked(mem, with(ORIGIN, FIRST, 5, ROOT));
-    asked(mem, with(ORIGIN, 0x900, PAGES, 0x901));
+fn spaces(rt: &impl Print, mem: &mut [u8]) -> io::Result<()> {
+    println!(rt;
+        " the book as the root, a pool of five pages where it has six, and a pool behind the window"
+    )?;
+    asked(rt, mem, with(ORIGIN, FIRST, PAGES, FIRST))?;
+    asked(rt, mem, with(ORIGIN, FIRST, 5, ROOT))?;
+    asked(rt, mem, with(ORIGIN, 0x900, PAGES, 0x901))
 }
 
-pub fn act() {
-    say::text(b"WINDOWS AND POOLS THAT MAKE NO SENSE\n");
+pub fn act(rt: &impl Print) -> io::Result<()> {
+    println!(rt; "WINDOWS AND POOLS THAT MAKE NO SENSE")?;
     let mut mem = [0u8; BYTES];
-    windows(&mut mem);
-    sizes(&mut mem);
-    no_book(&mut mem);
-    spaces(&mut mem);
+    windows(rt, &mut mem)?;
+    sizes(rt, &mut mem)?;
+    no_book(rt, &mut mem)?;
+    spaces(rt, &mut mem)
 }

@@ -3,10 +3,11 @@
 use ask::space;
 use entry::Rights;
 use plan::Asked;
+use std::io;
 
 fn rights(writable: bool) -> Rights {
     Rights {
-        writable: writable,
+        writable,
         user: true,
         noexec: true,
     }
@@ -14,9 +15,9 @@ fn rights(writable: bool) -> Rights {
 
 pub fn page(size: u64, frame: u64, base: u64) -> Asked {
     Asked {
-        base: base,
-        frame: frame,
-        size: size,
+        base,
+        frame,
+        size,
         rights: rights(true),
     }
 }
@@ -29,43 +30,50 @@ fn both() -> Rights {
     }
 }
 
-pub fn map_both(mem: &mut [u8], size: u64, frame: u64, base: u64) {
+pub fn map_both(
+    rt: &impl Print,
+    mem: &mut [u8],
+    size: u64,
+    frame: u64,
+    base: u64,
+) -> io::Result<()> {
     ask::map(
+        rt,
         mem,
         space(),
         Asked {
-            base: base,
-            frame: frame,
-            size: size,
+            base,
+            frame,
+            size,
             rights: both(),
         },
-    );
+    )
 }
 
-pub fn protect_both(mem: &mut [u8], base: u64) {
-    ask::protect(mem, space(), base, both());
+pub fn protect_both(rt: &impl Print, mem: &mut [u8], base: u64) -> io::Result<()> {
+    ask::protect(rt, mem, space(), base, both())
 }
 
-pub fn create(mem: &mut [u8]) {
-    ask::create(mem, space());
+pub fn create(rt: &impl Print, mem: &mut [u8]) -> io::Result<()> {
+    ask::create(rt, mem, space())
 }
 
-pub fn map(mem: &mut [u8], size: u64, frame: u64, base: u64) {
-    ask::map(mem, space(), page(size, frame, base));
+pub fn map(rt: &impl Print, mem: &mut [u8], size: u64, frame: u64, base: u64) -> io::Result<()> {
+    ask::map(rt, mem, space(), page(size, frame, base))
 }
 
-pub fn unmap(mem: &mut [u8], base: u64) {
-    ask::unmap(mem, space(), base);
+pub fn unmap(rt: &impl Print, mem: &mut [u8], base: u64) -> io::Result<()> {
+    ask::unmap(rt, mem, space(), base)
 }
 
-pub fn read_only(mem: &mut [u8], base: u64) {
-    ask::protect(mem, space(), base, rights(false));
+pub fn read_only(rt: &impl Print, mem: &mut [u8], base: u64) -> io::Result<()> {
+    ask::protect(rt, mem, space(), base, rights(false))
 }
 
-pub fn told(mem: &mut [u8], ticket: u64) {
-    ask::told(mem, space(), ticket);
+pub fn told(rt: &impl Print, mem: &mut [u8], ticket: u64) -> io::Result<()> {
+    ask::told(rt, mem, space(), ticket)
 }
 
-pub fn look_up(mem: &[u8], va: u64) {
-    ask::look_up(mem, space(), va);
+pub fn look_up(rt: &impl Print, mem: &[u8], va: u64) -> io::Result<()> {
+    ask::look_up(rt, mem, space(), va)
 }

@@ -1,5 +1,8 @@
 // Walks through tables that were written by hand, entry by entry: pages of each size, and what the machine makes of damage.
+#![tactic(auto)]
+
 use entry::{Entry, Made, Rights};
+use std::io;
 use walk::{Found, Place};
 use word::Cell;
 
@@ -14,10 +17,13 @@ fn store(mem: &mut [u8], page: u64, index: u64, w: u64) {
 }
 
 // Writes a word that was made, where it was not refused.
-fn put(mem: &mut [u8], page: u64, index: u64, made: Made) {
+fn put(rt: &impl Print, mem: &mut [u8], page: u64, index: u64, made: Made) -> io::Result<()> {
     match made {
-        Made::Word(w) => store(mem, page, index, w),
-        Made::Refused => say::text(b"refused\n"),
+        Made::Word(w) => {
+            store(mem, page, index, w);
+            Ok(())
+        }
+        Made::Refused => println!(rt; "refused"),
     }
 }
 
@@ -25,37 +31,40 @@ fn rights(noexec: bool) -> Rights {
     Rights {
         writable: true,
         user: true,
-        noexec: noexec,
+        noexec,
     }
 }
 
 // The way to 0x7f1234567000: four tables.
-fn tables(mem: &mut [u8]) {
-    put(mem, 0x100, 254, entry::table_word(0x101));
-    put(mem, 0x101, 72, entry::table_word(0x102));
-    put(mem, 0x102, 418, entry::table_word(0x103));
+fn tables(rt: &impl Print, mem: &mut [u8]) -> io::Result<()> {
+    put(rt, mem, 0x100, 254, entry::table_word(0x101))?;
+    put(rt, mem, 0x101, 72, entry::table_word(0x102))?;
+    put(rt, mem, 0x102, 418, entry::table_word(0x103))
 }
 
 // A page of 4 KiB there, and beside it one of 2 MiB and one of 1 GiB.
-fn pages(mem: &mut [u8]) {
+fn pages(rt: &impl Print, mem: &mut [u8]) -> io::Result<()> {
     put(
+        rt,
         mem,
         0x103,
         359,
         entry::page_word(0, 0x1234000, rights(false)),
-    );
+    )?;
     put(
+        rt,
         mem,
         0x102,
         419,
         entry::page_word(1, 0x40000000, rights(true)),
-    );
+    )?;
     put(
+        rt,
         mem,
         0x101,
         73,
         entry::page_word(2, 0x80000000, rights(true)),
-    );
+    )
 }
 
 // What may go wrong: a table that grants less, a large page with a reserved bit, and a way that leaves the window.
@@ -69,108 +78,94 @@ fn damage(mem: &mut [u8]) {
 }
 
 // What one entry, whose word is w, says in words.
-fn tell(w: u64, e: Entry) {
+fn tell(rt: &impl Print, w: u64, e: Entry) -> io::Result<()> {
     match e {
-        Entry::Nothing => {
-            if w % 2 == 0 {
-                say::text(b"nothing: not present");
-            } else {
-                say::text(b"nothing: a reserved bit is set");
-            }
-        }
+        Entry::Nothing if w % 2 == 0 => say::text(rt, "nothing: not present"),
+        Entry::Nothing => say::text(rt, "nothing: a reserved bit is set"),
         Entry::Page(f, g) => {
-            say::with_hex(b"a page at ", f);
-            say::text(b", ");
-            say::rights(g);
+            print!(rt; "a page at {f:#x}, ")?;
+            say::rights(rt, g)
         }
         Entry::Table(t, g) => {
-            say::with_hex(b"a table in page ", t);
-            say::text(b", ");
-            say::rights(g);
+            print!(rt; "a table in page {t:#x}, ")?;
+            say::rights(rt, g)
         }
     }
 }
 
 // The entry that the walk reads at level n of the table in page t.
-fn tell_read(mem: &[u8], n: u64, va: u64, t: u64) {
+fn tell_read(rt: &impl Print, mem: &[u8], n: u64, va: u64, t: u64) -> io::Result<()> {
     let i = walk::index(n, va);
-    say::with_number(b"  level ", n);
-    say::with_number(b", entry ", i);
-    say::with_hex(b" of page ", t);
-    say::text(b": ");
-    let c = word::read(mem, ORIGIN, t, i);
-    match c {
+    print!(rt; "  level {n}, entry {i} of page {t:#x}: ")?;
+    match word::read(mem, ORIGIN, t, i) {
         Cell::Word(w) => {
-            say::hex(w);
-            say::text(b" says ");
-            tell(w, entry::decode(n, w));
+            print!(rt; "{w:#x} says ")?;
+            tell(rt, w, entry::decode(n, w))?;
         }
-        Cell::Outside => say::text(b"that page is outside the window"),
+        Cell::Outside => say::text(rt, "that page is outside the window")?,
     }
-    say::line();
+    say::line(rt)
 }
 
 // One step, told before it is taken.
-fn step(mem: &[u8], n: u64, va: u64, p: Place) -> Place {
-    match p {
-        Place::Going(t, r) => tell_read(mem, n, va, t),
-        Place::Ended(f) => {}
+fn step(rt: &impl Print, mem: &[u8], n: u64, va: u64, p: Place) -> io::Result<Place> {
+    if let Place::Going(t, _) = p {
+        tell_read(rt, mem, n, va, t)?;
     }
-    walk::step(mem, ORIGIN, n, va, p)
+    Ok(walk::step(mem, ORIGIN, n, va, p))
 }
 
-fn answer(f: Found) {
-    say::text(b"  so: ");
+fn answer(rt: &impl Print, f: Found) -> io::Result<()> {
+    say::text(rt, "  so: ")?;
     match f {
         Found::Page {
-            base: b,
-            size: s,
-            frame: a,
-            rights: r,
-        } => say::page(b, s, a, r),
-        Found::Nothing => say::text(b"nothing is mapped there"),
-        Found::Outside => say::text(b"outside, the way leaves the window"),
-        Found::NoAddress => say::text(b"that is no address"),
+            base,
+            size,
+            frame,
+            rights,
+        } => say::page(rt, base, size, frame, rights)?,
+        Found::Nothing => say::text(rt, "nothing is mapped there")?,
+        Found::Outside => say::text(rt, "outside, the way leaves the window")?,
+        Found::NoAddress => say::text(rt, "that is no address")?,
     }
-    say::line();
+    say::line(rt)
 }
 
-fn show(mem: &[u8], name: &[u8], va: u64) {
-    say::text(name);
-    say::with_hex(b": ", va);
-    say::line();
-    let p3 = step(mem, 3, va, walk::begin(ROOT, va));
-    let p2 = step(mem, 2, va, p3);
-    let p1 = step(mem, 1, va, p2);
-    let p0 = step(mem, 0, va, p1);
-    answer(walk::answer(p0));
+fn show(rt: &impl Print, mem: &[u8], name: &str, va: u64) -> io::Result<()> {
+    println!(rt; "{name}: {va:#x}")?;
+    let p3 = step(rt, mem, 3, va, walk::begin(ROOT, va))?;
+    let p2 = step(rt, mem, 2, va, p3)?;
+    let p1 = step(rt, mem, 1, va, p2)?;
+    let p0 = step(rt, mem, 0, va, p1)?;
+    answer(rt, walk::answer(p0))
 }
 
-fn sound(mem: &[u8]) {
-    show(mem, b"a page of 4 KiB", 0x7f1234567abc);
-    show(mem, b"a page of 2 MiB", 0x7f1234612345);
-    show(mem, b"a page of 1 GiB", 0x7f1251234567);
+fn sound(rt: &impl Print, mem: &[u8]) -> io::Result<()> {
+    show(rt, mem, "a page of 4 KiB", 0x7f1234567abc)?;
+    show(rt, mem, "a page of 2 MiB", 0x7f1234612345)?;
+    show(rt, mem, "a page of 1 GiB", 0x7f1251234567)?;
     show(
+        rt,
         mem,
-        b"the same 4 KiB page by a way that is read-only",
+        "the same 4 KiB page by a way that is read-only",
         0x7f12b4567abc,
-    );
+    )
 }
 
-fn others(mem: &[u8]) {
-    show(mem, b"a hole", 0x7f1234568000);
-    show(mem, b"a reserved bit", 0x7f1234800000);
-    show(mem, b"a way that leaves the window", 0x7f12c0000000);
-    show(mem, b"the upper half", 0xffffff1234567abc);
-    show(mem, b"no address at all", 0x800000000000);
+fn others(rt: &impl Print, mem: &[u8]) -> io::Result<()> {
+    show(rt, mem, "a hole", 0x7f1234568000)?;
+    show(rt, mem, "a reserved bit", 0x7f1234800000)?;
+    show(rt, mem, "a way that leaves the window", 0x7f12c0000000)?;
+    show(rt, mem, "the upper half", 0xffffff1234567abc)?;
+    show(rt, mem, "no address at all", 0x800000000000)
 }
 
-fn main() {
-    say::text(b"WALKS, ENTRY BY ENTRY\n");
+fn main(rt: HostRuntime) -> io::Result<()> {
+    println!(rt; "WALKS, ENTRY BY ENTRY")?;
     let mut mem = [0u8; 16384];
-    tables(&mut mem);
-    pages(&mut mem);
+    tables(&rt, &mut mem)?;
+    pages(&rt, &mut mem)?;
     damage(&mut mem);
-    sound(&mem);
-    others(&mem);
+    sound(&rt, &mem)?;
+    others(&rt, &mem)
 }
