@@ -12,8 +12,8 @@ use word::Cell;
 // Word i of the header, where the pool lies in the window: that was tested before, and the compiler leaves out the second test.
 fn get(mem: &[u8], space: Space, i: u64) -> u64
     requires { i < 512 }
-    ensures value { the.room_of (holds mem.now space.origin) space.first space.pages ≡ Fits → result ≡ memory mem.now space.origin (the.word_of space i) }
-    ensures value_2 { result ≡ say.word_now mem.now space i }
+    ensures in_memory { the.room_of (holds mem.now space.origin) space.first space.pages ≡ Fits → result ≡ memory mem.now space.origin (the.word_of space i) }
+    ensures now { result ≡ say.word_now mem.now space i }
 {
     let c = word::read_among(
         mem,
