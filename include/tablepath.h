@@ -12,7 +12,7 @@
  * window too. tp_state reads several words of the book and takes the same lock. Processors may walk the tables meanwhile, since words of a
  * table are written one by one, each by one store. tp_look_up and tp_entry may run without the lock: they read one entry at a time, each by
  * one load, as a processor does, and what tp_look_up answers is what the tables meant at some moment while it ran (docs/PROVED.md,
- * each-walk-ends). Such a look-up counts as a walk: let it run with interrupts off, on a processor that the shootdowns interrupt, so that it
+ * each_walk_ends). Such a look-up counts as a walk: let it run with interrupts off, on a processor that the shootdowns interrupt, so that it
  * has ended when that one answers; else take the lock.
  *
  * AFTER tp_unmap AND tp_protect processors may still use what they hold in caches. So, before a frame is used anew:

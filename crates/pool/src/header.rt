@@ -13,7 +13,7 @@ use word::Cell;
 fn get(mem: &[u8], space: Space, i: u64) -> u64
     requires { i < 512 }
     ensures in_memory { the.room_of (holds mem.now space.origin) space.first space.pages ≡ Fits → result ≡ memory mem.now space.origin (the.word_of space i) }
-    ensures now { result ≡ say.word_now mem.now space i }
+    ensures for_any_bytes { result ≡ say.word_now mem.now space i }
 {
     let c = word::read_among(
         mem,
