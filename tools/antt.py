@@ -17,7 +17,7 @@ TOKEN = re.compile(rf'{PIECE}(?:\.{PIECE})*|\.{PIECE}|[(){{}};,.@]')
 DECLARED = re.compile(rf'((?:unfoldable |abbrev |pub )*)(?:(record|data) ({PIECE})|({PIECE})(?: \{{[^}}]*\}})? :)')
 USE = re.compile(r'(?:ghost )?use ([^\s;{]+?)\.?(?:\{(.*)\})?(?: as ([^\s;]+))?;?')
 # What needs no `use` line, where nothing else has that name: the language's own words, and those of contracts.
-OWN = set('Type Unit Dec tt ⊥ ¬ absurd yes no × → ∀ ℓ = : | ↦ [ ] _ record elim let in where unfold module pub now ⌜ ⌝ omega simp rw cc'.split())
+OWN = set('Type Unit Dec tt ⊥ ¬ absurd yes no × → ∀ ℓ = : | ↦ [ ] _ record elim let in where unfold module pub result omega simp rw cc'.split())
 
 
 @dataclasses.dataclass
@@ -157,7 +157,7 @@ class Module:
             elif text.startswith('use '):
                 self.uses[start] = USE.fullmatch(' '.join(text.split())).groups()
             elif text.startswith('open '):
-                self.opens.append(re.match(r'open (\S+) .*using \((.*)\)', ' '.join(text.split())).groups())
+                self.opens.append(opened(text, '\n'.join(self.text(head) for _, head in sections)))
             elif declared:
                 marks, kind, typed, named = declared.groups()
                 kind = kind or next((mark for mark in ('unfoldable', 'abbrev') if mark in marks.split()), 'plain')
@@ -189,6 +189,12 @@ def indent(line):
     return len(line) - len(line.lstrip())
 
 
+def opened(text, heads):
+    """Of a line 'open W use {..}' the record that W is of, by the heads of the sections around it, and the names that it brings."""
+    value, names = re.match(r'open (\S+) use \{(.*)\}', ' '.join(text.split())).groups()
+    return re.search(rf'[({{ ]{re.escape(value)}(?: {PIECE})* : (\S+)', heads)[1], names
+
+
 def bring(path, listed, other, names, others):
     """Adds what a `use` line brings."""
     if other:
@@ -201,12 +207,12 @@ def bring(path, listed, other, names, others):
 @functools.cache
 def target(path, name):
     """What this name of that module refers to."""
-    own = re.fullmatch(r'Rattle·(\w+?)(?:·\w+)?\.(specs|proofs)\.(declared\.)?(.*)', path)
+    own = re.fullmatch(r'Rattle\.(\w+)\.(specs|proofs)\.(declared\.)?(.*)', path)
     if not own or own[1] not in crates():
         return ('kit', f'{path}.{name}')
     crate, part, declared, rest = own.groups()
     if declared:
-        *file, type_name = [word for word in rest.split('.') if word != 'the-variants']
+        *file, type_name = [word for word in rest.split('.') if word != 'TheVariants']
         return ('type', crate, (file or ['lib'])[0], type_name)
     module = modules().get((crate, part, rest))
     found = module and module.names()[0].get(name)
@@ -220,7 +226,7 @@ def meant(names, others, word):
     first, _, rest = word.partition('.')
     if first in others:
         return target(others[first], rest.split('.')[0])
-    return next((names[form] for form in (first, f'_{first}_', f'{first}_', f'_{first}') if form in names), ('unknown', word))
+    return next((names[form] for form in (first, f'◌{first}◌', f'{first}◌', f'◌{first}') if form in names), ('unknown', word))
 
 
 @functools.cache
