@@ -232,7 +232,7 @@ def meant(names, others, word):
 @functools.cache
 def crates():
     """The crates, each with those that it stands on."""
-    return {name: below.split() for name, below in re.findall(r'^(\w+):(.*)$', (root / 'crates.txt').read_text(), re.M)}
+    return {name: below.split() for name, below in re.findall(r'^(\w+)(?: staticlib)?:(.*)$', (root / 'crates.txt').read_text(), re.M)}
 
 
 @functools.cache

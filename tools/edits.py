@@ -4,12 +4,11 @@ import functools
 import itertools
 import pathlib
 import re
-import shutil
 
 root = pathlib.Path(__file__).resolve().parent.parent
 out = root / 'target/wrong'
 parts = ('src', 'specs', 'proofs')
-needs = {name: below.split() for name, below in re.findall(r'^(\w+):(.*)$', (root / 'crates.txt').read_text(), re.M)}
+needs = {name: below.split() for name, below in re.findall(r'^(\w+)(?: staticlib)?:(.*)$', (root / 'crates.txt').read_text(), re.M)}
 
 
 class Bad(Exception):
@@ -43,8 +42,8 @@ def level(crate):
 
 
 def tops():
-    """The libraries that no other one stands on: those that print, and stand on the kit's own, are not meant."""
-    libraries = [crate for crate in needs if all(need in needs for one in (crate, *below(crate)) for need in needs[one])]
+    """The crates with laws that no other such stands on: those that only print are not meant."""
+    libraries = [crate for crate in needs if (root / 'crates' / crate / 'specs').is_dir()]
     return [crate for crate in libraries if not any(crate in below(one) for one in libraries)]
 
 
@@ -111,13 +110,6 @@ def fits(edit):
     text = texts.get(edit.at) or (root / edit.at).read_text()
     if edit.law and not re.search(rf'^ *((private|pub|abbrev) )*{re.escape(edit.law)}( [^:\n]*)? *:', text, re.M):
         raise Bad(f"'law: {edit.law}' is declared nowhere in {edit.at}")
-
-
-def copy(where, crates):
-    for crate in crates:
-        for part in parts:
-            if (root / 'crates' / crate / part).is_dir() and not (where / 'crates' / crate / part).exists():
-                shutil.copytree(root / 'crates' / crate / part, where / 'crates' / crate / part)
 
 
 def apply(edit, where):
