@@ -26,7 +26,6 @@ test:
 	@tools/test
 
 demo:
-	@tools/proved demo tour abi
 	@tools/run demo
 	@tools/run tour
 	@tools/lib
@@ -63,4 +62,4 @@ believed:
 	@tools/believed
 
 clean:
-	rm -rf target rust/target
+	rm -rf target rust/target crates/*/out
