@@ -62,7 +62,9 @@ def begin(where, base, crate, edited):
         part = 'incremental' if {one, *below(one)} & edited or one == crate else 'rlib'
         if (base / 'crates' / one / 'out' / part).is_dir():
             (where / 'crates' / one / 'out').mkdir()
-            subprocess.run(['cp', '-al', base / 'crates' / one / 'out' / part, where / 'crates' / one / 'out'], check=True)
+            # On another disk there are no links to it.
+            if subprocess.run(['cp', '-al', base / 'crates' / one / 'out' / part, where / 'crates' / one / 'out'], stderr=subprocess.DEVNULL, check=False).returncode:
+                subprocess.run(['cp', '-a', base / 'crates' / one / 'out' / part, where / 'crates' / one / 'out'], check=True)
 
 
 def remove(path):
