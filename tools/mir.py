@@ -85,9 +85,10 @@ def resolved(bodies):
     return {name: dataclasses.replace(body, calls=[declared(callee) for callee in body.calls]) for name, body in bodies.items()}
 
 
-def of_crate(folder, made):
-    """The functions of the crate in this folder, by its printed modules, which are written to a new folder; whether or not they are proved."""
-    run = subprocess.run(['rt', 'check', '--generated', made], cwd=folder, stdin=subprocess.DEVNULL, stdout=subprocess.PIPE, stderr=subprocess.STDOUT, text=True, check=False)
+def of_crate(folder, made, functions=()):
+    """The functions of the crate in this folder, or these of them, by its printed modules, which are written to a new folder; whether or not
+    they are proved."""
+    run = subprocess.run(['rt', 'check', '--generated', made, *(word for one in functions for word in ('--start', one))], cwd=folder, stdin=subprocess.DEVNULL, stdout=subprocess.PIPE, stderr=subprocess.STDOUT, text=True, check=False)
     proofs, found = pathlib.Path(made) / f'Rattle-{folder.name}-proofs', {}
     for path in proofs.rglob('Code/Mir.antt'):
         found['::'.join((folder.name, *path.relative_to(proofs).parts[:-2]))] = printed(path.read_text())
