@@ -8,6 +8,7 @@ from edits import Bad
 refused, unproved = r'error: `([^`]+)`: ', r'it is not proved '
 misfit = r'is not in scope(?! here)|has no field|is no name|can be named|is given \d+ argument|is applied to an argument|needs a function'
 misfit += r'|operand is missing|expected the end|cannot continue|was not admitted'
+misfit += r'|is not a field of record|missing field|no implicit argument|is declared but not defined|does not define it'
 # What is not checked since it cites what was refused.
 consequence = r'error: \d+ declarations? that depends? on '
 # The files in which a function's own proof stands.
@@ -31,13 +32,14 @@ def first(said, crates):
     return (found or [('no file', '')])[0]
 
 
-def follows(function, verdict, said):
-    """Whether a function is not proved only because its proof cites a law that was refused, for what it means, beside what it does; or
-    because it calls such a function, which is judged by itself."""
+def follows(function, said):
+    """Whether a function is not proved only because its proof cites a law that was refused, for what it means, beside what it does. A goal
+    that the search leaves open is said of the program's own lines: then something else is not proved, too."""
     crate, *way = function.split('::')
     folder = f'crates/{crate}/proofs/{"/".join(way)}/'
     found = [words for file, words in places(said) if file.startswith(folder) and '/' not in file.removeprefix(folder)]
-    return all(re.match(consequence, words) for words in found) and bool(found or re.search(r'it calls .* not proved', verdict))
+    opened = any(file.startswith(f'crates/{crate}/src/') for file, _ in places(said))
+    return bool(found) and not opened and all(re.match(consequence, words) for words in found)
 
 
 def judge(status, said, edit):
@@ -58,6 +60,6 @@ def judge(status, said, edit):
         raise Bad(f'refused at {file}, but not because something does not hold: {words[:200]}')
     # Where a law must refuse it, the code is what the definitions say, in every crate up to there.
     for function, verdict in re.findall(r'^fn (.*?): (?!proved$)(.*)', said, re.M) if edit.law and not re.search(own_proof, file) else ():
-        if not follows(function, verdict, said):
+        if not follows(function, said):
             raise Bad(f'refused at {file}, but {function} is {verdict}')
     return f'refused at {file}' + (f' by {law}' if edit.law else '')
