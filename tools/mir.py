@@ -11,6 +11,8 @@ import subprocess
 
 # What is called otherwise in the printed modules.
 KINDS = {'Syntax.cond': 'If', 'Syntax.int_big': 'Int'}
+# A callee that a function does not name: a closure, or a function of a type that it is generic over. Each of ours is among the functions itself.
+GIVEN = 'something that it was given'
 
 
 @dataclasses.dataclass
@@ -47,7 +49,7 @@ class Body:
             self.place(parts[0], True)
             self.read(parts[1])
         elif kind == 'Call':
-            self.calls.append(of_kit(parts[0]['Fn'][0]) if 'Fn' in parts[0] else 'something that it was given')
+            self.calls.append(of_kit(parts[0]['Fn'][0]) if 'Fn' in parts[0] else GIVEN)
             self.read(parts[1])
             self.place(parts[2], True)
         elif kind == 'Int' and isinstance(parts, dict):
@@ -58,7 +60,20 @@ class Body:
 
 def of_kit(name):
     """The kit's own crates pass each other's functions on: one name for each."""
-    return re.sub('^core::', 'std::', name)
+    return re.sub('^(std::below::)?core::', 'std::', name)
+
+
+def end(name):
+    """The last two parts of a name: the type, or the module, and the function's own name."""
+    return '::'.join(name.split('::')[-2:])
+
+
+def ends(names):
+    """The names by their ends."""
+    found = {}
+    for name in names:
+        found.setdefault(end(name), []).append(name)
+    return found
 
 
 def of_library(rlib):

@@ -1,5 +1,6 @@
 -- EACH REASON EXACTLY WHEN ITS CAUSE HOLDS, by its number, in a space that is whole; and numbers that name no space, for any bytes.
 use Prim.Native.Nat.{ℕ, ◌<◌, ◌≤◌}
+use Rattle.pool.specs.declared.NotDue.TheVariants as notdue
 use mathlib.Core.Bool.{Bool, true, false, true≢false, cond}
 use mathlib.Core.List.{List}
 use mathlib.Core.Logic.{◌↔◌, ◌⊎◌, inl, inr, ◌≢◌}
@@ -7,14 +8,14 @@ use mathlib.Core.Path.{◌≡◌, refl, sym, ap, ◌∙◌}
 use native.Mathlib.Omega.{arith}
 use lib.ListN.{length}
 use borrow.Author.Tests.{eq-eqb, ne_eqb}
+use Rattle.std.proofs.Common.{Result, Ok, Err}
+use Rattle.pool.specs.declared.NotDue.{NotDue}
 use Rattle.word.specs.Memory.{memory, holds}
 use Rattle.entry.specs.declared.Rights.{Rights}
 use Rattle.walk.specs.Walk.{canonical}
 use Rattle.tables.specs.Roles.{Setting}
 use Rattle.pool.specs.Book.{book_of, due_of}
 use Rattle.pool.specs.Booked.{setting_of}
-use Rattle.pool.specs.declared.Due.{Due}
-use Rattle.pool.specs.declared.Due.TheVariants as due
 use Rattle.pool.specs.declared.Book.{Book}
 use Rattle.plan.specs.Map as map
 use Rattle.plan.specs.Map.{Placed, shape_of, strict_of, allowed_of}
@@ -23,12 +24,7 @@ use Rattle.plan.specs.Rights.{write_execute}
 use Rattle.plan.specs.declared.Reason.{Reason}
 use Rattle.plan.specs.declared.Reason.TheVariants.{BaseRange, NothingStarts, WriteExecute}
 use Rattle.plan.specs.declared.protects.Change.{Change}
-use Rattle.plan.specs.declared.maps.Shape.TheVariants.{Level, Bad}
 use Rattle.plan.specs.declared.unmaps.Removal.{Removal}
-use Rattle.plan.specs.declared.unmaps.Removing.{Removing}
-use Rattle.plan.specs.declared.unmaps.Removing.TheVariants as removing
-use Rattle.plan.specs.declared.protects.Changing.{Changing}
-use Rattle.plan.specs.declared.protects.Changing.TheVariants as changing
 use Rattle.effect.specs.MapRefused.{Cause}
 use Rattle.effect.specs.StartsAt.{StartsAt, NotThere, no_address, none_starts, NotProtected, write_execute_lem, not_there}
 use Rattle.effect.proofs.MapRefused.{map_refused}
@@ -42,7 +38,6 @@ use Rattle.abi.specs.Calls.{site_of, asked_site, shaped_site, strict_site, map_s
 use Rattle.abi.specs.Relied as c
 use Rattle.abi.specs.Relied.{Numbers, space_of, asked, granted, WholeAt, Call, KnownRights, reason, tp_create, tp_map, tp_unmap, tp_protect, tp_told}
 use Rattle.abi.specs.Reasons.{MapReasons, StartReasons, ProtectReasons, ToldReasons, WellShaped, AsksBoth, SiteReasons, CreateReasons}
-use Rattle.abi.specs.declared.sites.Sited.TheVariants.{Refused}
 use Rattle.abi.proofs.Named.{rights_granted, map_answers, unmap_answers, protect_answers, told_answers}
 use Rattle.abi.proofs.Meant.{below_8, meant, rights_causes, map_given, protect_given}
 use Rattle.abi.proofs.Reasons.{one_reason, never_done, never_rights}
@@ -54,25 +49,25 @@ unfolding mapped_to_c the.map_said
 map_number (map.Go p) y = (λ e. absurd (never_done y (sym e)), λ e. let z : ◌≡◌ {A = ℕ} 0 1 = cc in absurd (omega arith))
 map_number (map.Refused x) y = (λ e. ap map.Refused (one_reason x y e), λ e. let same : x ≡ y = cc in ap reason_of same)
 
-unmap_number : (b : Book) (d : Removing) (y : Reason) → ((unmapped_to_c (the.unmap_said b d)).reason ≡ reason_of y) ↔ (d ≡ removing.Refused y)
+unmap_number : (b : Book) (d : Result Removal Reason) (y : Reason) → ((unmapped_to_c (the.unmap_said b d)).reason ≡ reason_of y) ↔ (d ≡ Err y)
 unfolding unmapped_to_c the.unmap_said
-unmap_number b (removing.Go p) y = (λ e. absurd (never_done y (sym e)), λ e. let z : ◌≡◌ {A = ℕ} 0 1 = cc in absurd (omega arith))
-unmap_number b (removing.Refused x) y = (λ e. ap removing.Refused (one_reason x y e), λ e. let same : x ≡ y = cc in ap reason_of same)
+unmap_number b (Ok p) y = (λ e. absurd (never_done y (sym e)), λ e. let z : ◌≡◌ {A = ℕ} 0 1 = cc in absurd (omega arith))
+unmap_number b (Err x) y = (λ e. ap Err (one_reason x y e), λ e. let same : x ≡ y = cc in ap reason_of same)
 
-unmap_zero : (b : Book) (d : Removing) → ((unmapped_to_c (the.unmap_said b d)).reason ≡ 0) ↔ ((r : Removal) × (d ≡ removing.Go r))
+unmap_zero : (b : Book) (d : Result Removal Reason) → ((unmapped_to_c (the.unmap_said b d)).reason ≡ 0) ↔ ((r : Removal) × (d ≡ Ok r))
 unfolding unmapped_to_c the.unmap_said
-unmap_zero b (removing.Go p) = (λ e. (p, refl), λ k. refl)
-unmap_zero b (removing.Refused x) = (λ e. absurd (never_done x e), λ k. let z : ◌≡◌ {A = ℕ} 0 1 = cc k.1 in absurd (omega arith))
+unmap_zero b (Ok p) = (λ e. (p, refl), λ k. refl)
+unmap_zero b (Err x) = (λ e. absurd (never_done x e), λ k. let z : ◌≡◌ {A = ℕ} 0 1 = cc k.1 in absurd (omega arith))
 
-protect_number : (d : Changing) (y : Reason) → ((protected_to_c (the.protect_said d)).reason ≡ reason_of y) ↔ (d ≡ changing.Refused y)
+protect_number : (d : Result Change Reason) (y : Reason) → ((protected_to_c (the.protect_said d)).reason ≡ reason_of y) ↔ (d ≡ Err y)
 unfolding protected_to_c the.protect_said
-protect_number (changing.Go p) y = (λ e. absurd (never_done y (sym e)), λ e. let z : ◌≡◌ {A = ℕ} 0 1 = cc in absurd (omega arith))
-protect_number (changing.Refused x) y = (λ e. ap changing.Refused (one_reason x y e), λ e. let same : x ≡ y = cc in ap reason_of same)
+protect_number (Ok p) y = (λ e. absurd (never_done y (sym e)), λ e. let z : ◌≡◌ {A = ℕ} 0 1 = cc in absurd (omega arith))
+protect_number (Err x) y = (λ e. ap Err (one_reason x y e), λ e. let same : x ≡ y = cc in ap reason_of same)
 
-protect_zero : (d : Changing) → ((protected_to_c (the.protect_said d)).reason ≡ 0) ↔ ((g : Change) × (d ≡ changing.Go g))
+protect_zero : (d : Result Change Reason) → ((protected_to_c (the.protect_said d)).reason ≡ 0) ↔ ((g : Change) × (d ≡ Ok g))
 unfolding protected_to_c the.protect_said
-protect_zero (changing.Go p) = (λ e. (p, refl), λ k. refl)
-protect_zero (changing.Refused x) = (λ e. absurd (never_done x e), λ k. let z : ◌≡◌ {A = ℕ} 0 1 = cc k.1 in absurd (omega arith))
+protect_zero (Ok p) = (λ e. (p, refl), λ k. refl)
+protect_zero (Err x) = (λ e. absurd (never_done x e), λ k. let z : ◌≡◌ {A = ℕ} 0 1 = cc k.1 in absurd (omega arith))
 
 -- two equivalences, one after the other
 along : {A B D : Type 0} → A ↔ B → B ↔ D → A ↔ D
@@ -192,9 +187,9 @@ module _ (s : List ℕ) (n : Numbers) (w : WholeAt s n) where
     unfolding the.protect_answer protected_to_c the.protect_said
     not_rights l = rw (protect_answers n w.aligned s base rights l) (go (protect.decide_of (holds s n.origin) (memory s n.origin) (space_of n) base (granted rights)))
       where
-        go : (d : Changing) → (protected_to_c (the.protect_said d)).reason ≢ number_of why.rights
-        go (changing.Go p) e = omega (arith, e)
-        go (changing.Refused y) e = never_rights y e
+        go : (d : Result Change Reason) → (protected_to_c (the.protect_said d)).reason ≢ number_of why.rights
+        go (Ok p) e = omega (arith, e)
+        go (Err y) e = never_rights y e
 
     pub protect_causes : ProtectReasons (tp_protect s n base rights).reason rights base (StartsAt (setting_of (holds s n.origin) (space_of n)) (memory s n.origin) base)
     unfolding reason
@@ -224,58 +219,58 @@ module _ (s : List ℕ) (n : Numbers) (w : WholeAt s n) where
       none : {A : Type 0} → ◌≡◌ {A = ℕ} 0 1 → A
       none z = absurd (omega arith)
 
-      zero : (d : Due) → ((told_to_c (the.due_said d)).reason ≡ 0) ↔ ((k : ℕ) × (d ≡ due.Pages k))
-      zero (due.Pages k) = (λ e. (k, refl), λ x. refl)
-      zero due.Unknown = (λ e. absurd (omega arith), λ x. none (cc x.1))
-      zero due.Spent = (λ e. absurd (omega arith), λ x. none (cc x.1))
+      zero : (d : Result ℕ NotDue) → ((told_to_c (the.due_said d)).reason ≡ 0) ↔ ((k : ℕ) × (d ≡ Ok k))
+      zero (Ok k) = (λ e. (k, refl), λ x. refl)
+      zero (Err notdue.Unknown) = (λ e. absurd (omega arith), λ x. none (cc x.1))
+      zero (Err notdue.Spent) = (λ e. absurd (omega arith), λ x. none (cc x.1))
 
-      strange : (d : Due) → ((told_to_c (the.due_said d)).reason ≡ number_of why.unknown) ↔ (d ≡ due.Unknown)
-      strange (due.Pages k) = (λ e. absurd (omega arith), λ e. none cc)
-      strange due.Unknown = (λ e. refl, λ e. refl)
-      strange due.Spent = (λ e. absurd (omega arith), λ e. none cc)
+      strange : (d : Result ℕ NotDue) → ((told_to_c (the.due_said d)).reason ≡ number_of why.unknown) ↔ (d ≡ Err notdue.Unknown)
+      strange (Ok k) = (λ e. absurd (omega arith), λ e. none cc)
+      strange (Err notdue.Unknown) = (λ e. refl, λ e. refl)
+      strange (Err notdue.Spent) = (λ e. absurd (omega arith), λ e. none cc)
 
-      late : (d : Due) → ((told_to_c (the.due_said d)).reason ≡ number_of why.spent) ↔ (d ≡ due.Spent)
-      late (due.Pages k) = (λ e. absurd (omega arith), λ e. none cc)
-      late due.Unknown = (λ e. absurd (omega arith), λ e. none cc)
-      late due.Spent = (λ e. refl, λ e. refl)
+      late : (d : Result ℕ NotDue) → ((told_to_c (the.due_said d)).reason ≡ number_of why.spent) ↔ (d ≡ Err notdue.Spent)
+      late (Ok k) = (λ e. absurd (omega arith), λ e. none cc)
+      late (Err notdue.Unknown) = (λ e. absurd (omega arith), λ e. none cc)
+      late (Err notdue.Spent) = (λ e. refl, λ e. refl)
 
 -- Numbers that name no space -------------------------------------------------------------------------------------------------------------
 
 module _ (s : List ℕ) (n : Numbers) where
   -- what map is asked, in its parts
-  asked_shape : (base frame size rights l : ℕ) (b : Bool) → shape_of size base frame ≡ Level l → write_execute (granted rights) ≡ b
-      → allowed_of (ask base frame size rights) ≡ cond b (Bad WriteExecute) (Level l)
+  asked_shape : (base frame size rights l : ℕ) (b : Bool) → shape_of size base frame ≡ Ok l → write_execute (granted rights) ≡ b
+      → allowed_of (ask base frame size rights) ≡ cond b (Err WriteExecute) (Ok l)
   unfolding allowed_of strict_of
   asked_shape base frame size rights l b e x = rw (e, rights_granted rights, x)
 
   -- what every call says of it
-  refused_says : (x : Call) → KnownRights x → WellShaped x → AsksBoth false x → (k : ℕ) → site_of n.origin n.pool n.pages n.root ≡ Refused k → reason s n x ≡ k
+  refused_says : (x : Call) → KnownRights x → WellShaped x → AsksBoth false x → (k : ℕ) → site_of n.origin n.pool n.pages n.root ≡ Err k → reason s n x ≡ k
   unfolding reason asked_site shaped_site strict_site map_answer unmap_answer protect_answer told_answer
   refused_says (c.map base frame size rights) m l b k e =
-      let site : map_site n.origin n.pool n.pages n.root base frame size rights ≡ Refused k = meant rights _ m ∙ rw (asked_shape base frame size rights l.0 false l.1 b) e in
+      let site : map_site n.origin n.pool n.pages n.root base frame size rights ≡ Err k = meant rights _ m ∙ rw (asked_shape base frame size rights l.0 false l.1 b) e in
       ap (λ x. (map_answer s (ask base frame size rights) x).reason) site
   refused_says (c.unmap base) m l b k e = ap (λ x. (unmap_answer s base x).reason) e
   refused_says (c.protect base rights) m l b k e =
-      let site : protect_site n.origin n.pool n.pages n.root rights ≡ Refused k = meant rights _ m ∙ rw (rights_granted rights, b) e in
+      let site : protect_site n.origin n.pool n.pages n.root rights ≡ Err k = meant rights _ m ∙ rw (rights_granted rights, b) e in
       ap (λ x. (protect_answer s base (rights_in rights) x).reason) site
   refused_says (c.told ticket) m l b k e = ap (λ x. (told_answer s ticket x).reason) e
 
   -- what map is asked comes before
-  pub shape_causes : (base frame size rights : ℕ) → rights < 8 → (y : Reason) → shape_of size base frame ≡ Bad y → (tp_map s n base frame size rights).reason ≡ reason_of y
+  pub shape_causes : (base frame size rights : ℕ) → rights < 8 → (y : Reason) → shape_of size base frame ≡ Err y → (tp_map s n base frame size rights).reason ≡ reason_of y
   unfolding asked_site shaped_site allowed_of strict_of map_answer
   shape_causes base frame size rights m y e =
-      let site : map_site n.origin n.pool n.pages n.root base frame size rights ≡ Refused (reason_of y) = meant rights _ m ∙ rw e in
+      let site : map_site n.origin n.pool n.pages n.root base frame size rights ≡ Err (reason_of y) = meant rights _ m ∙ rw e in
       ap (λ x. (map_answer s (ask base frame size rights) x).reason) site
 
   -- then whether the page would be writable and executable
   pub both_causes : (x : Call) → KnownRights x → WellShaped x → AsksBoth true x → reason s n x ≡ reason_of WriteExecute
   unfolding reason asked_site shaped_site strict_site map_answer protect_answer
   both_causes (c.map base frame size rights) m l b =
-      let site : map_site n.origin n.pool n.pages n.root base frame size rights ≡ Refused (reason_of WriteExecute) = meant rights _ m ∙ rw (asked_shape base frame size rights l.0 true l.1 b) in
+      let site : map_site n.origin n.pool n.pages n.root base frame size rights ≡ Err (reason_of WriteExecute) = meant rights _ m ∙ rw (asked_shape base frame size rights l.0 true l.1 b) in
       ap (λ x. (map_answer s (ask base frame size rights) x).reason) site
   both_causes (c.unmap base) m l b = absurd (true≢false b)
   both_causes (c.protect base rights) m l b =
-      let site : protect_site n.origin n.pool n.pages n.root rights ≡ Refused (reason_of WriteExecute) = meant rights _ m ∙ rw (rights_granted rights, b) in
+      let site : protect_site n.origin n.pool n.pages n.root rights ≡ Err (reason_of WriteExecute) = meant rights _ m ∙ rw (rights_granted rights, b) in
       ap (λ x. (protect_answer s base (rights_in rights) x).reason) site
   both_causes (c.told ticket) m l b = absurd (true≢false b)
 

@@ -7,6 +7,8 @@ use native.Mathlib.Omega.{arith}
 use lib.Dec.{eqb}
 use lib.ListN.{length}
 use borrow.Author.Tests.{eq-eqb, eqb-true}
+use Rattle.std.proofs.Common.{Result, Ok, Err}
+use Rattle.pool.specs.declared.Reason.{Reason}
 use Rattle.word.specs.Memory.{holds}
 use Rattle.word.specs.Writes.{carried}
 use Rattle.walk.specs.Walk.{canonical}
@@ -15,10 +17,6 @@ use Rattle.pool.proofs.Words.{book_some}
 use Rattle.pool.specs.Book.{room_of}
 use Rattle.pool.specs.Booked.{new_role}
 use Rattle.pool.specs.Create.{created_of, created_in, create_writes, create_in, new_space, may_create}
-use Rattle.pool.specs.declared.Created as of_pool
-use Rattle.pool.specs.declared.Created.TheVariants as create
-use Rattle.pool.specs.declared.Fit.{Fit}
-use Rattle.pool.specs.declared.Fit.TheVariants as fit
 use Rattle.pool.specs.declared.Reason.TheVariants.{OriginUnaligned, LengthUnaligned}
 use Rattle.effect.proofs.Wholes.{root_in}
 use Rattle.tablepath.proofs.Witness.{nothing_yet}
@@ -35,8 +33,8 @@ use Rattle.abi.proofs.RoundTrips.{looks, nothing_is}
 
 module _ (s : List ℕ) (origin pool pages : ℕ) where
   -- what may be made, by the two tests of the window
-  fits : Bool → Bool → Fit
-  fits x y = cond x (cond y (room_of (holds s origin) (pool / 4096) pages) (fit.Refused LengthUnaligned)) (fit.Refused OriginUnaligned)
+  fits : Bool → Bool → Result (Unit {0}) Reason
+  fits x y = cond x (cond y (room_of (holds s origin) (pool / 4096) pages) (Err LengthUnaligned)) (Err OriginUnaligned)
 
   -- OF A POOL AT A PAGE BOUNDARY, it is the operation: the answer and the bytes
   create_answers : pool % 4096 ≡ 0 → tp_create s origin pool pages ≡ created_to_c (created_of (length s) (holds s origin) origin (pool / 4096) pages)
@@ -77,10 +75,10 @@ module _ (s : List ℕ) (origin pool pages : ℕ) where
       go true false false f k = absurd (omega arith)
       go false y false f k = absurd (omega arith)
 
-  root_page : (a : of_pool.Created) → (created_to_c a).root % 4096 ≡ 0
+  root_page : (a : Result ℕ Reason) → (created_to_c a).root % 4096 ≡ 0
   unfolding created_to_c
-  root_page (create.Root p) = omega arith
-  root_page (create.Refused y) = refl
+  root_page (Ok p) = omega arith
+  root_page (Err y) = refl
 
   -- DONE: the space is whole, and empty
   pub create_done : (tp_create s origin pool pages).reason ≡ 0 → CreateDone s origin pool pages

@@ -8,13 +8,14 @@ use mathlib.Core.Path.{◌≡◌, sym, ap, ◌∙◌, subst}
 use native.Mathlib.Decide.{ℕ_discrete}
 use native.Mathlib.Omega.{arith}
 use borrow.Author.Tests.{eq-eqb, ne_eqb}
+use Rattle.std.proofs.Common.{Result, Ok, Err}
+use Rattle.plan.specs.declared.Reason.{Reason}
+use Rattle.pool.specs.declared.Space.{Space}
 use Rattle.word.specs.Memory.{memory, holds}
 use Rattle.plan.specs.Map.{allowed_of}
 use Rattle.plan.specs.Rights.{write_execute}
 use Rattle.plan.specs.declared.Reason.TheVariants.{WriteExecute}
 use Rattle.plan.specs.declared.maps.Asked.{Asked}
-use Rattle.plan.specs.declared.maps.Shape.{Shape}
-use Rattle.plan.specs.declared.maps.Shape.TheVariants.{Level, Bad}
 use Rattle.tablepath.specs.Handles as the
 use Rattle.tablepath.proofs.Handles.{other_numbers, other_first, others_kept}
 use Rattle.abi.specs.ReasonNumbers.{reason_of, number_of, pool_unaligned, root_unaligned}
@@ -23,8 +24,6 @@ use Rattle.abi.specs.Calls.{site_of, shaped_site, asked_site, strict_site, ask, 
 use Rattle.abi.specs.Relied as c
 use Rattle.abi.specs.Relied.{Numbers, AlignedNumbers, space_of, WholeAt, Call, call_of, leaves, reason}
 use Rattle.abi.specs.Handles.{Rejected, Disjoint}
-use Rattle.abi.specs.declared.sites.Sited.{Sited}
-use Rattle.abi.specs.declared.sites.Sited.TheVariants.{Refused}
 use Rattle.abi.proofs.Named.{call_leaves, map_answers, unmap_answers, protect_answers, told_answers}
 use Rattle.abi.proofs.Reasons.{never_done, pool_never_done}
 use Rattle.abi.proofs.Refusals.{call_refused}
@@ -44,32 +43,32 @@ module _ (s : List ℕ) (n : Numbers) where
       pool_never_done k.refused.0 (ap (λ y. (told_to_c y).reason) (sym k.refused.1) ∙ ap (λ y. y.reason) (sym (told_answers n a s ticket)) ∙ e)
 
   -- and so have numbers that name no space
-  shaped_astray : (q : Asked) (z : Shape) (y : ℕ) → y ≢ 0 → (map_answer s q (shaped_site z (Refused y))).reason ≢ 0
+  shaped_astray : (q : Asked) (z : Result ℕ Reason) (y : ℕ) → y ≢ 0 → (map_answer s q (shaped_site z (Err y))).reason ≢ 0
   unfolding map_answer shaped_site
-  shaped_astray q (Level l) y d = d
-  shaped_astray q (Bad r) y d = never_done r
+  shaped_astray q (Ok l) y d = d
+  shaped_astray q (Err r) y d = never_done r
 
-  strict_astray : (base rights y : ℕ) → y ≢ 0 → (protect_answer s base (rights_in rights) (strict_site rights (Refused y))).reason ≢ 0
+  strict_astray : (base rights y : ℕ) → y ≢ 0 → (protect_answer s base (rights_in rights) (strict_site rights (Err y))).reason ≢ 0
   unfolding protect_answer strict_site
   strict_astray base rights y d = go (write_execute (rights_in rights))
     where
-      go : (b : Bool) → (protect_answer s base (rights_in rights) (cond b (Refused (reason_of WriteExecute)) (Refused y))).reason ≢ 0
+      go : (b : Bool) → (protect_answer s base (rights_in rights) (cond b (Err (reason_of WriteExecute)) (Err y))).reason ≢ 0
       go true = never_done WriteExecute
       go false = d
 
-  astray : (y : ℕ) → y ≢ 0 → site_of n.origin n.pool n.pages n.root ≡ Refused y → (x : Call) → reason s n x ≢ 0
+  astray : (y : ℕ) → y ≢ 0 → site_of n.origin n.pool n.pages n.root ≡ Err y → (x : Call) → reason s n x ≢ 0
   unfolding reason unmap_answer protect_answer told_answer asked_site
   astray y d e (c.map base frame size rights) k =
       let q = ask base frame size rights in
       let m = meant rights (asked_site n.origin n.pool n.pages n.root q) (map_meant s n base frame size rights k) in
-      let j : (map_answer s q (shaped_site (allowed_of q) (site_of n.origin n.pool n.pages n.root))).reason ≡ 0 = subst (λ (z : Sited). (map_answer s q z).reason ≡ 0) m k in
-      shaped_astray q (allowed_of q) y d (subst (λ (z : Sited). (map_answer s q (shaped_site (allowed_of q) z)).reason ≡ 0) e j)
-  astray y d e (c.unmap base) k = d (subst (λ (z : Sited). (unmap_answer s base z).reason ≡ 0) e k)
+      let j : (map_answer s q (shaped_site (allowed_of q) (site_of n.origin n.pool n.pages n.root))).reason ≡ 0 = subst (λ (z : Result Space ℕ). (map_answer s q z).reason ≡ 0) m k in
+      shaped_astray q (allowed_of q) y d (subst (λ (z : Result Space ℕ). (map_answer s q (shaped_site (allowed_of q) z)).reason ≡ 0) e j)
+  astray y d e (c.unmap base) k = d (subst (λ (z : Result Space ℕ). (unmap_answer s base z).reason ≡ 0) e k)
   astray y d e (c.protect base rights) k =
       let m = meant rights (strict_site rights (site_of n.origin n.pool n.pages n.root)) (protect_meant s n base rights k) in
-      let j : (protect_answer s base (rights_in rights) (strict_site rights (site_of n.origin n.pool n.pages n.root))).reason ≡ 0 = subst (λ (z : Sited). (protect_answer s base (rights_in rights) z).reason ≡ 0) m k in
-      strict_astray base rights y d (subst (λ (z : Sited). (protect_answer s base (rights_in rights) (strict_site rights z)).reason ≡ 0) e j)
-  astray y d e (c.told ticket) k = d (subst (λ (z : Sited). (told_answer s ticket z).reason ≡ 0) e k)
+      let j : (protect_answer s base (rights_in rights) (strict_site rights (site_of n.origin n.pool n.pages n.root))).reason ≡ 0 = subst (λ (z : Result Space ℕ). (protect_answer s base (rights_in rights) z).reason ≡ 0) m k in
+      strict_astray base rights y d (subst (λ (z : Result Space ℕ). (protect_answer s base (rights_in rights) (strict_site rights z)).reason ≡ 0) e j)
+  astray y d e (c.told ticket) k = d (subst (λ (z : Result Space ℕ). (told_answer s ticket z).reason ≡ 0) e k)
 
   rejected : (x : Call) → reason s n x ≢ 0 → Rejected s n x
   rejected x d = record { refused = d; untouched = call_refused s n x d }
@@ -77,7 +76,7 @@ module _ (s : List ℕ) (n : Numbers) where
   -- A CALL IS REJECTED where its numbers are not aligned, or tablepath rejects it
   data Alignment : Type 0 where
     aligned : AlignedNumbers n → Alignment
-    unaligned : (y : ℕ) → y ≢ 0 → site_of n.origin n.pool n.pages n.root ≡ Refused y → Alignment
+    unaligned : (y : ℕ) → y ≢ 0 → site_of n.origin n.pool n.pages n.root ≡ Err y → Alignment
 
   alignment : Alignment
   unfolding site_of

@@ -1,4 +1,5 @@
 pub mod Rooted
+pub mod Reported
 pub mod Walked
 pub mod Asked
 pub mod Shortcut

@@ -7,14 +7,14 @@ use mathlib.Core.Path.{◌≡◌, refl, sym, ap, ◌∙◌}
 use native.Mathlib.Omega.{arith}
 use lib.Dec.{ltb}
 use borrow.Author.Tests.{lt-ltb, le-ltb, ltb-true, ltb-false}
+use Rattle.std.proofs.Common.{Result, Err}
+use Rattle.pool.specs.declared.Space.{Space}
 use Rattle.abi.specs.ReasonNumbers as why
 use Rattle.abi.specs.ReasonNumbers.{number_of}
 use Rattle.abi.specs.Answers.{rights_in}
 use Rattle.abi.specs.Calls.{site_of, asked_site, strict_site, ask, rights_site, bytes_after, map_answer, protect_answer}
 use Rattle.abi.specs.Relied as c
 use Rattle.abi.specs.Relied.{Numbers, Call, KnownRights, leaves, reason, tp_map, tp_protect}
-use Rattle.abi.specs.declared.sites.Sited.{Sited}
-use Rattle.abi.specs.declared.sites.Sited.TheVariants.{Refused}
 
 pub below_8 : (rights : ℕ) → (rights < 8) ⊎ (8 ≤ rights)
 below_8 rights = go (ltb rights 8) refl
@@ -23,11 +23,11 @@ below_8 rights = go (ltb rights 8) refl
     go true e = inl (ltb-true rights 8 e)
     go false e = inr (ltb-false rights 8 e)
 
-pub meant : (rights : ℕ) (x : Sited) → rights < 8 → rights_site rights x ≡ x
+pub meant : (rights : ℕ) (x : Result Space ℕ) → rights < 8 → rights_site rights x ≡ x
 unfolding rights_site
 meant rights x l = rw (lt-ltb rights 8 l)
 
-pub meaningless : (rights : ℕ) (x : Sited) → 8 ≤ rights → rights_site rights x ≡ Refused (number_of why.rights)
+pub meaningless : (rights : ℕ) (x : Result Space ℕ) → 8 ≤ rights → rights_site rights x ≡ Err (number_of why.rights)
 unfolding rights_site
 meaningless rights x l = rw (le-ltb rights 8 l)
 

@@ -6,6 +6,7 @@ use mathlib.Core.Path.{◌≡◌, refl, ◌∙◌}
 use native.Mathlib.Omega.{arith}
 use lib.Dec.{eqb}
 use borrow.Author.Tests.{eq-eqb, eqb-true, eqb-false}
+use Rattle.std.proofs.Common.{Ok}
 use Rattle.word.specs.Memory.{memory, holds}
 use Rattle.word.specs.Writes.{carried}
 use Rattle.entry.specs.Entry.{bit}
@@ -17,7 +18,6 @@ use Rattle.abi.specs.Answers.{rights_in, rights_word, mapped_to_c, unmapped_to_c
 use Rattle.abi.specs.Calls.{site_of, asked_site, strict_site, ask, bytes_after, unmap_answer, told_answer, state_answer}
 use Rattle.abi.specs.Relied as c
 use Rattle.abi.specs.Relied.{Numbers, AlignedNumbers, space_of, Call, KnownRights, call_of, granted, asked, leaves, tp_map, tp_unmap, tp_protect, tp_told, tp_state}
-use Rattle.abi.specs.declared.sites.Sited.TheVariants.{At}
 use Rattle.abi.proofs.Asked.{answer_asked, bytes_asked, strict_answer, strict_bytes}
 use Rattle.abi.proofs.Meant.{meant}
 
@@ -47,7 +47,7 @@ rights_back w =
 -- Calls ------------------------------------------------------------------------------------------------------------------------------
 
 module _ (n : Numbers) (a : AlignedNumbers n) where
-  pub named : site_of n.origin n.pool n.pages n.root ≡ At (space_of n)
+  pub named : site_of n.origin n.pool n.pages n.root ≡ Ok (space_of n)
   unfolding site_of
   named = rw (eq-eqb _ _ a.pool, eq-eqb _ _ a.root)
 

@@ -4,12 +4,11 @@ use mathlib.Core.List.{List}
 use mathlib.Core.Logic.{◌⊎◌, inl, inr}
 use mathlib.Core.Path.{◌≡◌, refl, sym, ap, ◌∙◌, subst}
 use native.Mathlib.Omega.{arith}
+use Rattle.std.proofs.Common.{Ok}
 use Rattle.entry.specs.declared.Rights.{Rights}
 use Rattle.walk.specs.declared.Found.{Found}
 use Rattle.walk.specs.declared.Found.TheVariants as found
 use Rattle.tablepath.specs.Calls.{call_writes}
-use Rattle.tablepath.specs.declared.Unmapped.TheVariants as unmap
-use Rattle.tablepath.specs.declared.Report.TheVariants as report
 use Rattle.tablepath.specs.declared.Gone.{Gone}
 use Rattle.tablepath.specs.Looks as the_laws
 use Rattle.tablepath.specs.Looks.{look_up}
@@ -112,7 +111,7 @@ module _ (s : List ℕ) (n : Numbers) (w : WholeAt s n) (base frame size rights 
   after : List ℕ
   after = leaves s n (c.map base frame size rights)
 
-  answers : (g : Gone) × (tp_unmap after n base ≡ unmapped_to_c (unmap.Done g)) × (g.frame ≡ frame) × (g.size ≡ size)
+  answers : (g : Gone) × (tp_unmap after n base ≡ unmapped_to_c (Ok g)) × (g.frame ≡ frame) × (g.size ≡ size)
   unfolding after call_of call_writes
   answers =
       let l = map_meant s n base frame size rights mapped in
@@ -141,7 +140,7 @@ module _ (s : List ℕ) (n : Numbers) (w : WholeAt s n) (base frame size rights 
 
 -- TOLD AFTER UNMAP takes its ticket, as long as fewer than 2^62 tables were ever set aside
 module _ (s : List ℕ) (n : Numbers) (w : WholeAt s n) (base : ℕ) (done : (tp_unmap s n base).reason ≡ 0) (early : (tp_unmap s n base).ticket ≤ 2 ^ 62) where
-  released : (k : ℕ) × (tp_told (leaves s n (c.unmap base)) n (tp_unmap s n base).ticket ≡ told_to_c (report.Released k)) × ((tp_unmap s n base).aside ≤ k)
+  released : (k : ℕ) × (tp_told (leaves s n (c.unmap base)) n (tp_unmap s n base).ticket ≡ told_to_c (Ok k)) × ((tp_unmap s n base).aside ≤ k)
   unfolding call_of call_writes
   released =
       let k = told_after_unmap s (space_of n) w.role w.whole base _ ((unmap_says s n w.aligned base).done done) early in

@@ -1,31 +1,26 @@
 -- THE ANSWER TELLS THE OPERATION'S: from the numbers that C gets, field by field, what the operation answered is known again, for any bytes.
 use Prim.Native.Nat.{ℕ, ◌<◌}
+use Rattle.tablepath.specs.declared.NotReleased.TheVariants as notreleased
 use mathlib.Core.List.{List}
 use mathlib.Core.Bool.{false}
 use mathlib.Core.Logic.{inl, inr, ◌↔◌}
 use mathlib.Core.Path.{◌≡◌, refl, sym, ap, ◌∙◌}
 use native.Mathlib.Omega.{arith}
+use Rattle.std.proofs.Common.{Result, Ok, Err}
+use Rattle.plan.specs.declared.Reason.{Reason}
+use Rattle.tablepath.specs.declared.Gone.{Gone}
+use Rattle.tablepath.specs.declared.Altered.{Altered}
+use Rattle.tablepath.specs.declared.NotReleased.{NotReleased}
+use Rattle.pool.specs.declared.moment.Counts.{Counts}
 use Rattle.word.specs.Memory.{memory, holds}
 use Rattle.walk.specs.Walk.{canonical, walk}
 use Rattle.walk.specs.declared.Found.{Found}
 use Rattle.walk.specs.declared.Found.TheVariants as found
 use Rattle.walk.proofs.Ranges.{no_address_only}
 use Rattle.pool.specs.declared.Reason as in_pool
-use Rattle.pool.specs.declared.Created as of_pool
-use Rattle.pool.specs.declared.Created.TheVariants as create
 use Rattle.pool.specs.State.{state_of}
-use Rattle.pool.specs.declared.moment.Stated.{Stated}
-use Rattle.pool.specs.declared.moment.Stated.TheVariants as state
 use Rattle.plan.specs.declared.Reason.TheVariants as plan
 use Rattle.tablepath.specs.Answers as the
-use Rattle.tablepath.specs.declared.Mapped as of_map
-use Rattle.tablepath.specs.declared.Mapped.TheVariants as map
-use Rattle.tablepath.specs.declared.Unmapped as of_unmap
-use Rattle.tablepath.specs.declared.Unmapped.TheVariants as unmap
-use Rattle.tablepath.specs.declared.Protected as of_protect
-use Rattle.tablepath.specs.declared.Protected.TheVariants as protect
-use Rattle.tablepath.specs.declared.Report.{Report}
-use Rattle.tablepath.specs.declared.Report.TheVariants as report
 use Rattle.abi.specs.ReasonNumbers.{reason_of, pool_reason, number_of}
 use Rattle.abi.specs.Answers.{rights_word, created_to_c, mapped_to_c, unmapped_to_c, protected_to_c, told_to_c, uncounted, counted_to_c, looked_up_to_c}
 use Rattle.abi.specs.Relied.{Numbers, AlignedNumbers, space_of, granted, asked, tp_map, tp_unmap, tp_protect, tp_told, tp_state, tp_look_up}
@@ -40,72 +35,72 @@ clash e = absurd (omega arith)
 
 -- Structs --------------------------------------------------------------------------------------------------------------------------
 
-pub created_says : (a : of_pool.Created) → CreateSays (created_to_c a) a
+pub created_says : (a : Result ℕ in_pool.Reason) → CreateSays (created_to_c a) a
 unfolding created_to_c
-created_says (create.Root p) = record { done = λ e. ap create.Root (omega arith); refused = λ y e. absurd (pool_never_done y (sym e)); known = inl refl }
-created_says (create.Refused z) = record {
+created_says (Ok p) = record { done = λ e. ap Ok (omega arith); refused = λ y e. absurd (pool_never_done y (sym e)); known = inl refl }
+created_says (Err z) = record {
   done = λ e. absurd (pool_never_done z e);
-  refused = λ y e. ap create.Refused (one_pool_reason z y e);
+  refused = λ y e. ap Err (one_pool_reason z y e);
   known = inr (z, refl);
 }
 
-mapped_says : (a : of_map.Mapped) → MapSays (mapped_to_c a) a
+mapped_says : (a : Result ℕ Reason) → MapSays (mapped_to_c a) a
 unfolding mapped_to_c
-mapped_says (map.Done k) = record { done = λ e. refl; refused = λ y e. absurd (never_done y (sym e)); known = inl refl }
-mapped_says (map.Refused z) = record { done = λ e. absurd (never_done z e); refused = λ y e. ap map.Refused (one_reason z y e); known = inr (z, refl) }
+mapped_says (Ok k) = record { done = λ e. refl; refused = λ y e. absurd (never_done y (sym e)); known = inl refl }
+mapped_says (Err z) = record { done = λ e. absurd (never_done z e); refused = λ y e. ap Err (one_reason z y e); known = inr (z, refl) }
 
-unmapped_says : (a : of_unmap.Unmapped) → UnmapSays (unmapped_to_c a) a
+unmapped_says : (a : Result Gone Reason) → UnmapSays (unmapped_to_c a) a
 unfolding unmapped_to_c
-unmapped_says (unmap.Done g) = record { done = λ e. refl; refused = λ y e. absurd (never_done y (sym e)); known = inl refl }
-unmapped_says (unmap.Refused z) = record { done = λ e. absurd (never_done z e); refused = λ y e. ap unmap.Refused (one_reason z y e); known = inr (z, refl) }
+unmapped_says (Ok g) = record { done = λ e. refl; refused = λ y e. absurd (never_done y (sym e)); known = inl refl }
+unmapped_says (Err z) = record { done = λ e. absurd (never_done z e); refused = λ y e. ap Err (one_reason z y e); known = inr (z, refl) }
 
-protected_says : (a : of_protect.Protected) → ProtectSays (protected_to_c a) a
+protected_says : (a : Result Altered Reason) → ProtectSays (protected_to_c a) a
 unfolding protected_to_c
-protected_says (protect.Done g) = record { done = λ e. refl; refused = λ y e. absurd (never_done y (sym e)); known = inl refl }
-protected_says (protect.Refused z) = record { done = λ e. absurd (never_done z e); refused = λ y e. ap protect.Refused (one_reason z y e); known = inr (z, refl) }
+protected_says (Ok g) = record { done = λ e. refl; refused = λ y e. absurd (never_done y (sym e)); known = inl refl }
+protected_says (Err z) = record { done = λ e. absurd (never_done z e); refused = λ y e. ap Err (one_reason z y e); known = inr (z, refl) }
 
 -- a reason of the pool is neither of told's own
 not_told : (y : in_pool.Reason) (x : why.Outcome) → pool_reason y ≡ number_of x → why.refused (plan.Pool y) ≡ x
 unfolding reason_of
 not_told y x e = one_number (why.refused (plan.Pool y)) x e
 
-told_struct : (a : Report) → ToldSays (told_to_c a) a
+told_struct : (a : Result ℕ NotReleased) → ToldSays (told_to_c a) a
 unfolding told_to_c
-told_struct (report.Released k) = record {
+told_struct (Ok k) = record {
   done = λ e. refl;
   unknown = λ e. absurd (omega arith);
   spent = λ e. absurd (omega arith);
   refused = λ y e. absurd (pool_never_done y (sym e));
   known = inl refl;
 }
-told_struct report.Unknown = record {
+told_struct (Err notreleased.Unknown) = record {
   done = λ e. absurd (omega arith);
   unknown = λ e. refl;
   spent = λ e. absurd (omega arith);
   refused = λ y e. let same = not_told y why.unknown (sym e) in clash cc;
   known = inr (inl refl);
 }
-told_struct report.Spent = record {
+told_struct (Err notreleased.Spent) = record {
   done = λ e. absurd (omega arith);
   unknown = λ e. absurd (omega arith);
   spent = λ e. refl;
   refused = λ y e. let same = not_told y why.spent (sym e) in clash cc;
   known = inr (inr (inl refl));
 }
-told_struct (report.Refused z) = record {
+told_struct (Err (notreleased.Pool z)) = record {
   done = λ e. absurd (pool_never_done z e);
   unknown = λ e. let same = not_told z why.unknown e in clash cc;
   spent = λ e. let same = not_told z why.spent e in clash cc;
-  refused = λ y e. ap report.Refused (one_pool_reason z y e);
+  refused = λ y e. ap (λ r. Err (notreleased.Pool r)) (one_pool_reason z y e);
   known = inr (inr (inr (z, refl)));
 }
 
-counted_says : (a : Stated) → StateSays (counted_to_c a) a
+counted_says : (a : Result Counts in_pool.Reason) → StateSays (counted_to_c a) a
 unfolding counted_to_c uncounted
-counted_says (state.Counts k) = record { done = λ e. refl; refused = λ y e. absurd (pool_never_done y (sym e)); known = inl refl }
-counted_says (state.Refused z) = record {
+counted_says (Ok k) = record { done = λ e. refl; refused = λ y e. absurd (pool_never_done y (sym e)); known = inl refl }
+counted_says (Err z) = record {
   done = λ e. absurd (pool_never_done z e);
-  refused = λ y e. ap state.Refused (one_pool_reason z y e);
+  refused = λ y e. ap Err (one_pool_reason z y e);
   known = inr (z, refl);
 }
 

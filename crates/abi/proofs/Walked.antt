@@ -5,9 +5,8 @@ use mathlib.Core.List.{List}
 use mathlib.Core.Path.{◌≡◌, refl, ◌∙◌}
 use native.Mathlib.Omega.{arith}
 use borrow.Author.Tests.{lt-ltb}
+use Rattle.std.proofs.Common.{Option, Some, None}
 use Rattle.word.specs.Memory.{memory, holds, read_of}
-use Rattle.word.specs.declared.Cell.{Cell}
-use Rattle.word.specs.declared.Cell.TheVariants as cell
 use Rattle.entry.specs.Entry.{bit, table_of, says}
 use Rattle.entry.specs.Words.{flag}
 use Rattle.entry.specs.declared.Rights.{Rights}
@@ -65,7 +64,7 @@ pub entry_walked : (s : List ℕ) (origin table n va : ℕ) (r : Rights) → n <
 unfolding entry_answer said_in goes_by bare_of
 entry_walked s origin table n va r h = rw (lt-ltb n 4 h) (go (read_of s origin (table_of table) (index_of n va)) refl)
   where
-    go : (c : Cell) → read_of s origin (table_of table) (index_of n va) ≡ c
+    go : (c : Option ℕ) → read_of s origin (table_of table) (index_of n va) ≡ c
         → step_of (holds s origin) (memory s origin) n va (Going (table_of table) r) ≡ goes_by n va r (said_in n c)
-    go (cell.Word w) e = step_read s origin n va (table_of table) r (index_of n va) refl w e ∙ said_goes n va w r
-    go cell.Outside e = step_outside s origin n va (table_of table) r (index_of n va) refl e
+    go (Some w) e = step_read s origin n va (table_of table) r (index_of n va) refl w e ∙ said_goes n va w r
+    go None e = step_outside s origin n va (table_of table) r (index_of n va) refl e

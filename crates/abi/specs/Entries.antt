@@ -1,8 +1,6 @@
 -- What one entry says, as the numbers that C gets. Kinds: 0 not present, 1 a page, 2 outside, 3 a table, 4 reserved bits are set.
-use Rattle.std.specs.Prelude.{ℕ, ◌+◌, ◌*◌, cond, List, ltb}
+use Rattle.std.specs.Prelude.{ℕ, ◌+◌, ◌*◌, cond, List, ltb, Option, Some, None}
 use Rattle.word.specs.Memory.{read_of}
-use Rattle.word.specs.declared.Cell.{Cell}
-use Rattle.word.specs.declared.Cell.TheVariants.{Word, Outside}
 use Rattle.entry.specs.Entry.{bit, table_of, says}
 use Rattle.entry.specs.Words.{flag}
 use Rattle.entry.specs.declared.Entry.{Entry}
@@ -25,9 +23,9 @@ said_of w (Page f g) = record { kind = 1; address = f; rights = rights_word g; m
 said_of w (Table t g) = record { kind = 3; address = 4096 * t; rights = rights_word g; marks = flag (bit 5 w) }
 
 -- what was read at level n
-unfoldable pub said_in : ℕ → Cell → Said
-said_in n (Word w) = said_of w (says n w)
-said_in n Outside = bare_of 2
+unfoldable pub said_in : ℕ → Option ℕ → Said
+said_in n (Some w) = said_of w (says n w)
+said_in n None = bare_of 2
 
 -- WHAT THE ENTRY SAYS: of the table whose address is given as in CR3; there are four levels, and 512 entries
 unfoldable pub entry_answer : List ℕ → ℕ → ℕ → ℕ → ℕ → Said

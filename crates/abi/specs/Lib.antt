@@ -7,3 +7,4 @@ pub mod Relied
 pub mod Reasons
 pub mod EntrySays
 pub mod Handles
+pub mod Inner

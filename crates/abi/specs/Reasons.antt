@@ -1,6 +1,11 @@
 -- WHAT C'S NUMBERS SAY: what each answer says of the operation's, and when each reason is given. The numbers are in ReasonNumbers; the laws are
 -- in proofs/Reasons.antt, proofs/Says.antt and proofs/Causes.antt.
-use Rattle.std.specs.Prelude.{ℕ, ◌/◌, ◌%◌, ◌^◌, ◌<◌, ◌≤◌, Bool, true, false, ◌↔◌, ◌⊎◌, ◌≢◌, ◌≡◌}
+use Rattle.std.specs.Prelude.{ℕ, ◌/◌, ◌%◌, ◌^◌, ◌<◌, ◌≤◌, Bool, true, false, ◌↔◌, ◌⊎◌, ◌≢◌, ◌≡◌, Result, Ok, Err}
+use Rattle.tablepath.specs.declared.NotReleased.TheVariants as notreleased
+use Rattle.tablepath.specs.declared.NotReleased.{NotReleased}
+use Rattle.pool.specs.declared.moment.Counts.{Counts as PoolCounts}
+use Rattle.tablepath.specs.declared.Gone.{Gone}
+use Rattle.tablepath.specs.declared.Altered.{Altered}
 use Rattle.walk.specs.Walk.{canonical}
 use Rattle.walk.specs.declared.Found.{Found}
 use Rattle.walk.specs.declared.Found.TheVariants as found
@@ -10,23 +15,10 @@ use Rattle.pool.specs.declared.Book.{Book}
 use Rattle.pool.specs.declared.Reason as in_pool
 use Rattle.pool.specs.declared.Reason.TheVariants.{OriginUnaligned, LengthUnaligned}
 use Rattle.pool.specs.Booked.{tables_of}
-use Rattle.pool.specs.declared.moment.Stated.{Stated}
-use Rattle.pool.specs.declared.moment.Stated.TheVariants as state
-use Rattle.pool.specs.declared.Created as of_pool
-use Rattle.pool.specs.declared.Created.TheVariants as create
 use Rattle.plan.specs.declared.Reason.{Reason}
 use Rattle.plan.specs.declared.Reason.TheVariants.{BaseRange, NothingStarts, WriteExecute}
 use Rattle.plan.specs.Map.{shape_of}
 use Rattle.plan.specs.Rights.{write_execute}
-use Rattle.plan.specs.declared.maps.Shape.TheVariants.{Level}
-use Rattle.tablepath.specs.declared.Mapped as of_map
-use Rattle.tablepath.specs.declared.Mapped.TheVariants as map
-use Rattle.tablepath.specs.declared.Unmapped as of_unmap
-use Rattle.tablepath.specs.declared.Unmapped.TheVariants as unmap
-use Rattle.tablepath.specs.declared.Protected as of_protect
-use Rattle.tablepath.specs.declared.Protected.TheVariants as protect
-use Rattle.tablepath.specs.declared.Report.{Report}
-use Rattle.tablepath.specs.declared.Report.TheVariants as report
 use Rattle.abi.specs.ReasonNumbers as why
 use Rattle.abi.specs.ReasonNumbers.{reason_of, pool_reason, number_of, pool_unaligned, root_unaligned}
 use Rattle.abi.specs.Relied as c
@@ -41,36 +33,36 @@ use Rattle.abi.specs.declared.answers.LookedUp.{LookedUp}
 
 -- What an answer x says: that the operation's own answer was a. Known: it has no other number -----------------------------------------------
 
-pub record CreateSays (x : Created) (a : of_pool.Created) : Type 0 where
-  pub done : x.reason ≡ 0 → a ≡ create.Root (x.root / 4096)
-  pub refused : (y : in_pool.Reason) → x.reason ≡ pool_reason y → a ≡ create.Refused y
+pub record CreateSays (x : Created) (a : Result ℕ in_pool.Reason) : Type 0 where
+  pub done : x.reason ≡ 0 → a ≡ Ok (x.root / 4096)
+  pub refused : (y : in_pool.Reason) → x.reason ≡ pool_reason y → a ≡ Err y
   pub known : (x.reason ≡ 0) ⊎ ((y : in_pool.Reason) × (x.reason ≡ pool_reason y))
 
-pub record MapSays (x : Mapped) (a : of_map.Mapped) : Type 0 where
-  pub done : x.reason ≡ 0 → a ≡ map.Done x.tables
-  pub refused : (y : Reason) → x.reason ≡ reason_of y → a ≡ map.Refused y
+pub record MapSays (x : Mapped) (a : Result ℕ Reason) : Type 0 where
+  pub done : x.reason ≡ 0 → a ≡ Ok x.tables
+  pub refused : (y : Reason) → x.reason ≡ reason_of y → a ≡ Err y
   pub known : (x.reason ≡ 0) ⊎ ((y : Reason) × (x.reason ≡ reason_of y))
 
-pub record UnmapSays (x : Unmapped) (a : of_unmap.Unmapped) : Type 0 where
-  pub done : x.reason ≡ 0 → a ≡ unmap.Done (record { frame = x.frame; size = x.size; aside = x.aside; ticket = x.ticket })
-  pub refused : (y : Reason) → x.reason ≡ reason_of y → a ≡ unmap.Refused y
+pub record UnmapSays (x : Unmapped) (a : Result Gone Reason) : Type 0 where
+  pub done : x.reason ≡ 0 → a ≡ Ok (record { frame = x.frame; size = x.size; aside = x.aside; ticket = x.ticket })
+  pub refused : (y : Reason) → x.reason ≡ reason_of y → a ≡ Err y
   pub known : (x.reason ≡ 0) ⊎ ((y : Reason) × (x.reason ≡ reason_of y))
 
-pub record ProtectSays (x : Protected) (a : of_protect.Protected) : Type 0 where
-  pub done : x.reason ≡ 0 → a ≡ protect.Done (record { frame = x.frame; size = x.size; ticket = x.ticket })
-  pub refused : (y : Reason) → x.reason ≡ reason_of y → a ≡ protect.Refused y
+pub record ProtectSays (x : Protected) (a : Result Altered Reason) : Type 0 where
+  pub done : x.reason ≡ 0 → a ≡ Ok (record { frame = x.frame; size = x.size; ticket = x.ticket })
+  pub refused : (y : Reason) → x.reason ≡ reason_of y → a ≡ Err y
   pub known : (x.reason ≡ 0) ⊎ ((y : Reason) × (x.reason ≡ reason_of y))
 
-pub record ToldSays (x : Told) (a : Report) : Type 0 where
-  pub done : x.reason ≡ 0 → a ≡ report.Released x.released
-  pub unknown : x.reason ≡ number_of why.unknown → a ≡ report.Unknown
-  pub spent : x.reason ≡ number_of why.spent → a ≡ report.Spent
-  pub refused : (y : in_pool.Reason) → x.reason ≡ pool_reason y → a ≡ report.Refused y
+pub record ToldSays (x : Told) (a : Result ℕ NotReleased) : Type 0 where
+  pub done : x.reason ≡ 0 → a ≡ Ok x.released
+  pub unknown : x.reason ≡ number_of why.unknown → a ≡ Err notreleased.Unknown
+  pub spent : x.reason ≡ number_of why.spent → a ≡ Err notreleased.Spent
+  pub refused : (y : in_pool.Reason) → x.reason ≡ pool_reason y → a ≡ Err (notreleased.Pool y)
   pub known : (x.reason ≡ 0) ⊎ (x.reason ≡ number_of why.unknown) ⊎ (x.reason ≡ number_of why.spent) ⊎ ((y : in_pool.Reason) × (x.reason ≡ pool_reason y))
 
-pub record StateSays (x : Counts) (a : Stated) : Type 0 where
-  pub done : x.reason ≡ 0 → a ≡ state.Counts (record { pages = x.pages; free = x.free; aside = x.aside; tables = x.tables; ticket = x.ticket })
-  pub refused : (y : in_pool.Reason) → x.reason ≡ pool_reason y → a ≡ state.Refused y
+pub record StateSays (x : Counts) (a : Result PoolCounts in_pool.Reason) : Type 0 where
+  pub done : x.reason ≡ 0 → a ≡ Ok (record { pages = x.pages; free = x.free; aside = x.aside; tables = x.tables; ticket = x.ticket })
+  pub refused : (y : in_pool.Reason) → x.reason ≡ pool_reason y → a ≡ Err y
   pub known : (x.reason ≡ 0) ⊎ ((y : in_pool.Reason) × (x.reason ≡ pool_reason y))
 
 pub record LookUpSays (x : LookedUp) (a : Found) : Type 0 where
@@ -126,7 +118,7 @@ pub record StateCounts (x : Counts) (n : Numbers) (b : Book) (role : ℕ → Rol
 
 -- map's size, alignments and ranges fit; of the others there are none
 abbrev pub WellShaped : Call → Type 0
-WellShaped (c.map base frame size w) = (l : ℕ) × (shape_of size base frame ≡ Level l)
+WellShaped (c.map base frame size w) = (l : ℕ) × (shape_of size base frame ≡ Ok l)
 WellShaped (c.unmap base) = Unit {0}
 WellShaped (c.protect base w) = Unit {0}
 WellShaped (c.told ticket) = Unit {0}

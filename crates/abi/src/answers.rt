@@ -1,14 +1,18 @@
 // Answers as the numbers that C gets: a reason, and 0 in every other field where something is refused.
-ghost use Rattle.std.specs.Prelude.{◌≡◌, ◌*◌, ◌^◌, ◌<◌};
-ghost use Rattle.entry.specs.Words.{flag};
+ghost use Rattle.std.specs.Prelude.{◌≡◌};
+ghost use Rattle.abi.specs.Answers.{looked_up_to_c};
 ghost use Rattle.abi.specs.Answers as the;
+ghost use Rattle.abi.specs.Inner as inner;
 
+use crate::numbers::number;
+use crate::refusal::Refusal;
 use entry::Rights;
+use tablepath::{Altered, Gone};
 use walk::Found;
 
 // What making a pool answers: the root's physical address.
 #[repr(C)]
-#[derive(Clone, Copy)]
+#[derive(Clone, Copy, Default)]
 pub struct Created {
     pub reason: u64,
     pub root: u64,
@@ -16,7 +20,7 @@ pub struct Created {
 
 // What map answers: how many tables were made for the page.
 #[repr(C)]
-#[derive(Clone, Copy)]
+#[derive(Clone, Copy, Default)]
 pub struct Mapped {
     pub reason: u64,
     pub tables: u64,
@@ -24,7 +28,7 @@ pub struct Mapped {
 
 // The page that was unmapped, how many tables were set aside, and the ticket of the moment after it, to be reported.
 #[repr(C)]
-#[derive(Clone, Copy)]
+#[derive(Clone, Copy, Default)]
 pub struct Unmapped {
     pub reason: u64,
     pub frame: u64,
@@ -35,7 +39,7 @@ pub struct Unmapped {
 
 // The page whose rights changed, and the ticket, as of unmap.
 #[repr(C)]
-#[derive(Clone, Copy)]
+#[derive(Clone, Copy, Default)]
 pub struct Protected {
     pub reason: u64,
     pub frame: u64,
@@ -45,7 +49,7 @@ pub struct Protected {
 
 // What a report answers: how many pages are free again.
 #[repr(C)]
-#[derive(Clone, Copy)]
+#[derive(Clone, Copy, Default)]
 pub struct Told {
     pub reason: u64,
     pub released: u64,
@@ -53,7 +57,7 @@ pub struct Told {
 
 // How many pages a pool has, how many of them are free, set aside, and tables beside the root; and the ticket of the moment.
 #[repr(C)]
-#[derive(Clone, Copy)]
+#[derive(Clone, Copy, Default)]
 pub struct Counts {
     pub reason: u64,
     pub pages: u64,
@@ -65,7 +69,7 @@ pub struct Counts {
 
 // What an address means. Fields that say nothing are 0.
 #[repr(C)]
-#[derive(Clone, Copy)]
+#[derive(Clone, Copy, Default)]
 pub struct LookedUp {
     // 0: nothing; 1: a page; 2: outside, the way leads to a table that does not lie in the window
     pub kind: u64,
@@ -77,22 +81,14 @@ pub struct LookedUp {
     pub rights: u64,
 }
 
-pub fn bit(b: bool) -> u64
-    ensures { (result ≡ flag b) × (result < 2) }
-{
-    if b {
-        return 1;
-    }
-    0
-}
-
+// As C's bits. No From, since neither type is this crate's.
 pub fn rights_word(r: Rights) -> u64
     ensures { result ≡ the.rights_word r }
 {
-    bit(r.writable) + 2 * bit(r.user) + 4 * bit(r.noexec)
+    u64::from(r.writable) + 2 * u64::from(r.user) + 4 * u64::from(r.noexec)
 }
 
-// By the three lowest bits; whoever asks with others is refused before.
+// The same back, by the three lowest bits; whoever asks with others is refused before.
 pub fn rights(w: u64) -> Rights
     ensures { result ≡ the.rights_in w }
 {
@@ -103,170 +99,145 @@ pub fn rights(w: u64) -> Rights
     }
 }
 
-pub fn of_create(c: pool::Created) -> Created
-    ensures { the.LowRoot c → result ≡ the.created_to_c c }
-{
-    match c {
-        pool::Created::Refused(y) => Created {
-            reason: crate::numbers::pool_reason(y),
-            root: 0,
-        },
-        pool::Created::Root(p) => {
-            if word::PAGE_COUNT <= p {
-                return Created { reason: 0, root: 0 };
-            }
-            Created {
-                reason: 0,
-                root: 4096 * p,
+impl From<Result<u64, Refusal>> for Created {
+    ghost from_gives = { λ a c. inner.LowRoot a → c ≡ inner.created a };
+
+    fn from(a: Result<u64, Refusal>) -> Created {
+        match a {
+            Err(y) => Created {
+                reason: number(y),
+                root: 0,
+            },
+            Ok(p) => {
+                if word::PAGE_COUNT <= p {
+                    return Created::default();
+                }
+                Created {
+                    reason: 0,
+                    root: 4096 * p,
+                }
             }
         }
     }
 }
 
-pub fn of_map(a: tablepath::Mapped) -> Mapped
-    ensures { result ≡ the.mapped_to_c a }
-{
-    match a {
-        tablepath::Mapped::Refused(y) => Mapped {
-            reason: crate::numbers::reason(y),
-            tables: 0,
-        },
-        tablepath::Mapped::Done(n) => Mapped {
-            reason: 0,
-            tables: n,
-        },
+impl From<Result<u64, Refusal>> for Mapped {
+    ghost from_gives = { λ a c. c ≡ inner.mapped a };
+
+    fn from(a: Result<u64, Refusal>) -> Mapped {
+        match a {
+            Err(y) => Mapped {
+                reason: number(y),
+                tables: 0,
+            },
+            Ok(tables) => Mapped { reason: 0, tables },
+        }
     }
 }
 
-pub fn of_unmap(a: tablepath::Unmapped) -> Unmapped
-    ensures { result ≡ the.unmapped_to_c a }
-{
-    match a {
-        tablepath::Unmapped::Refused(y) => Unmapped {
-            reason: crate::numbers::reason(y),
-            frame: 0,
-            size: 0,
-            aside: 0,
-            ticket: 0,
-        },
-        tablepath::Unmapped::Done(g) => Unmapped {
-            reason: 0,
-            frame: g.frame,
-            size: g.size,
-            aside: g.aside,
-            ticket: g.ticket,
-        },
+impl From<Result<Gone, Refusal>> for Unmapped {
+    ghost from_gives = { λ a c. c ≡ inner.unmapped a };
+
+    fn from(a: Result<Gone, Refusal>) -> Unmapped {
+        match a {
+            Err(y) => Unmapped {
+                reason: number(y),
+                ..Unmapped::default()
+            },
+            Ok(g) => Unmapped {
+                reason: 0,
+                frame: g.frame,
+                size: g.size,
+                aside: g.aside,
+                ticket: g.ticket,
+            },
+        }
     }
 }
 
-pub fn of_protect(a: tablepath::Protected) -> Protected
-    ensures { result ≡ the.protected_to_c a }
-{
-    match a {
-        tablepath::Protected::Refused(y) => Protected {
-            reason: crate::numbers::reason(y),
-            frame: 0,
-            size: 0,
-            ticket: 0,
-        },
-        tablepath::Protected::Done(s) => Protected {
-            reason: 0,
-            frame: s.frame,
-            size: s.size,
-            ticket: s.ticket,
-        },
+impl From<Result<Altered, Refusal>> for Protected {
+    ghost from_gives = { λ a c. c ≡ inner.protected a };
+
+    fn from(a: Result<Altered, Refusal>) -> Protected {
+        match a {
+            Err(y) => Protected {
+                reason: number(y),
+                ..Protected::default()
+            },
+            Ok(s) => Protected {
+                reason: 0,
+                frame: s.frame,
+                size: s.size,
+                ticket: s.ticket,
+            },
+        }
     }
 }
 
-pub fn of_told(a: tablepath::Report) -> Told
-    ensures { result ≡ the.told_to_c a }
-{
-    match a {
-        tablepath::Report::Refused(y) => Told {
-            reason: crate::numbers::pool_reason(y),
-            released: 0,
-        },
-        tablepath::Report::Unknown => Told {
-            reason: crate::numbers::UNKNOWN,
-            released: 0,
-        },
-        tablepath::Report::Spent => Told {
-            reason: crate::numbers::SPENT,
-            released: 0,
-        },
-        tablepath::Report::Released(k) => Told {
-            reason: 0,
-            released: k,
-        },
+impl From<Result<u64, Refusal>> for Told {
+    ghost from_gives = { λ a c. c ≡ inner.told a };
+
+    fn from(a: Result<u64, Refusal>) -> Told {
+        match a {
+            Err(y) => Told {
+                reason: number(y),
+                released: 0,
+            },
+            Ok(released) => Told {
+                reason: 0,
+                released,
+            },
+        }
     }
 }
 
-// Of a state that is refused.
-pub fn uncounted(y: u64) -> Counts
-    ensures { result ≡ the.uncounted y }
-{
-    Counts {
-        reason: y,
-        pages: 0,
-        free: 0,
-        aside: 0,
-        tables: 0,
-        ticket: 0,
+impl From<Result<pool::Counts, Refusal>> for Counts {
+    ghost from_gives = { λ a c. c ≡ inner.counted a };
+
+    fn from(a: Result<pool::Counts, Refusal>) -> Counts {
+        match a {
+            Err(y) => Counts {
+                reason: number(y),
+                ..Counts::default()
+            },
+            Ok(c) => Counts {
+                reason: 0,
+                pages: c.pages,
+                free: c.free,
+                aside: c.aside,
+                tables: c.tables,
+                ticket: c.ticket,
+            },
+        }
     }
 }
 
-pub fn of_state(a: pool::Stated) -> Counts
-    ensures { result ≡ the.counted_to_c a }
-{
-    match a {
-        pool::Stated::Refused(y) => uncounted(crate::numbers::pool_reason(y)),
-        pool::Stated::Counts(c) => Counts {
-            reason: 0,
-            pages: c.pages,
-            free: c.free,
-            aside: c.aside,
-            tables: c.tables,
-            ticket: c.ticket,
-        },
-    }
-}
+impl From<Found> for LookedUp {
+    ghost from_gives = { λ f c. c ≡ looked_up_to_c f };
 
-pub fn of_look_up(f: Found) -> LookedUp
-    ensures { result ≡ the.looked_up_to_c f }
-{
-    match f {
-        Found::Page {
-            base,
-            size,
-            frame,
-            rights,
-        } => LookedUp {
-            kind: 1,
-            base: base,
-            size: size,
-            frame: frame,
-            rights: rights_word(rights),
-        },
-        Found::Nothing => LookedUp {
-            kind: 0,
-            base: 0,
-            size: 0,
-            frame: 0,
-            rights: 0,
-        },
-        Found::Outside => LookedUp {
-            kind: 2,
-            base: 0,
-            size: 0,
-            frame: 0,
-            rights: 0,
-        },
-        Found::NoAddress => LookedUp {
-            kind: 5,
-            base: 0,
-            size: 0,
-            frame: 0,
-            rights: 0,
-        },
+    fn from(f: Found) -> LookedUp {
+        match f {
+            Found::Page {
+                base,
+                size,
+                frame,
+                rights,
+            } => LookedUp {
+                kind: 1,
+                base,
+                size,
+                frame,
+                rights: rights_word(rights),
+            },
+            Found::Nothing => LookedUp::default(),
+            Found::Outside => LookedUp {
+                kind: 2,
+                ..LookedUp::default()
+            },
+            Found::NoAddress => LookedUp {
+                kind: 5,
+                ..LookedUp::default()
+            },
+        }
     }
 }

@@ -4,11 +4,12 @@ ghost use Rattle.entry.specs.Entry.{bit, says};
 ghost use Rattle.entry.specs.Words.{flag};
 ghost use Rattle.abi.specs.Entries as the;
 
+use crate::answers::rights_word;
 use entry::Entry;
 
 // What an entry says. Fields that say nothing are 0.
 #[repr(C)]
-#[derive(Clone, Copy)]
+#[derive(Clone, Copy, Default)]
 pub struct Said {
     // 0: nothing, it is not present; 1: a page; 2: outside, there is no such entry in the window; 3: a table;
     // 4: nothing, though it is present: reserved bits are set
@@ -26,23 +27,21 @@ pub fn bare(kind: u64) -> Said
     ensures { result ≡ the.bare_of kind }
 {
     Said {
-        kind: kind,
-        address: 0,
-        rights: 0,
-        marks: 0,
+        kind,
+        ..Said::default()
     }
 }
 
 fn accessed(w: u64) -> u64
     ensures { (result ≡ flag (bit 5 w)) × (result < 2) }
 {
-    crate::answers::bit(w / 32 % 2 == 1)
+    u64::from(w / 32 % 2 == 1)
 }
 
 fn dirty(w: u64) -> u64
     ensures { (result ≡ flag (bit 6 w)) × (result < 2) }
 {
-    crate::answers::bit(w / 64 % 2 == 1)
+    u64::from(w / 64 % 2 == 1)
 }
 
 // A word that says nothing.
@@ -55,23 +54,22 @@ fn silent(w: u64) -> Said
     bare(4)
 }
 
-// What the word says at level n.
+// What the word says at level n: two numbers, so no From.
 pub fn of_word(n: u64, w: u64) -> Said
     ensures { result ≡ the.said_of w (says n w) }
 {
-    let e = entry::decode(n, w);
-    match e {
+    match entry::decode(n, w) {
         Entry::Nothing => silent(w),
         Entry::Page(f, g) => Said {
             kind: 1,
             address: f,
-            rights: crate::answers::rights_word(g),
+            rights: rights_word(g),
             marks: accessed(w) + 2 * dirty(w),
         },
         Entry::Table(t, g) => Said {
             kind: 3,
             address: 4096 * t,
-            rights: crate::answers::rights_word(g),
+            rights: rights_word(g),
             marks: accessed(w),
         },
     }

@@ -1,10 +1,13 @@
 // Map, up to so many writes. Most maps need no table: that is tried at once, in a piece of its own for each size, before the whole.
+// The pieces take plain numbers: as one struct those of a space cost a map up to 13 instructions more, those of a page up to 30.
 ghost use Rattle.std.specs.Prelude.{◌≡◌};
 ghost use Rattle.abi.specs.Calls as call;
+ghost use Rattle.abi.specs.Inner as inner;
 
-use crate::answers::Mapped;
-use crate::sites::Sited;
-use plan::{Asked, Once};
+use crate::answers::rights as granted;
+use crate::refusal::Refusal;
+use crate::sites::{Numbers, space};
+use plan::{Asked, Reason};
 
 // Map, whatever is asked.
 fn whole(
@@ -18,23 +21,23 @@ fn whole(
     frame: u64,
     size: u64,
     rights: u64,
-) -> Mapped
-    ensures answer { result ≡ call.map_answer mem.old (call.ask base frame size rights) (call.asked_site origin pool pages root (call.ask base frame size rights)) }
+) -> Result<u64, Refusal>
+    ensures answer { inner.mapped result ≡ call.map_answer mem.old (call.ask base frame size rights) (call.asked_site origin pool pages root (call.ask base frame size rights)) }
     ensures order { call.InOrder (call.asked_site origin pool pages root (call.ask base frame size rights)) (call.map_writes mem.old (call.ask base frame size rights)) left.old left.new mem.old mem.new }
 {
     let q = Asked {
-        base: base,
-        frame: frame,
-        size: size,
-        rights: crate::answers::rights(rights),
+        base,
+        frame,
+        size,
+        rights: granted(rights),
     };
-    let s = crate::sites::site(origin, pool, pages, root);
-    match s {
-        Sited::Refused(y) => Mapped {
-            reason: crate::sites::misplaced(q, y),
-            tables: 0,
-        },
-        Sited::At(space) => crate::answers::of_map(tablepath::map_up_to(mem, left, space, q)),
+    match space(origin, pool, pages, root) {
+        Ok(space) => Ok(tablepath::map_up_to(mem, left, space, q)?),
+        // what is asked is looked at before the space
+        Err(y) => {
+            plan::allowed(q)?;
+            Err(y)
+        }
     }
 }
 
@@ -48,17 +51,13 @@ fn at_once(
     root: u64,
     q: Asked,
     n: u64,
-) -> Once
+) -> Option<Result<u64, Reason>>
     ensures { call.AtOnce left.old left.new mem.old mem.new q (call.site_of origin pool pages root) result }
 {
-    let s = crate::sites::site(origin, pool, pages, root);
-    match s {
-        Sited::Refused(_) => Once::Unsaid,
-        Sited::At(space) => plan::at_once(mem, left, space, q, n),
-    }
+    plan::at_once(mem, left, space(origin, pool, pages, root).ok()?, q, n)
 }
 
-// Map, for pages of level n: what is asked is made anew for the whole, so that the compiler need not keep it in memory.
+// Map, for pages of level n.
 fn sized(
     mem: &mut [u8],
     left: &mut u64,
@@ -71,27 +70,19 @@ fn sized(
     size: u64,
     rights: u64,
     n: u64,
-) -> Mapped
-    ensures answer { result ≡ call.map_answer mem.old (call.ask base frame size rights) (call.asked_site origin pool pages root (call.ask base frame size rights)) }
+) -> Result<u64, Refusal>
+    ensures answer { inner.mapped result ≡ call.map_answer mem.old (call.ask base frame size rights) (call.asked_site origin pool pages root (call.ask base frame size rights)) }
     ensures order { call.InOrder (call.asked_site origin pool pages root (call.ask base frame size rights)) (call.map_writes mem.old (call.ask base frame size rights)) left.old left.new mem.old mem.new }
 {
     let q = Asked {
-        base: base,
-        frame: frame,
-        size: size,
-        rights: crate::answers::rights(rights),
+        base,
+        frame,
+        size,
+        rights: granted(rights),
     };
-    let o = at_once(mem, left, origin, pool, pages, root, q, n);
-    match o {
-        Once::Done => Mapped {
-            reason: 0,
-            tables: 0,
-        },
-        Once::Overlap => Mapped {
-            reason: crate::numbers::OVERLAP,
-            tables: 0,
-        },
-        Once::Unsaid => whole(
+    match at_once(mem, left, origin, pool, pages, root, q, n) {
+        Some(a) => Ok(a?),
+        None => whole(
             mem, left, origin, pool, pages, root, base, frame, size, rights,
         ),
     }
@@ -101,40 +92,36 @@ fn sized(
 pub fn map_up_to(
     mem: &mut [u8],
     left: &mut u64,
-    origin: u64,
-    pool: u64,
-    pages: u64,
-    root: u64,
+    at: Numbers,
     base: u64,
     frame: u64,
     size: u64,
     rights: u64,
-) -> Mapped
-    ensures answer { result ≡ call.map_answer mem.old (call.ask base frame size rights) (call.map_site origin pool pages root base frame size rights) }
-    ensures order { call.InOrder (call.map_site origin pool pages root base frame size rights) (call.map_writes mem.old (call.ask base frame size rights)) left.old left.new mem.old mem.new }
+) -> Result<u64, Refusal>
+    ensures answer { inner.mapped result ≡ call.map_answer mem.old (call.ask base frame size rights) (call.map_site at.origin at.pool at.pages at.root base frame size rights) }
+    ensures order { call.InOrder (call.map_site at.origin at.pool at.pages at.root base frame size rights) (call.map_writes mem.old (call.ask base frame size rights)) left.old left.new mem.old mem.new }
 {
     if 8 <= rights {
-        return Mapped {
-            reason: crate::numbers::RIGHTS,
-            tables: 0,
-        };
+        return Err(Refusal::Rights);
     }
-    if size == 4096 {
-        return sized(
+    let Numbers {
+        origin,
+        pool,
+        pages,
+        root,
+    } = at;
+    match size {
+        4096 => sized(
             mem, left, origin, pool, pages, root, base, frame, 4096, rights, 0,
-        );
-    }
-    if size == 2097152 {
-        return sized(
+        ),
+        2097152 => sized(
             mem, left, origin, pool, pages, root, base, frame, 2097152, rights, 1,
-        );
-    }
-    if size == 1073741824 {
-        return sized(
+        ),
+        1073741824 => sized(
             mem, left, origin, pool, pages, root, base, frame, 1073741824, rights, 2,
-        );
+        ),
+        _ => whole(
+            mem, left, origin, pool, pages, root, base, frame, size, rights,
+        ),
     }
-    whole(
-        mem, left, origin, pool, pages, root, base, frame, size, rights,
-    )
 }

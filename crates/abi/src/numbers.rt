@@ -1,6 +1,9 @@
 // The reasons' numbers. include/reasons.txt has them all, and tools/reasons writes the constants.
 ghost use Rattle.std.specs.Prelude.{◌≡◌};
-ghost use Rattle.abi.specs.ReasonNumbers as number;
+ghost use Rattle.abi.specs.ReasonNumbers as why;
+ghost use Rattle.abi.specs.Inner as inner;
+
+use crate::refusal::Refusal;
 
 // tools/reasons: constants
 pub const SIZE: u64 = 1;
@@ -57,9 +60,9 @@ pub const WRITE_EXECUTE: u64 = 27;
 
 // tools/reasons: end
 
-// The number of a reason that the pool has.
-pub fn pool_reason(r: pool::Reason) -> u64
-    ensures { result ≡ number.pool_reason r }
+// The number of a reason that the pool has. No From, since neither type is this crate's.
+fn pool_reason(r: pool::Reason) -> u64
+    ensures { result ≡ why.pool_reason r }
 {
     match r {
         pool::Reason::OriginUnaligned => ORIGIN_UNALIGNED,
@@ -74,9 +77,9 @@ pub fn pool_reason(r: pool::Reason) -> u64
     }
 }
 
-// The number of a reason.
-pub fn reason(r: plan::Reason) -> u64
-    ensures { result ≡ number.reason_of r }
+// The number of a reason; the same holds for it.
+fn reason(r: plan::Reason) -> u64
+    ensures { result ≡ why.reason_of r }
 {
     match r {
         plan::Reason::Size => SIZE,
@@ -92,5 +95,19 @@ pub fn reason(r: plan::Reason) -> u64
         plan::Reason::NothingStarts => NOTHING_STARTS,
         plan::Reason::Stray => STRAY,
         plan::Reason::BadList => BAD_LIST,
+    }
+}
+
+// The number that C gets: by a name, since `u64::from` would not say which.
+pub fn number(y: Refusal) -> u64
+    ensures { result ≡ inner.number y }
+{
+    match y {
+        Refusal::Operation(r) => reason(r),
+        Refusal::PoolUnaligned => POOL_UNALIGNED,
+        Refusal::RootUnaligned => ROOT_UNALIGNED,
+        Refusal::Rights => RIGHTS,
+        Refusal::Unknown => UNKNOWN,
+        Refusal::Spent => SPENT,
     }
 }

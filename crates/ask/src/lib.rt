@@ -3,91 +3,87 @@
 
 use entry::Rights;
 use plan::Asked;
-use pool::{Created, Space};
-use reasons::{not_released, pool_refused, refused};
+use pool::Space;
+use say::{Count, Page};
+use std::error::Error;
 use std::io;
-use tablepath::{Altered, Gone, Mapped, Protected, Report, Unmapped};
-use walk::Found;
-use window::{book, copy, unchanged};
+use window::{book, copy};
 
-mod reasons;
 mod window;
 
-pub use window::{BYTES, FIRST, ORIGIN, PAGES, ROOT, space};
+pub use window::{BYTES, FIRST, ORIGIN, ROOT, SPACE};
 
-fn asked_pool(rt: &impl Print, space: Space) -> io::Result<()> {
-    say::with_number(rt, "  create a pool of ", space.pages)?;
-    say::with_hex(rt, " pages from page ", space.first)?;
-    say::with_hex(rt, " on, in a window at ", space.origin)?;
-    say::line(rt)
+// Carries an operation out, and says what came of it: `done` says it of a success, and of a refusal the error does.
+fn carry_out<T, E, A, D>(rt: &impl Print, mem: &mut [u8], act: A, done: D) -> io::Result<()>
+where
+    T: Drop,
+    E: Error,
+    A: FnOnce(&mut [u8]) -> Result<T, E>,
+    D: FnOnce(&[u8], T) -> io::Result<()> + Drop,
+    requires act { A.IsAlwaysCallable act }
+    requires done { D.IsAlwaysCallable done }
+{
+    let old = copy(mem);
+    match act(mem) {
+        Ok(x) => {
+            print!(rt; "    done: ")?;
+            done(mem, x)
+        }
+        Err(why) if old.starts_with(mem) => println!(rt; "    refused: {why}; no byte changed"),
+        Err(why) => println!(rt; "    refused: {why}; THE WINDOW CHANGED"),
+    }
 }
 
 pub fn create(rt: &impl Print, mem: &mut [u8], space: Space) -> io::Result<()> {
-    asked_pool(rt, space)?;
-    let old = copy(mem);
-    match tablepath::create(mem, space.origin, space.first, space.pages) {
-        Created::Root(r) => {
-            say::with_hex(rt, "    done: the root is page ", r)?;
+    println!(rt;
+        "  create a pool of {} pages from page {:#x} on, in a window at {:#x}",
+        space.pages, space.first, space.origin
+    )?;
+    carry_out(
+        rt,
+        mem,
+        |mem| tablepath::create(mem, space.origin, space.first, space.pages),
+        |mem, root| {
+            print!(rt; "the root is page {root:#x}")?;
             book(rt, mem, space)
-        }
-        Created::Refused(r) => {
-            pool_refused(rt, r)?;
-            unchanged(rt, mem, &old)
-        }
-    }
-}
-
-fn asked(rt: &impl Print, q: Asked) -> io::Result<()> {
-    say::text(rt, "  map ")?;
-    say::mapping(rt, q.base, q.size, q.frame, q.rights)?;
-    say::line(rt)
+        },
+    )
 }
 
 pub fn map(rt: &impl Print, mem: &mut [u8], space: Space, q: Asked) -> io::Result<()> {
-    asked(rt, q)?;
-    let old = copy(mem);
-    match tablepath::map(mem, space, q) {
-        Mapped::Done(n) => {
-            say::text(rt, "    done: made ")?;
-            say::count(rt, n, "table")?;
+    println!(rt;
+        "  map {:#x} to {}, {}",
+        q.base,
+        Page(q.size, q.frame),
+        q.rights
+    )?;
+    carry_out(
+        rt,
+        mem,
+        |mem| tablepath::map(mem, space, q),
+        |mem, made| {
+            print!(rt; "made {}", Count(made, "table"))?;
             book(rt, mem, space)
-        }
-        Mapped::Refused(r) => {
-            refused(rt, r)?;
-            unchanged(rt, mem, &old)
-        }
-    }
-}
-
-fn gone(rt: &impl Print, g: Gone) -> io::Result<()> {
-    say::text(rt, "    done: it was ")?;
-    say::frame(rt, g.size, g.frame)?;
-    say::text(rt, "; set aside ")?;
-    say::count(rt, g.aside, "table")?;
-    say::with_number(rt, ", ticket ", g.ticket)
+        },
+    )
 }
 
 pub fn unmap(rt: &impl Print, mem: &mut [u8], space: Space, base: u64) -> io::Result<()> {
-    say::with_hex(rt, "  unmap ", base)?;
-    say::line(rt)?;
-    let old = copy(mem);
-    match tablepath::unmap(mem, space, base) {
-        Unmapped::Done(g) => {
-            gone(rt, g)?;
+    println!(rt; "  unmap {base:#x}")?;
+    carry_out(
+        rt,
+        mem,
+        |mem| tablepath::unmap(mem, space, base),
+        |mem, gone| {
+            print!(rt;
+                "it was {}; set aside {}, ticket {}",
+                Page(gone.size, gone.frame),
+                Count(gone.aside, "table"),
+                gone.ticket
+            )?;
             book(rt, mem, space)
-        }
-        Unmapped::Refused(r) => {
-            refused(rt, r)?;
-            unchanged(rt, mem, &old)
-        }
-    }
-}
-
-fn still(rt: &impl Print, s: Altered) -> io::Result<()> {
-    say::text(rt, "    done: it is ")?;
-    say::frame(rt, s.size, s.frame)?;
-    say::with_number(rt, "; ticket ", s.ticket)?;
-    say::line(rt)
+        },
+    )
 }
 
 pub fn protect(
@@ -97,63 +93,38 @@ pub fn protect(
     base: u64,
     rights: Rights,
 ) -> io::Result<()> {
-    say::with_hex(rt, "  protect ", base)?;
-    say::text(rt, ", now ")?;
-    say::rights(rt, rights)?;
-    say::line(rt)?;
-    let old = copy(mem);
-    match tablepath::protect(mem, space, base, rights) {
-        Protected::Done(s) => still(rt, s),
-        Protected::Refused(r) => {
-            refused(rt, r)?;
-            unchanged(rt, mem, &old)
-        }
-    }
+    println!(rt; "  protect {base:#x}, now {rights}")?;
+    carry_out(
+        rt,
+        mem,
+        |mem| tablepath::protect(mem, space, base, rights),
+        |_, now| println!(rt;
+            "it is {}; ticket {}",
+            Page(now.size, now.frame),
+            now.ticket
+        ),
+    )
 }
 
 pub fn told(rt: &impl Print, mem: &mut [u8], space: Space, ticket: u64) -> io::Result<()> {
-    say::with_number(rt, "  every cache was told, ticket ", ticket)?;
-    say::line(rt)?;
-    let old = copy(mem);
-    match tablepath::told(mem, space, ticket) {
-        Report::Released(n) => {
-            say::text(rt, "    done: released ")?;
-            say::count(rt, n, "page")?;
+    println!(rt; "  every cache was told, ticket {ticket}")?;
+    carry_out(
+        rt,
+        mem,
+        |mem| tablepath::told(mem, space, ticket),
+        |mem, released| {
+            print!(rt; "released {}", Count(released, "page"))?;
             book(rt, mem, space)
-        }
-        t => {
-            not_released(rt, t)?;
-            unchanged(rt, mem, &old)
-        }
-    }
-}
-
-// What an address means.
-fn meaning(rt: &impl Print, f: Found) -> io::Result<()> {
-    say::text(rt, "    ")?;
-    match f {
-        Found::Page {
-            base,
-            size,
-            frame,
-            rights,
-        } => say::page(rt, base, size, frame, rights)?,
-        Found::Nothing => say::text(rt, "nothing is mapped there")?,
-        Found::Outside => say::text(rt, "outside, the way leaves the window")?,
-        Found::NoAddress => say::text(rt, "that is no address")?,
-    }
-    say::line(rt)
+        },
+    )
 }
 
 // The root is given as in CR3, by its address.
 pub fn look_up(rt: &impl Print, mem: &[u8], space: Space, va: u64) -> io::Result<()> {
-    say::with_hex(rt, "  look up ", va)?;
-    say::line(rt)?;
+    println!(rt; "  look up {va:#x}")?;
     if word::PAGE_COUNT <= space.root {
         return Ok(());
     }
-    meaning(
-        rt,
-        tablepath::look_up(mem, space.origin, space.root * 4096, va),
-    )
+    let found = tablepath::look_up(mem, space.origin, space.root * 4096, va);
+    println!(rt; "    {found}")
 }

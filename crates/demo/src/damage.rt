@@ -1,5 +1,5 @@
 // Damaged tables and books: a word is overwritten, what needs it is refused, and when the word is back all goes on.
-use crate::usual;
+use crate::usual::{self, page};
 use ask::{BYTES, FIRST, ORIGIN, ROOT};
 use pool::{FREE_AT, HEADER, TICKETS_AT};
 use std::io;
@@ -11,50 +11,59 @@ fn overwrite(mem: &mut [u8], page: u64, index: u64, w: u64) {
     word::write(mem, &mut left, ORIGIN, page, index, w)
 }
 
+// Goes through the steps while another word stands there, and puts back the one that did.
+fn damaged<F>(mem: &mut [u8], page: u64, index: u64, w: u64, steps: F) -> io::Result<()>
+where
+    F: FnOnce(&mut [u8]) -> io::Result<()>,
+    requires { F.IsAlwaysCallable steps }
+{
+    let sound = word::read(mem, ORIGIN, page, index);
+    overwrite(mem, page, index, w);
+    steps(mem)?;
+    if let Some(sound) = sound {
+        overwrite(mem, page, index, sound);
+    }
+    Ok(())
+}
+
 fn begin(rt: &impl Print, mem: &mut [u8]) -> io::Result<()> {
     usual::create(rt, mem)?;
-    usual::map(rt, mem, 0x1000, 0x20_0000, HERE)
+    usual::map(rt, mem, page(0x1000, 0x20_0000, HERE))
 }
 
 // Entry 0 of the root names the table in page 0x103.
 fn stray(rt: &impl Print, mem: &mut [u8]) -> io::Result<()> {
     println!(rt; " the root's entry 0 now names page 0x900, which nobody lent")?;
-    overwrite(mem, ROOT, 0, 0x90_0007);
-    usual::unmap(rt, mem, HERE)?;
-    usual::look_up(rt, mem, HERE)?;
-    overwrite(mem, ROOT, 0, 0x10_3007);
-    Ok(())
+    damaged(mem, ROOT, 0, 0x90_0007, |mem| {
+        usual::unmap(rt, mem, HERE)?;
+        usual::look_up(rt, mem, HERE)
+    })
 }
 
 fn book_as_table(rt: &impl Print, mem: &mut [u8]) -> io::Result<()> {
     println!(rt; " now it names the book")?;
-    overwrite(mem, ROOT, 0, 0x10_1007);
-    usual::map(rt, mem, 0x1000, 0x30_0000, 0x2000)?;
-    overwrite(mem, ROOT, 0, 0x10_3007);
-    Ok(())
+    damaged(mem, ROOT, 0, 0x10_1007, |mem| {
+        usual::map(rt, mem, page(0x1000, 0x30_0000, 0x2000))
+    })
 }
 
 // Three pages were taken, so the free one is in slot 3, behind the book's header.
 fn bad_list(rt: &impl Print, mem: &mut [u8]) -> io::Result<()> {
     println!(rt; " the book lists the root as free")?;
-    overwrite(mem, FIRST, HEADER + 3, ROOT);
-    usual::map(rt, mem, 0x20_0000, 0x40_0000, 0x4000_0000)?;
-    overwrite(mem, FIRST, HEADER + 3, 0x106);
-    Ok(())
+    damaged(mem, FIRST, HEADER + 3, ROOT, |mem| {
+        usual::map(rt, mem, page(0x20_0000, 0x40_0000, 0x4000_0000))
+    })
 }
 
 fn bad_count(rt: &impl Print, mem: &mut [u8]) -> io::Result<()> {
     println!(rt; " the book counts a thousand free pages")?;
-    overwrite(mem, FIRST, FREE_AT, 1000);
-    usual::unmap(rt, mem, HERE)?;
-    overwrite(mem, FIRST, FREE_AT, 1);
-    Ok(())
+    damaged(mem, FIRST, FREE_AT, 1000, |mem| usual::unmap(rt, mem, HERE))
 }
 
 fn go_on(rt: &impl Print, mem: &mut [u8]) -> io::Result<()> {
     println!(rt; " every word is back")?;
     usual::look_up(rt, mem, HERE)?;
-    usual::map(rt, mem, 0x20_0000, 0x40_0000, 0x4000_0000)
+    usual::map(rt, mem, page(0x20_0000, 0x40_0000, 0x4000_0000))
 }
 
 // Tickets end at 2^62.

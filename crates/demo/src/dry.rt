@@ -1,5 +1,5 @@
 // A pool that runs dry: what is set aside is no room until every cache was told, and then it is.
-use crate::usual;
+use crate::usual::{self, page};
 use ask::BYTES;
 use std::io;
 
@@ -8,15 +8,15 @@ const LAST: u64 = 0xffff_ffff_ffff_f000;
 
 fn begin(rt: &impl Print, mem: &mut [u8]) -> io::Result<()> {
     usual::create(rt, mem)?;
-    usual::map(rt, mem, 0x1000, 0x20_0000, 0x1000)?;
-    usual::map(rt, mem, 0x1000, 0x30_0000, LAST)
+    usual::map(rt, mem, page(0x1000, 0x20_0000, 0x1000))?;
+    usual::map(rt, mem, page(0x1000, 0x30_0000, LAST))
 }
 
 fn run_dry(rt: &impl Print, mem: &mut [u8]) -> io::Result<()> {
     println!(rt; " a page of 1 GiB misses only one table; that takes the last page of the pool")?;
-    usual::map(rt, mem, 0x4000_0000, 0x4000_0000, 0x80_0000_0000)?;
+    usual::map(rt, mem, page(0x4000_0000, 0x4000_0000, 0x80_0000_0000))?;
     println!(rt; " where no table is missing, a dry pool is no hindrance")?;
-    usual::map(rt, mem, 0x1000, 0x20_1000, 0x2000)
+    usual::map(rt, mem, page(0x1000, 0x20_1000, 0x2000))
 }
 
 fn make_room(rt: &impl Print, mem: &mut [u8]) -> io::Result<()> {
@@ -31,9 +31,9 @@ fn go_on(rt: &impl Print, mem: &mut [u8]) -> io::Result<()> {
     println!(rt;
         " a walk may still be in these three tables: until every cache was told they are no room"
     )?;
-    usual::map(rt, mem, 0x1000, 0x30_0000, LAST)?;
+    usual::map(rt, mem, page(0x1000, 0x30_0000, LAST))?;
     usual::told(rt, mem, 3)?;
-    usual::map(rt, mem, 0x1000, 0x30_0000, LAST)?;
+    usual::map(rt, mem, page(0x1000, 0x30_0000, LAST))?;
     usual::look_up(rt, mem, 0xffff_ffff_ffff_ffff)
 }
 

@@ -1,6 +1,6 @@
 // The edges of the two halves of the addresses: the last page of the lower half, the first of the upper one, and the last of all, which ends
 // at 2^64. What lies between the halves is no address.
-use crate::usual;
+use crate::usual::{self, READ_ONLY, page};
 use ask::BYTES;
 use std::io;
 
@@ -13,21 +13,20 @@ const LAST: u64 = 0xffff_ffff_c000_0000;
 
 fn map_all(rt: &impl Print, mem: &mut [u8]) -> io::Result<()> {
     usual::create(rt, mem)?;
-    usual::map(rt, mem, 0x4000_0000, 0x4000_0000, HOLE - 0x4000_0000)?;
-    usual::map(rt, mem, 0x4000_0000, 0x8000_0000, UPPER)?;
-    usual::map(rt, mem, 0x4000_0000, 0xc000_0000, LAST)
+    usual::map(rt, mem, page(0x4000_0000, 0x4000_0000, HOLE - 0x4000_0000))?;
+    usual::map(rt, mem, page(0x4000_0000, 0x8000_0000, UPPER))?;
+    usual::map(rt, mem, page(0x4000_0000, 0xc000_0000, LAST))
 }
 
 fn look_around(rt: &impl Print, mem: &[u8]) -> io::Result<()> {
-    usual::look_up(rt, mem, HOLE - 1)?;
-    usual::look_up(rt, mem, HOLE)?;
-    usual::look_up(rt, mem, UPPER - 1)?;
-    usual::look_up(rt, mem, UPPER)?;
-    usual::look_up(rt, mem, LAST + 0x3fff_ffff)
+    for va in [HOLE - 1, HOLE, UPPER - 1, UPPER, LAST + 0x3fff_ffff] {
+        usual::look_up(rt, mem, va)?;
+    }
+    Ok(())
 }
 
 fn hand_back(rt: &impl Print, mem: &mut [u8]) -> io::Result<()> {
-    usual::read_only(rt, mem, LAST)?;
+    usual::protect(rt, mem, LAST, READ_ONLY)?;
     usual::look_up(rt, mem, LAST)?;
     usual::unmap(rt, mem, LAST)?;
     usual::unmap(rt, mem, UPPER)

@@ -11,6 +11,7 @@ mod pools;
 mod refusals;
 mod usual;
 
+// Each act has a title and a window of its own: two lines, and no fewer as a closure's argument.
 fn main(rt: HostRuntime) -> io::Result<()> {
     node::act(&rt)?;
     dry::act(&rt)?;

@@ -1,6 +1,6 @@
 // A night at the correlator's node: a buffer of samples of 2 MiB and one of visibilities of 1 GiB are mapped, filled, handed on to
 // the next stage read-only, and unmapped; their tables come back when every cache was told.
-use crate::usual;
+use crate::usual::{self, READ_ONLY, page};
 use ask::BYTES;
 use std::io;
 
@@ -13,8 +13,8 @@ fn map_both(rt: &impl Print, mem: &mut [u8]) -> io::Result<()> {
         " a pool: pages that may become tables; the first is the book, which says which are free"
     )?;
     usual::create(rt, mem)?;
-    usual::map(rt, mem, 0x20_0000, 0x8000_0000, SAMPLES)?;
-    usual::map(rt, mem, 0x4000_0000, 0x1_0000_0000, VISIBILITIES)
+    usual::map(rt, mem, page(0x20_0000, 0x8000_0000, SAMPLES))?;
+    usual::map(rt, mem, page(0x4000_0000, 0x1_0000_0000, VISIBILITIES))
 }
 
 fn look_at_both(rt: &impl Print, mem: &[u8]) -> io::Result<()> {
@@ -26,8 +26,8 @@ fn hand_on(rt: &impl Print, mem: &mut [u8]) -> io::Result<()> {
     println!(rt;
         " both are full: the next stage gets them read-only, once every processor was told: INVLPG on each"
     )?;
-    usual::read_only(rt, mem, SAMPLES)?;
-    usual::read_only(rt, mem, VISIBILITIES)
+    usual::protect(rt, mem, SAMPLES, READ_ONLY)?;
+    usual::protect(rt, mem, VISIBILITIES, READ_ONLY)
 }
 
 fn take_back(rt: &impl Print, mem: &mut [u8]) -> io::Result<()> {

@@ -1,25 +1,21 @@
 -- Unmap is refused exactly where no page is found, protect also, and before that, for its rights; else they succeed. And which tickets are refused.
 use Prim.Native.Nat.{ℕ, ◌-◌, ◌^◌, ◌<◌, ◌≤◌}
+use Rattle.pool.specs.declared.NotDue.TheVariants as notdue
 use mathlib.Core.Bool.{Bool, true, false, true≢false}
 use mathlib.Core.Path.{◌≡◌, refl, sym, ap, ◌∙◌, subst}
 use native.Mathlib.Decide.{dec_le}
 use native.Mathlib.Omega.{arith}
 use borrow.Author.Tests.{le-leb, lt-leb}
+use Rattle.std.proofs.Common.{Result, Ok, Err}
 use Rattle.entry.specs.declared.Rights.{Rights}
 use Rattle.tables.specs.Roles.{Role}
 use Rattle.pool.specs.Book.{AddsUp, book_of, ticket_of, ticket_in, due_of}
 use Rattle.pool.specs.Booked.{setting_of}
 use Rattle.pool.specs.declared.Book.{Book}
-use Rattle.pool.specs.declared.Due.TheVariants as due
 use Rattle.pool.specs.declared.Space.{Space}
 use Rattle.plan.specs.declared.Reason.{Reason}
 use Rattle.plan.specs.declared.Reason.TheVariants.{WriteExecute}
 use Rattle.plan.specs.declared.finding.PageEntry.{PageEntry}
-use Rattle.plan.specs.declared.finding.Sought.TheVariants as sought
-use Rattle.plan.specs.declared.protects.Change.{Change}
-use Rattle.plan.specs.declared.protects.Changing.TheVariants as changing
-use Rattle.plan.specs.declared.unmaps.Removal.{Removal}
-use Rattle.plan.specs.declared.unmaps.Removing.TheVariants as removing
 use Rattle.plan.specs.Find.{find_of}
 use Rattle.plan.specs.Protect as protect
 use Rattle.plan.specs.Rights.{write_execute}
@@ -33,25 +29,19 @@ use Rattle.effect.proofs.Searching.{nowhere, not_there_once, FindVerdict, there,
 use Rattle.effect.proofs.UnmapDone.{refused_so, unmap_decided}
 
 -- a decision to go on, and a refusal, are two things; and of each there is one
-go_no : (r : Removal) (y : Reason) → removing.Go r ≡ removing.Refused y → ⊥
-go_no r y e = let z : ◌≡◌ {A = ℕ} 0 1 = cc in omega arith
+go_no : {A : Type 0} (x : A) (y : Reason) → Ok x ≡ Err y → ⊥
+go_no x y e = let z : ◌≡◌ {A = ℕ} 0 1 = cc in omega arith
 
-one_reason : (x y : Reason) → removing.Refused x ≡ removing.Refused y → y ≡ x
+one_reason : {A : Type 0} (x y : Reason) → ◌≡◌ {A = Result A Reason} (Err x) (Err y) → y ≡ x
 one_reason x y e = cc
 
-change_no : (c : Change) (y : Reason) → changing.Go c ≡ changing.Refused y → ⊥
-change_no c y e = let z : ◌≡◌ {A = ℕ} 0 1 = cc in omega arith
-
-one_cause : (x y : Reason) → changing.Refused x ≡ changing.Refused y → y ≡ x
-one_cause x y e = cc
-
-changes : (h : ℕ → Bool) (m : ℕ → ℕ) (sp : Space) (va : ℕ) (rights : Rights) (s : PageEntry) → write_execute rights ≡ false → find_of h m sp va ≡ sought.Found s
-    → protect.decide_of h m sp va rights ≡ changing.Go (protect.change_of va s rights (ticket_in (book_of m sp)))
+changes : (h : ℕ → Bool) (m : ℕ → ℕ) (sp : Space) (va : ℕ) (rights : Rights) (s : PageEntry) → write_execute rights ≡ false → find_of h m sp va ≡ Ok s
+    → protect.decide_of h m sp va rights ≡ Ok (protect.change_of va s rights (ticket_in (book_of m sp)))
 unfolding protect.changing_of
 changes h m sp va rights s x f = protect_searches h m sp va rights x ∙ rw f
 
-changes_not : (h : ℕ → Bool) (m : ℕ → ℕ) (sp : Space) (va : ℕ) (rights : Rights) (y : Reason) → write_execute rights ≡ false → find_of h m sp va ≡ sought.Refused y
-    → protect.decide_of h m sp va rights ≡ changing.Refused y
+changes_not : (h : ℕ → Bool) (m : ℕ → ℕ) (sp : Space) (va : ℕ) (rights : Rights) (y : Reason) → write_execute rights ≡ false → find_of h m sp va ≡ Err y
+    → protect.decide_of h m sp va rights ≡ Err y
 unfolding protect.changing_of
 changes_not h m sp va rights y x f = protect_searches h m sp va rights x ∙ rw f
 
@@ -72,7 +62,7 @@ module _ {h : ℕ → Bool} {sp : Space} {m : ℕ → ℕ} {role : ℕ → Role}
           record {
             refused = λ x. (
               λ e. subst (NotThere (setting_of h sp) m va) (sym (one_reason y x (sym d ∙ e))) n,
-              λ k. d ∙ ap removing.Refused (not_there_once (setting_of h sp) m va y x n k),
+              λ k. d ∙ ap Err (not_there_once (setting_of h sp) m va y x n k),
             );
             succeeds = (λ r. absurd (go_no r.0 y (sym r.1 ∙ d)), λ a. absurd (nowhere (setting_of h sp) m va y n a));
           }
@@ -95,25 +85,25 @@ module _ {h : ℕ → Bool} {sp : Space} {m : ℕ → ℕ} {role : ℕ → Role}
           let d = protect_refuses h m sp va rights b in
           record {
             refused = λ y. (
-              λ e. subst (NotProtected (setting_of h sp) m va rights) (sym (one_cause WriteExecute y (sym d ∙ e))) (write_execute_lem b),
-              λ k. d ∙ ap changing.Refused (only_rights b y k),
+              λ e. subst (NotProtected (setting_of h sp) m va rights) (sym (one_reason WriteExecute y (sym d ∙ e))) (write_execute_lem b),
+              λ k. d ∙ ap Err (only_rights b y k),
             );
-            succeeds = (λ c. absurd (change_no c.0 WriteExecute (sym c.1 ∙ d)), λ a. absurd (true≢false (sym b ∙ a.0)));
+            succeeds = (λ c. absurd (go_no c.0 WriteExecute (sym c.1 ∙ d)), λ a. absurd (true≢false (sym b ∙ a.0)));
           }
       go false b (there s f a) =
           let d = changes h m sp va rights s b f in
           record {
-            refused = λ y. (λ e. absurd (change_no _ _ (sym d ∙ e)), λ n. absurd (nowhere (setting_of h sp) m va y (only_there b y n) a));
+            refused = λ y. (λ e. absurd (go_no _ _ (sym d ∙ e)), λ n. absurd (nowhere (setting_of h sp) m va y (only_there b y n) a));
             succeeds = (λ c. (b, a), λ x. (_, d));
           }
       go false b (missing y f n) =
           let d = changes_not h m sp va rights y b f in
           record {
             refused = λ x. (
-              λ e. subst (NotProtected (setting_of h sp) m va rights) (sym (one_cause y x (sym d ∙ e))) (not_there y b n),
-              λ k. d ∙ ap changing.Refused (not_there_once (setting_of h sp) m va y x n (only_there b x k)),
+              λ e. subst (NotProtected (setting_of h sp) m va rights) (sym (one_reason y x (sym d ∙ e))) (not_there y b n),
+              λ k. d ∙ ap Err (not_there_once (setting_of h sp) m va y x n (only_there b x k)),
             );
-            succeeds = (λ c. absurd (change_no c.0 y (sym c.1 ∙ d)), λ a. absurd (nowhere (setting_of h sp) m va y n a.1));
+            succeeds = (λ c. absurd (go_no c.0 y (sym c.1 ∙ d)), λ a. absurd (nowhere (setting_of h sp) m va y n a.1));
           }
 
 -- TOLD, by the three tests of a ticket
@@ -121,22 +111,22 @@ pub told_exactly : (pages : ℕ) (b : Book) (t : ℕ) → AddsUp pages b → Tol
 told_exactly pages b t s = go (dec_le t b.tickets) (dec_le t (ticket_of b)) (dec_le t (2 ^ 62))
   where
     -- what the answer is, and which of the three holds
-    old : t ≤ b.tickets → due_of b t ≡ due.Pages 0
+    old : t ≤ b.tickets → due_of b t ≡ Ok 0
     old u = unfold due_of in rw (le-leb t b.tickets u)
 
-    new : b.tickets < t → t ≤ ticket_of b → t ≤ 2 ^ 62 → due_of b t ≡ due.Pages (t - b.tickets)
+    new : b.tickets < t → t ≤ ticket_of b → t ≤ 2 ^ 62 → due_of b t ≡ Ok (t - b.tickets)
     new u v x = let d : t - b.tickets ≤ b.aside = omega arith in unfold due_of in rw (lt-leb t b.tickets u, le-leb (t - b.tickets) b.aside d, le-leb t (2 ^ 62) x)
 
-    late : b.tickets < t → t ≤ ticket_of b → 2 ^ 62 < t → due_of b t ≡ due.Spent
+    late : b.tickets < t → t ≤ ticket_of b → 2 ^ 62 < t → due_of b t ≡ Err notdue.Spent
     late u v x = let d : t - b.tickets ≤ b.aside = omega arith in unfold due_of in rw (lt-leb t b.tickets u, le-leb (t - b.tickets) b.aside d, lt-leb t (2 ^ 62) x)
 
-    strange : ticket_of b < t → due_of b t ≡ due.Unknown
+    strange : ticket_of b < t → due_of b t ≡ Err notdue.Unknown
     strange u =
         let v : b.tickets < t = omega arith in
         let d : b.aside < t - b.tickets = omega arith in
         unfold due_of in rw (lt-leb t b.tickets v, lt-leb (t - b.tickets) b.aside d)
 
-    done : (k : ℕ) → due_of b t ≡ due.Pages k → t ≤ ticket_of b → t ≤ 2 ^ 62 → ToldExactly b t
+    done : (k : ℕ) → due_of b t ≡ Ok k → t ≤ ticket_of b → t ≤ 2 ^ 62 → ToldExactly b t
     done k e u v = record {
       unknown = (λ x. let z : ◌≡◌ {A = ℕ} 0 1 = cc in absurd (omega arith), λ x. absurd (omega arith));
       spent = (λ x. let z : ◌≡◌ {A = ℕ} 0 1 = cc in absurd (omega arith), λ x. absurd (omega (arith, x.1)));

@@ -5,25 +5,20 @@ use mathlib.Core.List.{List, [], ◌∷◌, ◌++◌}
 use mathlib.Core.Path.{◌≡◌, refl, subst}
 use native.Mathlib.Omega.{arith}
 use borrow.Author.Tests.{leb-true, leb-false, ltb-true, eqb-true}
+use Rattle.std.proofs.Common.{Option, Result, Some, None, Ok, Err}
+use Rattle.plan.specs.declared.Reason.{Reason as PlanReason}
+use Rattle.pool.specs.declared.Reason.{Reason}
 use lib.Dec.{leb, ltb, eqb}
 use Rattle.word.specs.Writes.{Write, write, zeros, Every, none}
 use Rattle.word.proofs.Writes.{every_one, every_append, every_map, every_zeros}
 use Rattle.entry.specs.Words.{fits, page_word, made_page, table_word}
 use Rattle.entry.specs.declared.Rights.{Rights}
-use Rattle.entry.specs.declared.Made.{Made}
-use Rattle.entry.specs.declared.Made.TheVariants as made
 use Rattle.entry.proofs.Written.{fits_true}
 use Rattle.walk.specs.Walk.{index_of}
 use Rattle.walk.proofs.Digits.{index_lt}
 use Rattle.pool.specs.Book.{opened_of, listed_of, names_of}
 use Rattle.pool.specs.declared.Space.{Space}
 use Rattle.pool.specs.declared.Book.{Book}
-use Rattle.pool.specs.declared.Fit.{Fit}
-use Rattle.pool.specs.declared.Fit.TheVariants as fit
-use Rattle.pool.specs.declared.Listed.{Listed}
-use Rattle.pool.specs.declared.Listed.TheVariants as listed
-use Rattle.pool.specs.declared.Opened.{Opened}
-use Rattle.pool.specs.declared.Opened.TheVariants as opened
 use Rattle.pool.proofs.Listing.{listed_usable}
 use Rattle.pool.proofs.Opening.{Fitting, names_shows}
 use Rattle.pool.proofs.Proper.{OfBook}
@@ -36,10 +31,6 @@ use Rattle.plan.specs.declared.maps.NewTables.{NewTables}
 use Rattle.plan.specs.declared.maps.Mapping.{Mapping}
 use Rattle.plan.specs.Map.{Go, Refused, no_book, allowed_of, meets_of, nth_of, fresh_three, fresh_of, stock_of, supply_of, spared_of, made_of, place_of, because_of, stopped_of, fitting_of, standing_of, shaped_of, decide_of, link_of, next_of, grow_of, reached0, reached1, reached2, reached3, build_of, writes_of}
 use Rattle.plan.specs.declared.building.TableReached.{TableReached}
-use Rattle.plan.specs.declared.maps.Shape.{Shape}
-use Rattle.plan.specs.declared.maps.Shape.TheVariants as shape
-use Rattle.plan.specs.declared.maps.Supply.{Supply}
-use Rattle.plan.specs.declared.maps.Supply.TheVariants.{Pages, Lacking}
 use Rattle.plan.specs.Descend.{way_of}
 use Rattle.plan.proofs.Sparing.{spared_same}
 use Rattle.effect.specs.OfPool.{OfPool}
@@ -62,11 +53,11 @@ link_lt p = go (ltb p (2 ^ 40)) refl
     go true e = omega (arith, ltb-true p (2 ^ 40) e)
     go false e = omega arith
 
-made_lt : (n frame w : ℕ) (r : Rights) → made_page n frame r ≡ made.Word w → w < 2 ^ 64
+made_lt : (n frame w : ℕ) (r : Rights) → made_page n frame r ≡ Some w → w < 2 ^ 64
 unfolding made_page
 made_lt n frame w r e = go (fits n frame) refl e
   where
-    go : (b : Bool) → fits n frame ≡ b → cond b (made.Word (page_word n frame r)) made.Refused ≡ made.Word w → w < 2 ^ 64
+    go : (b : Bool) → fits n frame ≡ b → cond b (Some (page_word n frame r)) None ≡ Some w → w < 2 ^ 64
     go true f k =
         let same : page_word n frame r ≡ w = cc in
         rw (← same) (page_word_small n frame r (omega (arith, (fits_true n frame f).below)))
@@ -84,38 +75,38 @@ module _ (h : ℕ → Bool) (m : ℕ → ℕ) (sp : Space) (need : ℕ) (f : New
   no_spares : ◌≡◌ {A = ℕ} 0 1 → Spares sp need f
   no_spares z = absurd (omega arith)
 
-  nth_in : (b : Book) (j x : ℕ) → nth_of h m sp b need j ≡ listed.Page x → j < need → OfPool sp x
+  nth_in : (b : Book) (j x : ℕ) → nth_of h m sp b need j ≡ Some x → j < need → OfPool sp x
   unfolding nth_of
   nth_in b j x e u = go (leb need j) refl e
     where
-      go : (t : Bool) → leb need j ≡ t → cond t (listed.Page 0) (listed_of h m sp b j) ≡ listed.Page x → OfPool sp x
+      go : (t : Bool) → leb need j ≡ t → cond t (Some 0) (listed_of h m sp b j) ≡ Some x → OfPool sp x
       go true v k = absurd (omega (arith, leb-true need j v))
       go false v k = in_of_pool (listed_usable h m sp b j x k).in_the_pool
 
-  three_spares : (b : Book) (x y z : Listed) → nth_of h m sp b need 0 ≡ x → nth_of h m sp b need 1 ≡ y → nth_of h m sp b need 2 ≡ z
-      → fresh_three b need x y z ≡ Pages f → Spares sp need f
+  three_spares : (b : Book) (x y z : Option ℕ) → nth_of h m sp b need 0 ≡ x → nth_of h m sp b need 1 ≡ y → nth_of h m sp b need 2 ≡ z
+      → fresh_three b need x y z ≡ Ok f → Spares sp need f
   unfolding fresh_three
-  three_spares b listed.Bad y z ex ey ez e = no_spares cc
-  three_spares b (listed.Page x) listed.Bad z ex ey ez e = no_spares cc
-  three_spares b (listed.Page x) (listed.Page y) listed.Bad ex ey ez e = no_spares cc
-  three_spares b (listed.Page x) (listed.Page y) (listed.Page z) ex ey ez e =
+  three_spares b None y z ex ey ez e = no_spares cc
+  three_spares b (Some x) None z ex ey ez e = no_spares cc
+  three_spares b (Some x) (Some y) None ex ey ez e = no_spares cc
+  three_spares b (Some x) (Some y) (Some z) ex ey ez e =
       let same : record { need = need; a = x; b = y; c = z; book = b } ≡ f = cc e in
       subst (Spares sp need) same (record { first = nth_in b 0 x ex; second = nth_in b 1 y ey; third = nth_in b 2 z ez })
 
-  stock_spares : (x : Opened) → stock_of h m sp need x ≡ Pages f → Spares sp need f
+  stock_spares : (x : Result Book Reason) → stock_of h m sp need x ≡ Ok f → Spares sp need f
   unfolding stock_of fresh_of
-  stock_spares (opened.Refused r) e = no_spares cc
-  stock_spares (opened.Book b) e = go (ltb b.free need) e
+  stock_spares (Err r) e = no_spares cc
+  stock_spares (Ok b) e = go (ltb b.free need) e
     where
-      go : (t : Bool) → cond t (Lacking NoRoom) (fresh_of h m sp b need) ≡ Pages f → Spares sp need f
+      go : (t : Bool) → cond t (Err NoRoom) (fresh_of h m sp b need) ≡ Ok f → Spares sp need f
       go true k = no_spares cc
       go false k = three_spares b (nth_of h m sp b need 0) (nth_of h m sp b need 1) (nth_of h m sp b need 2) refl refl refl k
 
-  supply_spares : supply_of h m sp need ≡ Pages f → Spares sp need f
+  supply_spares : supply_of h m sp need ≡ Ok f → Spares sp need f
   unfolding supply_of
   supply_spares e = go (eqb need 0) refl e
     where
-      go : (t : Bool) → eqb need 0 ≡ t → cond t (Pages (record { need = 0; a = 0; b = 0; c = 0; book = no_book })) (stock_of h m sp need (opened_of h m sp)) ≡ Pages f
+      go : (t : Bool) → eqb need 0 ≡ t → cond t (Ok (record { need = 0; a = 0; b = 0; c = 0; book = no_book })) (stock_of h m sp need (opened_of h m sp)) ≡ Ok f
           → Spares sp need f
       go true v k =
           let n = eqb-true need 0 v in
@@ -136,27 +127,27 @@ module _ (h : ℕ → Bool) (m : ℕ → ℕ) (sp : Space) (q : Asked) (p : Mapp
   clash z = absurd (omega arith)
 
   module _ (s : Fitting h sp.first sp.pages) (target level table : ℕ) where
-    made_went : (f : NewTables) (x : Made) → OfPool sp table → Spares sp (level - target) f → made_page target q.frame q.rights ≡ x
+    made_went : (f : NewTables) (x : Option ℕ) → OfPool sp table → Spares sp (level - target) f → made_page target q.frame q.rights ≡ x
         → made_of q target level table f x ≡ Go p → MapWent h sp p
     unfolding made_of
-    made_went f made.Refused t k w e = clash cc
-    made_went f (made.Word x) t k w e =
+    made_went f None t k w e = clash cc
+    made_went f (Some x) t k w e =
         let same : record { base = q.base; target = target; level = level; table = table; word = x; fresh = f } ≡ p = cc e in
         subst (MapWent h sp) same (record { fits = s; table = t; word = made_lt target q.frame x q.rights w; spares = k })
 
-    place_went : (x : Supply) → OfPool sp table → supply_of h m sp (level - target) ≡ x → place_of q target level table x ≡ Go p → MapWent h sp p
+    place_went : (x : Result NewTables PlanReason) → OfPool sp table → supply_of h m sp (level - target) ≡ x → place_of q target level table x ≡ Go p → MapWent h sp p
     unfolding place_of
-    place_went (Lacking y) t k e = clash cc
-    place_went (Pages f) t k e =
+    place_went (Err y) t k e = clash cc
+    place_went (Ok f) t k e =
         made_went f (made_page target q.frame q.rights) t (supply_spares h m sp (level - target) f k) refl e
 
   because_went : Fitting h sp.first sp.pages → (target : ℕ) (w : Way) (y : Why) → (y ≡ why.Nothing → OfPool sp w.a) → because_of h m sp q target w y ≡ Go p → MapWent h sp p
   unfolding because_of place_of
   because_went s target w why.Nothing t e = spared (spared_of w (supply_of h m sp (w.level - target))) refl e
     where
-      spared : (x : Supply) → spared_of w (supply_of h m sp (w.level - target)) ≡ x → place_of q target w.level w.a x ≡ Go p → MapWent h sp p
-      spared (Lacking y) k e = clash cc
-      spared (Pages f) k e = place_went s target w.level w.a (Pages f) (t refl) (spared_same w (supply_of h m sp (w.level - target)) f k) e
+      spared : (x : Result NewTables PlanReason) → spared_of w (supply_of h m sp (w.level - target)) ≡ x → place_of q target w.level w.a x ≡ Go p → MapWent h sp p
+      spared (Err y) k e = clash cc
+      spared (Ok f) k e = place_went s target w.level w.a (Ok f) (t refl) (spared_same w (supply_of h m sp (w.level - target)) f k) e
   because_went s target w why.Page t e = clash cc
   because_went s target w why.Table t e = clash cc
   because_went s target w why.Stray t e = clash cc
@@ -167,10 +158,10 @@ module _ (h : ℕ → Bool) (m : ℕ → ℕ) (sp : Space) (q : Asked) (p : Mapp
       let k = way_through h m sp target q.base (λ d. let z : ◌≡◌ {A = ℕ} 0 1 = cc in omega arith) in
       in_of_pool (k.1.inside 0 (omega (arith, k.0)))
 
-  fitting_went : (target : ℕ) (x : Fit) → names_of h m sp ≡ x → fitting_of h m sp q target x ≡ Go p → MapWent h sp p
+  fitting_went : (target : ℕ) (x : Result (Unit {0}) Reason) → names_of h m sp ≡ x → fitting_of h m sp q target x ≡ Go p → MapWent h sp p
   unfolding fitting_of stopped_of
-  fitting_went target (fit.Refused r) s e = clash cc
-  fitting_went target fit.Fits s e = go (meets_of sp q.frame q.size) e
+  fitting_went target (Err r) s e = clash cc
+  fitting_went target (Ok tt) s e = go (meets_of sp q.frame q.size) e
     where
       go : (b : Bool) → cond b (Refused FrameInPool) (stopped_of h m sp q target (way_of h m sp q.base target)) ≡ Go p → MapWent h sp p
       go true k = clash cc
@@ -178,10 +169,10 @@ module _ (h : ℕ → Bool) (m : ℕ → ℕ) (sp : Space) (q : Asked) (p : Mapp
           let w : Way = way_of h m sp q.base target in
           because_went (names_shows h m sp s).fits target w w.why (end_in target) k
 
-  shaped_went : (x : Shape) → shaped_of h m sp q x ≡ Go p → MapWent h sp p
+  shaped_went : (x : Result ℕ PlanReason) → shaped_of h m sp q x ≡ Go p → MapWent h sp p
   unfolding shaped_of standing_of
-  shaped_went (shape.Bad r) e = clash cc
-  shaped_went (shape.Level n) e = fitting_went n (names_of h m sp) refl e
+  shaped_went (Err r) e = clash cc
+  shaped_went (Ok n) e = fitting_went n (names_of h m sp) refl e
 
   pub map_went : decide_of h m sp q ≡ Go p → MapWent h sp p
   unfolding decide_of

@@ -6,10 +6,10 @@ use mathlib.Core.Path.{◌≡◌, refl, sym, ap, ◌∙◌}
 use native.Mathlib.Decide.{dec_le}
 use native.Mathlib.Omega.{arith}
 use borrow.Author.Tests.{lt-ltb, le-ltb, le-leb, lt-leb, eq-eqb, ne_eqb}
+use Rattle.std.proofs.Common.{Some, Ok, Err}
 use lib.Dec.{leb, ltb}
 use Rattle.entry.specs.Entry.{size_of}
 use Rattle.entry.specs.Words.{fits, page_word, made_page}
-use Rattle.entry.specs.declared.Made.TheVariants as made
 use Rattle.entry.specs.declared.Entry.TheVariants.{Nothing}
 use Rattle.walk.specs.Walk.{index_of}
 use Rattle.tables.specs.Roles.{Role, left, entry_at}
@@ -18,7 +18,6 @@ use Rattle.tables.proofs.Way.{comes_left}
 use Rattle.pool.specs.Book.{book_of, page_at, listed_of}
 use Rattle.pool.specs.Booked.{setting_of}
 use Rattle.pool.specs.declared.Space.{Space}
-use Rattle.pool.specs.declared.Listed.TheVariants as listed
 use Rattle.pool.proofs.Listing.{listed_free}
 use Rattle.plan.specs.declared.Reason.TheVariants.{Size, FrameInPool, NoRoom}
 use Rattle.plan.specs.declared.descent.Way.{Way}
@@ -26,8 +25,6 @@ use Rattle.plan.specs.declared.maps.Asked.{Asked}
 use Rattle.plan.specs.declared.maps.NewTables.{NewTables}
 use Rattle.plan.specs.declared.maps.Mapping.{Mapping}
 use Rattle.plan.specs.Map.{Go, Refused, fits_of, shape_of, allowed_of, meets_of, no_book, nth_of, fresh_three, fresh_of, stock_of, supply_of, spared_of, made_of, place_of, stopped_of, fitting_of, standing_of, shaped_of, decide_of}
-use Rattle.plan.specs.declared.maps.Shape.TheVariants.{Level, Bad}
-use Rattle.plan.specs.declared.maps.Supply.TheVariants.{Pages, Lacking}
 use Rattle.plan.specs.Descend.{way_of}
 use Rattle.effect.specs.MapDone.{Fitted}
 use Rattle.effect.specs.MapRefused.{OfLevel, Meets, FrameApart}
@@ -48,7 +45,7 @@ shape_of_level (suc zero) q o = rw o.1
 shape_of_level (suc (suc zero)) q o = rw o.1
 shape_of_level (suc (suc (suc l))) q o = absurd (omega (arith, o.0))
 
-pub shape_of_none : (q : Asked) → ((l : ℕ) → l ≤ 2 → q.size ≢ size_of l) → shape_of q.size q.base q.frame ≡ Bad Size
+pub shape_of_none : (q : Asked) → ((l : ℕ) → l ≤ 2 → q.size ≢ size_of l) → shape_of q.size q.base q.frame ≡ Err Size
 unfolding shape_of size_of
 shape_of_none q n =
     rw (ne_eqb q.size 4096 (n 0 (omega arith)), ne_eqb q.size 2097152 (n 1 (omega arith)), ne_eqb q.size 1073741824 (n 2 (omega arith)))
@@ -60,11 +57,11 @@ size_small (suc zero) size u e = (omega arith, omega arith)
 size_small (suc (suc zero)) size u e = (omega arith, omega arith)
 size_small (suc (suc (suc l))) size u e = absurd (omega arith)
 
-pub allowed_fits : (l : ℕ) (q : Asked) → Fitted l q → allowed_of q ≡ Level l
+pub allowed_fits : (l : ℕ) (q : Asked) → Fitted l q → allowed_of q ≡ Ok l
 unfolding fits_of
 allowed_fits l q f =
     let s = size_small l q.size f.level f.size_is in
-    let shape : shape_of q.size q.base q.frame ≡ Level l =
+    let shape : shape_of q.size q.base q.frame ≡ Ok l =
     shape_of_level l q (f.level, f.size_is)
     ∙ rw (eq-eqb (q.base % q.size) 0 f.base_aligned, eq-eqb (q.frame % q.size) 0 f.frame_aligned, f.base_fits, le-leb q.frame (2 ^ 52 - q.size) (omega (arith, f.frame_fits))) in
     allowed_strict q l shape f.strict
@@ -84,7 +81,7 @@ meets_false h sp q (inr u) = rw (le-ltb q.frame ((sp.first + sp.pages) * 4096) (
     go false = refl
 
 -- the page's word
-page_made : (l : ℕ) (q : Asked) → Fitted l q → made_page l q.frame q.rights ≡ made.Word (page_word l q.frame q.rights)
+page_made : (l : ℕ) (q : Asked) → Fitted l q → made_page l q.frame q.rights ≡ Some (page_word l q.frame q.rights)
 unfolding made_page fits
 page_made l q f =
     let s = size_small l q.size f.level f.size_is in
@@ -122,18 +119,18 @@ pub record Planned (h : ℕ → Bool) (sp : Space) (m : ℕ → ℕ) (q : Asked)
   pub supplied : Supplied m sp (p.level - p.target) p.fresh
 
 module _ {h : ℕ → Bool} {sp : Space} {m : ℕ → ℕ} {role : ℕ → Role} (w : Whole h sp m role) where
-  nth_listed : (need j : ℕ) → need ≤ (book_of m sp).free → nth_of h m sp (book_of m sp) need j ≡ listed.Page (nth m sp need j)
+  nth_listed : (need j : ℕ) → need ≤ (book_of m sp).free → nth_of h m sp (book_of m sp) need j ≡ Some (nth m sp need j)
   unfolding nth_of nth
   nth_listed need j u = go (dec_le need j)
     where
-      go : Dec (need ≤ j) → cond (leb need j) (listed.Page 0) (listed_of h m sp (book_of m sp) j) ≡ listed.Page (cond (leb need j) 0 (page_at m sp j))
+      go : Dec (need ≤ j) → cond (leb need j) (Some 0) (listed_of h m sp (book_of m sp) j) ≡ Some (cond (leb need j) 0 (page_at m sp j))
       go (yes v) = rw (le-leb need j v)
       go (no v) =
           rw (lt-leb need j (omega arith))
           (listed_free w.booked (owned w) h (λ p a b. (w.sound.built.home p (w.sound.built.whole p a b)).held) j (omega arith))
 
   -- enough of them, or too few
-  pub supplies : (need : ℕ) → need ≤ (book_of m sp).free → (f : NewTables) × (supply_of h m sp need ≡ Pages f) × Supplied m sp need f
+  pub supplies : (need : ℕ) → need ≤ (book_of m sp).free → (f : NewTables) × (supply_of h m sp need ≡ Ok f) × Supplied m sp need f
   unfolding supply_of stock_of fresh_of fresh_three
   supplies zero u = (
     record { need = 0; a = 0; b = 0; c = 0; book = no_book },
@@ -160,7 +157,7 @@ module _ {h : ℕ → Bool} {sp : Space} {m : ℕ → ℕ} {role : ℕ → Role}
     },
   )
 
-  pub lacks : (need : ℕ) → (book_of m sp).free < need → supply_of h m sp need ≡ Lacking NoRoom
+  pub lacks : (need : ℕ) → (book_of m sp).free < need → supply_of h m sp need ≡ Err NoRoom
   unfolding supply_of stock_of
   lacks need u = rw (ne_eqb need 0 (λ e. omega arith), book_opens w, lt-ltb (book_of m sp).free need u)
 
@@ -215,7 +212,7 @@ module _ {h : ℕ → Bool} {sp : Space} {m : ℕ → ℕ} {role : ℕ → Role}
 
       -- it stops where nothing is, and there are pages for the tables that are missing
       pub room_decides : (x : Way) → Traced (setting_of h sp) m q.base l x → l ≤ x.level
-          → entry_at m x.level x.a (index_of x.level q.base) ≡ Nothing → (s : NewTables) → supply_of h m sp (x.level - l) ≡ Pages s → Supplied m sp (x.level - l) s
+          → entry_at m x.level x.a (index_of x.level q.base) ≡ Nothing → (s : NewTables) → supply_of h m sp (x.level - l) ≡ Ok s → Supplied m sp (x.level - l) s
           → (p : Mapping) × (place_of q l x.level x.a (spared_of x (supply_of h m sp (x.level - l))) ≡ Go p) × Planned h sp m q p
       unfolding place_of made_of
       room_decides x t u n s e o = (

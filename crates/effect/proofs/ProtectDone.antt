@@ -4,6 +4,8 @@ use mathlib.Core.Bool.{Bool}
 use mathlib.Core.List.{List, [], ◌∷◌}
 use mathlib.Core.Path.{◌≡◌, refl, sym, ap, ◌∙◌, subst, subst₂}
 use native.Mathlib.Omega.{arith}
+use Rattle.std.proofs.Common.{Result, Ok, Err}
+use Rattle.plan.specs.declared.Reason.{Reason}
 use Rattle.word.specs.Writes.{Write, write, after, Every}
 use Rattle.word.proofs.Writes.{every_one}
 use Rattle.entry.specs.Entry.{says}
@@ -30,10 +32,7 @@ use Rattle.pool.proofs.Booked.{Beside, book_beside, numbered_beside, booked_besi
 use Rattle.pool.proofs.Counting.{InPool}
 use Rattle.pool.proofs.Tickets.{ticket_sound}
 use Rattle.plan.specs.declared.finding.PageEntry.{PageEntry}
-use Rattle.plan.specs.declared.finding.Sought.{Sought}
-use Rattle.plan.specs.declared.finding.Sought.TheVariants as sought
 use Rattle.plan.specs.declared.protects.Change.{Change}
-use Rattle.plan.specs.declared.protects.Changing.TheVariants.{Go}
 use Rattle.plan.specs.Find.{find_of}
 use Rattle.plan.specs.Protect.{change_of, changing_of, decide_of, writes_of}
 use Rattle.effect.proofs.Unmarking.{page_unmarked}
@@ -53,15 +52,15 @@ with_rights_lt w r = numbers w _ _ _ (flag_lt r.writable) (flag_lt r.user) (flag
     numbers w a b x u v y = omega arith
 
 -- the change that a decision is
-decided : (h : ℕ → Bool) (m : ℕ → ℕ) (sp : Space) (va : ℕ) (r : Rights) (c : Change) → decide_of h m sp va r ≡ Go c
-    → (s : PageEntry) × (find_of h m sp va ≡ sought.Found s) × (change_of va s r (ticket_in (book_of m sp)) ≡ c)
+decided : (h : ℕ → Bool) (m : ℕ → ℕ) (sp : Space) (va : ℕ) (r : Rights) (c : Change) → decide_of h m sp va r ≡ Ok c
+    → (s : PageEntry) × (find_of h m sp va ≡ Ok s) × (change_of va s r (ticket_in (book_of m sp)) ≡ c)
 unfolding changing_of
 decided h m sp va r c e = go (find_of h m sp va) refl (protect_strict h m sp va r c e).1
   where
-    go : (x : Sought) → find_of h m sp va ≡ x → changing_of m sp va r x ≡ Go c
-        → (s : PageEntry) × (find_of h m sp va ≡ sought.Found s) × (change_of va s r (ticket_in (book_of m sp)) ≡ c)
-    go (sought.Found s) f k = (s, f, cc)
-    go (sought.Refused y) f k = let z : ◌≡◌ {A = ℕ} 0 1 = cc in absurd (omega arith)
+    go : (x : Result PageEntry Reason) → find_of h m sp va ≡ x → changing_of m sp va r x ≡ Ok c
+        → (s : PageEntry) × (find_of h m sp va ≡ Ok s) × (change_of va s r (ticket_in (book_of m sp)) ≡ c)
+    go (Ok s) f k = (s, f, cc)
+    go (Err y) f k = let z : ◌≡◌ {A = ℕ} 0 1 = cc in absurd (omega arith)
 
 module _ {h : ℕ → Bool} {sp : Space} {m : ℕ → ℕ} {role : ℕ → Role} (w : Whole h sp m role) (va : ℕ) (r : Rights) where
   changes : (s : PageEntry) → Located (setting_of h sp) m role va s → ProtectDone h sp m role va r (change_of va s r (ticket_in (book_of m sp)))
@@ -114,11 +113,11 @@ module _ {h : ℕ → Bool} {sp : Space} {m : ℕ → ℕ} {role : ℕ → Role}
           (protect_done v s.frame k.rights r w.sound k.comes k.entry says_it pat_it)
 
   -- a page that is found could be given any rights, as an older version of this library did: the space would be whole all the same
-  pub regranted_done : (s : PageEntry) → find_of h m sp va ≡ sought.Found s → ProtectDone h sp m role va r (change_of va s r (ticket_in (book_of m sp)))
+  pub regranted_done : (s : PageEntry) → find_of h m sp va ≡ Ok s → ProtectDone h sp m role va r (change_of va s r (ticket_in (book_of m sp)))
   regranted_done s f = changes s (located w (found_at h m sp va s f))
 
   -- PROTECT, DONE
-  pub protected : (c : Change) → decide_of h m sp va r ≡ Go c → ProtectDone h sp m role va r c
+  pub protected : (c : Change) → decide_of h m sp va r ≡ Ok c → ProtectDone h sp m role va r c
   protected c e =
       let d = decided h m sp va r c e in
       subst (ProtectDone h sp m role va r) d.2 (regranted_done d.0 d.1)

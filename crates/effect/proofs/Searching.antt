@@ -6,6 +6,7 @@ use native.Mathlib.Decide.{ℕ_discrete}
 use native.Mathlib.Nat.{div-add-mod'}
 use native.Mathlib.Omega.{arith}
 use borrow.Author.Tests.{le-leb, eq-eqb, ne_eqb}
+use Rattle.std.proofs.Common.{Ok, Err}
 use Rattle.entry.specs.Entry.{size_of, says}
 use Rattle.entry.specs.declared.Rights.{Rights}
 use Rattle.walk.specs.Walk.{canonical, base_of, index_of}
@@ -22,7 +23,6 @@ use Rattle.plan.specs.declared.Reason.{Reason}
 use Rattle.plan.specs.declared.Reason.TheVariants.{BaseRange, NothingStarts}
 use Rattle.plan.specs.declared.descent.Way.{Way}
 use Rattle.plan.specs.declared.finding.PageEntry.{PageEntry}
-use Rattle.plan.specs.declared.finding.Sought.TheVariants.{Found, Refused}
 use Rattle.plan.specs.Descend.{way_of}
 use Rattle.plan.specs.Find.{starts_of, page_entry_of, found_because_of, found_stopped_of, sought_of, find_of}
 use Rattle.effect.specs.StartsAt.{StartsAt, NotThere, no_address, none_starts}
@@ -49,8 +49,8 @@ not_there_once σ m va x y (none_starts u n) (no_address v) = absurd (false≢tr
 module _ {h : ℕ → Bool} {sp : Space} {m : ℕ → ℕ} {role : ℕ → Role} (w : Whole h sp m role) (va : ℕ) where
   -- what is found, or why not, and what that means
   pub data FindVerdict : Type 0 where
-    there : (s : PageEntry) → find_of h m sp va ≡ Found s → StartsAt (setting_of h sp) m va → FindVerdict
-    missing : (y : Reason) → find_of h m sp va ≡ Refused y → NotThere (setting_of h sp) m va y → FindVerdict
+    there : (s : PageEntry) → find_of h m sp va ≡ Ok s → StartsAt (setting_of h sp) m va → FindVerdict
+    missing : (y : Reason) → find_of h m sp va ≡ Err y → NotThere (setting_of h sp) m va y → FindVerdict
 
   -- an address that means nothing, or a page with another base: no page starts there
   nothing_starts : meaning (setting_of h sp) m va ≡ found.Nothing → ¬ StartsAt (setting_of h sp) m va
@@ -79,7 +79,7 @@ module _ {h : ℕ → Bool} {sp : Space} {m : ℕ → ℕ} {role : ℕ → Role}
   unfolding found_stopped_of
   stopped_by y u = rw (le-leb y.level 3 (omega arith))
 
-  found_there : (s : PageEntry) → find_of h m sp va ≡ Found s → FindVerdict
+  found_there : (s : PageEntry) → find_of h m sp va ≡ Ok s → FindVerdict
   found_there s f =
       let k = located w (found_at h m sp va s f) in
       there s f (record { address = va; size = s.size; frame = s.frame; rights = k.rights; means = k.means })

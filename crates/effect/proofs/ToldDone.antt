@@ -4,6 +4,7 @@ use mathlib.Core.Bool.{Bool}
 use mathlib.Core.List.{List}
 use mathlib.Core.Path.{◌≡◌, sym, ap, ◌∙◌}
 use native.Mathlib.Omega.{arith}
+use Rattle.std.proofs.Common.{Ok}
 use Rattle.word.specs.Writes.{Write, after, Every}
 use Rattle.tables.specs.Roles.{Role, left, Sound}
 use Rattle.tables.proofs.Clearing.{LeavesTables, spare_untouched, untouched_holds}
@@ -12,7 +13,6 @@ use Rattle.pool.proofs.Alone.{alone_after, release_unmarking}
 use Rattle.pool.specs.Book.{book_of, due_of}
 use Rattle.pool.specs.Booked.{setting_of, Booked, released}
 use Rattle.pool.specs.Changes.{release_writes}
-use Rattle.pool.specs.declared.Due.TheVariants as due
 use Rattle.pool.specs.declared.Space.{Space}
 use Rattle.pool.proofs.Proper.{OfBook, release_proper}
 use Rattle.pool.proofs.Lists.{thawed_stays}
@@ -70,5 +70,5 @@ module _ {h : ℕ → Bool} {sp : Space} {m : ℕ → ℕ} {role : ℕ → Role}
   }
 
 -- TOLD, DONE
-pub told : {h : ℕ → Bool} {sp : Space} {m : ℕ → ℕ} {role : ℕ → Role} → Whole h sp m role → (t k : ℕ) → due_of (book_of m sp) t ≡ due.Pages k → ToldDone h sp m role t k
+pub told : {h : ℕ → Bool} {sp : Space} {m : ℕ → ℕ} {role : ℕ → Role} → Whole h sp m role → (t k : ℕ) → due_of (book_of m sp) t ≡ Ok k → ToldDone h sp m role t k
 told {sp = sp} {m} w t k e = released_by w t k (due_exactly sp.pages (book_of m sp) t k w.booked.sound e)

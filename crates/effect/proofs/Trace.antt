@@ -26,7 +26,8 @@ use Rattle.pool.proofs.Pages.{root_page}
 use Rattle.plan.specs.declared.descent.Way.{Way}
 use Rattle.plan.specs.declared.descent.Why.{Why}
 use Rattle.plan.specs.declared.descent.Why.TheVariants as why
-use Rattle.plan.specs.Descend.{Going, Stopped, push_of, stop_of, at_entry_of, arrive_of, step_down_of, down_of, end_of, no_way, way_of}
+use Rattle.plan.proofs.Ways.{down_stopped}
+use Rattle.plan.specs.Descend.{Going, push_of, stop_of, at_entry_of, arrive_of, step_down_of, down_of, end_of, no_way, way_of}
 
 -- entry i of level l of page q names the table t, and the walk of va comes to q
 pub record NamesTable (σ : Setting) (m : ℕ → ℕ) (va l q t : ℕ) : Type 0 where
@@ -54,11 +55,6 @@ record Above (σ : Setting) (m : ℕ → ℕ) (va n t : ℕ) (w : Way) : Type 0 
   one : n < 4 → NamesTable σ m va n w.a t
   two : n < 3 → NamesTable σ m va (suc n) w.b w.a
   three : n < 2 → NamesTable σ m va (suc (suc n)) w.c w.b
-
-down_stopped : (h : ℕ → Bool) (m : ℕ → ℕ) (sp : Space) (target va n : ℕ) (w : Way) → down_of h m sp target va n (Stopped w) ≡ Stopped w
-unfolding down_of step_down_of
-down_stopped h m sp target va zero w = refl
-down_stopped h m sp target va (suc n) w = down_stopped h m sp target va n w
 
 module _ {h : ℕ → Bool} {sp : Space} {m : ℕ → ℕ} {role : ℕ → Role} (b : Built (setting_of h sp) m role) (k : Booked sp m role) where
   behind_book : (q : ℕ) → sp.first ≤ q → role q ≢ book → sp.first + book_pages sp.pages ≤ q

@@ -6,6 +6,7 @@ use mathlib.Core.Path.{◌≡◌, refl, sym, ap, ◌∙◌, subst}
 use native.Mathlib.Decide.{ℕ_discrete}
 use native.Mathlib.Omega.{arith}
 use borrow.Author.Tests.{eq-eqb, ne_eqb, le-leb}
+use Rattle.std.proofs.Common.{Result, Ok, Err}
 use lib.Dec.{eqb}
 use Rattle.word.specs.Writes.{after, Every}
 use Rattle.tables.specs.Roles.{Role}
@@ -24,10 +25,7 @@ use Rattle.pool.proofs.Pages.{adds_up}
 use Rattle.pool.proofs.Tickets.{ticket_more}
 use Rattle.plan.specs.declared.Reason.{Reason}
 use Rattle.plan.specs.declared.finding.PageEntry.{PageEntry}
-use Rattle.plan.specs.declared.finding.Sought.{Sought}
-use Rattle.plan.specs.declared.finding.Sought.TheVariants as sought
 use Rattle.plan.specs.declared.unmaps.Removal.{Removal}
-use Rattle.plan.specs.declared.unmaps.Removing.TheVariants.{Go, Refused}
 use Rattle.effect.proofs.WayInPool.{entry_in_pool}
 use Rattle.effect.specs.OfPool.{OfPool}
 use Rattle.plan.specs.Find.{find_of}
@@ -51,11 +49,11 @@ unfolding book_read
 book_read_lem m sp n u = rw (ne_eqb n 0 (omega arith))
 
 -- what was not found is not removed
-pub refused_so : (h : ℕ → Bool) (m : ℕ → ℕ) (sp : Space) (va : ℕ) (y : Reason) → find_of h m sp va ≡ sought.Refused y → decide_of h m sp va ≡ Refused y
+pub refused_so : (h : ℕ → Bool) (m : ℕ → ℕ) (sp : Space) (va : ℕ) (y : Reason) → find_of h m sp va ≡ Err y → decide_of h m sp va ≡ Err y
 unfolding decide_of removing_of
 refused_so h m sp va y f = rw f
 
-refusal_clash : (r : Removal) (y : Reason) → Go r ≡ Refused y → ◌≡◌ {A = ℕ} 0 1
+refusal_clash : (r : Removal) (y : Reason) → Ok r ≡ Err y → ◌≡◌ {A = ℕ} 0 1
 refusal_clash r y e = cc
 
 module _ {h : ℕ → Bool} {sp : Space} {m : ℕ → ℕ} {role : ℕ → Role} (w : Whole h sp m role) (va : ℕ) where
@@ -133,22 +131,22 @@ module _ {h : ℕ → Bool} {sp : Space} {m : ℕ → ℕ} {role : ℕ → Role}
         simp (is_sound sp.pages (book_of m sp) w.booked.sound, le-leb _ _ room)
 
     -- and so they are removed
-    removes : (n : ℕ) → Emptied h m va s.way n → remove_of h m sp s n ≡ Go (removal s n (book_read m sp n))
+    removes : (n : ℕ) → Emptied h m va s.way n → remove_of h m sp s n ≡ Ok (removal s n (book_read m sp n))
     unfolding remove_of open_of booked_of book_read
     removes n e = go (ℕ_discrete n 0)
       where
-        go : Dec (n ≡ 0) → remove_of h m sp s n ≡ Go (removal s n (book_read m sp n))
+        go : Dec (n ≡ 0) → remove_of h m sp s n ≡ Ok (removal s n (book_read m sp n))
         go (yes z) = rw (eq-eqb n 0 z, z)
         go (no z) = rw (ne_eqb n 0 z, book_opens w, takes n e)
 
-    pub unmap_decided : find_of h m sp va ≡ sought.Found s → decide_of h m sp va ≡ Go (removal s (emptied_of h m va s.way) (book_read m sp (emptied_of h m va s.way)))
+    pub unmap_decided : find_of h m sp va ≡ Ok s → decide_of h m sp va ≡ Ok (removal s (emptied_of h m va s.way) (book_read m sp (emptied_of h m va s.way)))
     unfolding decide_of removing_of
     unmap_decided f = rw f (removes (emptied_of h m va s.way) (emptied h m va s.way))
 
-    same_removal : (r x : Removal) → Go r ≡ Go x → r ≡ x
+    same_removal : (r x : Removal) → ◌≡◌ {A = Result Removal Reason} (Ok r) (Ok x) → r ≡ x
     same_removal r x e = cc
 
-    unmapped_at : find_of h m sp va ≡ sought.Found s → (r : Removal) → decide_of h m sp va ≡ Go r → UnmapDone h sp m role va r
+    unmapped_at : find_of h m sp va ≡ Ok s → (r : Removal) → decide_of h m sp va ≡ Ok r → UnmapDone h sp m role va r
     unmapped_at f r e =
         let n = emptied_of h m va s.way in
         subst (UnmapDone h sp m role va) (same_removal _ r (sym (unmap_decided f) ∙ e))
@@ -156,9 +154,9 @@ module _ {h : ℕ → Bool} {sp : Space} {m : ℕ → ℕ} {role : ℕ → Role}
         (λ j u. (entry_in_pool (found_at h m sp va s f)).small j (omega (arith, ((emptied h m va s.way).empty j u).0, level_at_lem s.way j))))
 
   -- UNMAP, DONE
-  pub unmapped : (r : Removal) → decide_of h m sp va ≡ Go r → UnmapDone h sp m role va r
+  pub unmapped : (r : Removal) → decide_of h m sp va ≡ Ok r → UnmapDone h sp m role va r
   unmapped r e = go (find_of h m sp va) refl
     where
-      go : (x : Sought) → find_of h m sp va ≡ x → UnmapDone h sp m role va r
-      go (sought.Found s) f = unmapped_at s (located w (found_at h m sp va s f)) f r e
-      go (sought.Refused y) f = let z : ◌≡◌ {A = ℕ} 0 1 = refusal_clash r y (sym e ∙ refused_so h m sp va y f) in absurd (omega arith)
+      go : (x : Result PageEntry Reason) → find_of h m sp va ≡ x → UnmapDone h sp m role va r
+      go (Ok s) f = unmapped_at s (located w (found_at h m sp va s f)) f r e
+      go (Err y) f = let z : ◌≡◌ {A = ℕ} 0 1 = refusal_clash r y (sym e ∙ refused_so h m sp va y f) in absurd (omega arith)

@@ -5,6 +5,9 @@ use mathlib.Core.List.{[], ◌∷◌}
 use mathlib.Core.Path.{◌≡◌, refl, subst}
 use native.Mathlib.Omega.{arith}
 use borrow.Author.Tests.{leb-false}
+use Rattle.std.proofs.Common.{Result, Ok, Err}
+use Rattle.plan.specs.declared.Reason.{Reason as PlanReason}
+use Rattle.pool.specs.declared.Reason.{Reason}
 use lib.Dec.{leb, eqb}
 use Rattle.word.specs.Writes.{write, Every, none}
 use Rattle.word.proofs.Writes.{every_one, every_append}
@@ -15,17 +18,12 @@ use Rattle.pool.specs.Changes.{aside_writes}
 use Rattle.pool.specs.Stands.{takes_of}
 use Rattle.pool.specs.declared.Space.{Space}
 use Rattle.pool.specs.declared.Book.{Book}
-use Rattle.pool.specs.declared.Opened.{Opened}
-use Rattle.pool.specs.declared.Opened.TheVariants as opened
 use Rattle.pool.specs.declared.Reason.TheVariants.{BadBook}
 use Rattle.pool.proofs.Opening.{Fitting, names_shows}
 use Rattle.pool.proofs.Proper.{aside_proper}
 use Rattle.plan.specs.declared.Reason.TheVariants.{Pool}
 use Rattle.plan.specs.declared.finding.PageEntry.{PageEntry}
-use Rattle.plan.specs.declared.finding.Sought.{Sought}
-use Rattle.plan.specs.declared.finding.Sought.TheVariants as sought
 use Rattle.plan.specs.declared.unmaps.Removal.{Removal}
-use Rattle.plan.specs.declared.unmaps.Removing.TheVariants.{Go, Refused}
 use Rattle.plan.specs.Find.{find_of}
 use Rattle.plan.specs.Map.{no_book}
 use Rattle.plan.specs.Unmap.{emptied_of, booked_of, open_of, remove_of, removing_of, decide_of, book1, book2, cut_writes, writes_of}
@@ -48,35 +46,35 @@ module _ (h : ℕ → Bool) (m : ℕ → ℕ) (sp : Space) (va : ℕ) (r : Remov
   clash z = absurd (omega arith)
 
   module _ (s : PageEntry) (n : ℕ) (f : FoundAt h m sp va s) (u : (j : ℕ) → j < n → j + s.way.level ≤ 2) where
-    open_went : (x : Opened) → open_of sp s n x ≡ Go r → UnmapWent h m sp va r
+    open_went : (x : Result Book Reason) → open_of sp s n x ≡ Ok r → UnmapWent h m sp va r
     unfolding open_of booked_of
-    open_went (opened.Refused y) e = clash cc
-    open_went (opened.Book b) e = go (takes_of sp b n) e
+    open_went (Err y) e = clash cc
+    open_went (Ok b) e = go (takes_of sp b n) e
       where
-        go : (t : Bool) → cond t (Go (record { page = s; empties = n; book = b })) (Refused (Pool BadBook)) ≡ Go r → UnmapWent h m sp va r
+        go : (t : Bool) → cond t (Ok (record { page = s; empties = n; book = b })) (Err (Pool BadBook)) ≡ Ok r → UnmapWent h m sp va r
         go false k = clash cc
         go true k =
             let same : record { page = s; empties = n; book = b } ≡ r = cc in
             subst (UnmapWent h m sp va) same (record { found = f; below = u })
 
-    remove_went : remove_of h m sp s n ≡ Go r → UnmapWent h m sp va r
+    remove_went : remove_of h m sp s n ≡ Ok r → UnmapWent h m sp va r
     unfolding remove_of
     remove_went e = go (eqb n 0) e
       where
-        go : (t : Bool) → cond t (Go (record { page = s; empties = 0; book = no_book })) (open_of sp s n (opened_of h m sp)) ≡ Go r → UnmapWent h m sp va r
+        go : (t : Bool) → cond t (Ok (record { page = s; empties = 0; book = no_book })) (open_of sp s n (opened_of h m sp)) ≡ Ok r → UnmapWent h m sp va r
         go true k =
             let same : record { page = s; empties = 0; book = no_book } ≡ r = cc in
             subst (UnmapWent h m sp va) same (record { found = f; below = λ j v. absurd (omega arith) })
         go false k = open_went (opened_of h m sp) k
 
-  sought_went : (x : Sought) → find_of h m sp va ≡ x → removing_of h m sp va x ≡ Go r → UnmapWent h m sp va r
+  sought_went : (x : Result PageEntry PlanReason) → find_of h m sp va ≡ x → removing_of h m sp va x ≡ Ok r → UnmapWent h m sp va r
   unfolding removing_of
-  sought_went (sought.Refused y) f e = clash cc
-  sought_went (sought.Found s) f e =
+  sought_went (Err y) f e = clash cc
+  sought_went (Ok s) f e =
       remove_went s (emptied_of h m va s.way) (found_at h m sp va s f)
       (λ j u. omega (arith, ((emptied h m va s.way).empty j u).0, level_at_lem s.way j)) e
 
-  pub unmap_went : decide_of h m sp va ≡ Go r → UnmapWent h m sp va r
+  pub unmap_went : decide_of h m sp va ≡ Ok r → UnmapWent h m sp va r
   unfolding decide_of
   unmap_went e = sought_went (find_of h m sp va) refl e
 
@@ -118,5 +116,5 @@ module _ {h : ℕ → Bool} {m : ℕ → ℕ} (sp : Space) (va : ℕ) (r : Remov
       (cut_in sp fits 2 r.empties r.page.way.d (index_of (r.page.way.level + 3) va) r.page.way.c (book2 sp r) (index_lt _ va) (emptied_in 2))))
 
 -- UNMAP WRITES TO THE POOL
-pub unmap_in_pool : (h : ℕ → Bool) (m : ℕ → ℕ) (sp : Space) (va : ℕ) (r : Removal) → decide_of h m sp va ≡ Go r → Every (OfPool sp) (writes_of sp va r)
+pub unmap_in_pool : (h : ℕ → Bool) (m : ℕ → ℕ) (sp : Space) (va : ℕ) (r : Removal) → decide_of h m sp va ≡ Ok r → Every (OfPool sp) (writes_of sp va r)
 unmap_in_pool h m sp va r e = went_in sp va r (unmap_went h m sp va r e)

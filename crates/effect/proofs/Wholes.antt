@@ -5,6 +5,7 @@ use mathlib.Core.List.{List}
 use mathlib.Core.Logic.{inr}
 use mathlib.Core.Path.{◌≡◌}
 use native.Mathlib.Omega.{arith}
+use Rattle.std.proofs.Common.{Ok}
 use Rattle.word.specs.Writes.{Write, Every}
 use Rattle.word.proofs.Writes.{every_map}
 use Rattle.walk.specs.Walk.{canonical}
@@ -13,8 +14,6 @@ use Rattle.tables.proofs.Clearing.{Spare, book_spare}
 use Rattle.pool.specs.Book.{book_of, names_of, opened_of}
 use Rattle.pool.specs.Booked.{setting_of, Booked, Owned}
 use Rattle.pool.specs.declared.Space.{Space}
-use Rattle.pool.specs.declared.Fit.TheVariants as fit
-use Rattle.pool.specs.declared.Opened.TheVariants as opened
 use Rattle.pool.proofs.Counting.{InPool, pool_in}
 use Rattle.pool.proofs.Booked.{Beside}
 use Rattle.pool.proofs.Listing.{booked_names, booked_opens}
@@ -41,10 +40,10 @@ module _ {h : ℕ → Bool} {sp : Space} {m : ℕ → ℕ} {role : ℕ → Role}
   owned = built_owned h sp m role root_low w.sound.built
 
   -- its book names it, and opens
-  pub book_names : names_of h m sp ≡ fit.Fits
+  pub book_names : names_of h m sp ≡ Ok tt
   book_names = booked_names w.booked owned h (stands h sp w.stands).fits
 
-  pub book_opens : opened_of h m sp ≡ opened.Book (book_of m sp)
+  pub book_opens : opened_of h m sp ≡ Ok (book_of m sp)
   book_opens = booked_opens w.booked owned h (stands h sp w.stands).fits
 
   -- a table lies in the pool behind the book, and in the window

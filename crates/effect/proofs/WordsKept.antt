@@ -6,6 +6,8 @@ use mathlib.Core.Logic.{◌⊎◌, inl, inr}
 use mathlib.Core.Path.{◌≡◌, refl, sym, ap, ◌∙◌, subst}
 use native.Mathlib.Omega.{arith}
 use borrow.Author.Tests.{leb-false}
+use Rattle.std.proofs.Common.{Result, Ok, Err}
+use Rattle.plan.specs.declared.Reason.{Reason}
 use lib.Dec.{leb}
 use Rattle.word.specs.Writes.{write, after}
 use Rattle.entry.specs.Clean.{Clean}
@@ -21,7 +23,6 @@ use Rattle.pool.specs.Booked.{setting_of, released}
 use Rattle.pool.specs.Changes.{aside_writes, release_writes}
 use Rattle.pool.specs.declared.Space.{Space}
 use Rattle.pool.specs.declared.Book.{Book}
-use Rattle.pool.specs.declared.Due.TheVariants as due
 use Rattle.pool.proofs.Proper.{aside_proper, release_proper}
 use Rattle.pool.proofs.Releasing.{release_shifted}
 use Rattle.plan.specs.Find.{find_of}
@@ -29,12 +30,8 @@ use Rattle.plan.specs.Unmap as unmap
 use Rattle.plan.specs.Unmap.{cut_writes, book1, book2}
 use Rattle.plan.specs.Protect as protect
 use Rattle.plan.specs.declared.finding.PageEntry.{PageEntry}
-use Rattle.plan.specs.declared.finding.Sought.{Sought}
-use Rattle.plan.specs.declared.finding.Sought.TheVariants as sought
 use Rattle.plan.specs.declared.unmaps.Removal.{Removal}
-use Rattle.plan.specs.declared.unmaps.Removing.TheVariants as removing
 use Rattle.plan.specs.declared.protects.Change.{Change}
-use Rattle.plan.specs.declared.protects.Changing.TheVariants as changing
 use Rattle.plan.proofs.Strictly.{protect_strict}
 use Rattle.plan.proofs.Found.{found_at}
 use Rattle.effect.specs.UnmapDone.{SetAside, UnmapDone}
@@ -48,7 +45,7 @@ use Rattle.effect.proofs.Words.{Each, no_more, each_append, each_one, each_elsew
 
 module _ {h : ℕ → Bool} {sp : Space} {m : ℕ → ℕ} {role : ℕ → Role} (w : Whole h sp m role) (exact : Exact m role) where
   -- UNMAP
-  pub unmap_exact : (va : ℕ) (r : Removal) → unmap.decide_of h m sp va ≡ removing.Go r → (d : UnmapDone h sp m role va r) → Exact (after m (unmap.writes_of sp va r)) d.role'
+  pub unmap_exact : (va : ℕ) (r : Removal) → unmap.decide_of h m sp va ≡ Ok r → (d : UnmapDone h sp m role va r) → Exact (after m (unmap.writes_of sp va r)) d.role'
   unfolding unmap.writes_of cut_writes
   unmap_exact va r e d x l i live u = after_has {q = x} {P = Clean l} (unmap.writes_of sp va r) m i u each (exact x l i (was (d.fate x)) u)
     where
@@ -77,7 +74,7 @@ module _ {h : ℕ → Bool} {sp : Space} {m : ℕ → ℕ} {role : ℕ → Role}
           (cut 2 _ _ _ (book2 sp r) (index_lt _ va) (λ v. omega (arith, (entry_in_pool g.found).small 2 (g.below 2 v))))))
 
   -- PROTECT
-  pub protect_exact : (va : ℕ) (rights : Rights) (c : Change) → protect.decide_of h m sp va rights ≡ changing.Go c → Exact (after m (protect.writes_of c)) role
+  pub protect_exact : (va : ℕ) (rights : Rights) (c : Change) → protect.decide_of h m sp va rights ≡ Ok c → Exact (after m (protect.writes_of c)) role
   unfolding protect.changing_of protect.change_of protect.writes_of
   protect_exact va rights c e = go (find_of h m sp va) refl (protect_strict h m sp va rights c e).1
     where
@@ -92,14 +89,14 @@ module _ {h : ℕ → Bool} {sp : Space} {m : ℕ → ℕ} {role : ℕ → Role}
           (subst (Clean s.way.level) (sym k.traced.word) (exact s.way.a s.way.level (index_of s.way.level va) k.live (index_lt s.way.level va))))))
           (exact x l i live u)
 
-      go : (y : Sought) → find_of h m sp va ≡ y → protect.changing_of m sp va rights y ≡ changing.Go c → Exact (after m (protect.writes_of c)) role
-      go (sought.Refused y) f j = let z : ◌≡◌ {A = ℕ} 0 1 = cc in absurd (omega arith)
-      go (sought.Found s) f j =
+      go : (y : Result PageEntry Reason) → find_of h m sp va ≡ y → protect.changing_of m sp va rights y ≡ Ok c → Exact (after m (protect.writes_of c)) role
+      go (Err y) f j = let z : ◌≡◌ {A = ℕ} 0 1 = cc in absurd (omega arith)
+      go (Ok s) f j =
           let same : protect.change_of va s rights (ticket_in (book_of m sp)) ≡ c = cc in
           subst (λ (y : Change). Exact (after m (protect.writes_of y)) role) same (one s (located w (found_at h m sp va s f)))
 
   -- TOLD
-  pub told_exact : (t k : ℕ) → due_of (book_of m sp) t ≡ due.Pages k → Exact (after m (release_writes sp (book_of m sp) k)) (released m sp k role)
+  pub told_exact : (t k : ℕ) → due_of (book_of m sp) t ≡ Ok k → Exact (after m (release_writes sp (book_of m sp) k)) (released m sp k role)
   told_exact t k e x l i live u = after_has {q = x} {P = Clean l} (release_writes sp (book_of m sp) k) m i u each (exact x l i was u)
     where
       d : ToldDone h sp m role t k

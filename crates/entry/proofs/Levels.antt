@@ -1,8 +1,9 @@
 -- Sizes and fields at the four levels, each fact proved at the four numerals.
-use Rattle.std.proofs.Common.{◌≡◌, ℕ, zero, suc, ◌/◌, ◌%◌, ◌^◌, ◌<◌, true, false, cond, refl, arith, eq-eqb, ne_eqb}
+use mir.Val.{bool_byte}
+use Rattle.std.proofs.Common.{◌≡◌, ℕ, Bool, zero, suc, ◌/◌, ◌%◌, ◌^◌, ◌<◌, true, false, cond, refl, arith, eq-eqb, ne_eqb}
 use Rattle.entry.specs.Entry.{size_of, frame_of, bit, rights_of, table_of, large_of, present_of}
 use Rattle.entry.specs.declared.Entry.TheVariants.{Table}
-use Rattle.entry.specs.Words.{large_flag}
+use Rattle.entry.specs.Words.{flag, large_flag}
 
 pub at_levels {ℓ} : (P : ℕ → Type ℓ) → P 0 → P 1 → P 2 → P 3 → (n : ℕ) → n < 4 → P n
 at_levels P a b c d zero h = a
@@ -47,3 +48,13 @@ pub large_flag_lem : (n : ℕ) → (n ≡ 0 → ⊥) → large_flag n ≡ 128
 unfolding large_flag
 large_flag_lem zero h = absurd (h refl)
 large_flag_lem (suc n) h = refl
+
+-- a bit as std's `From` makes it
+pub from_flag : (b : Bool) (n : ℕ) → n ≡ bool_byte b → n ≡ flag b
+unfolding flag
+from_flag true n e = e
+from_flag false n e = e
+
+pub from_small : (b : Bool) (n : ℕ) → n ≡ bool_byte b → n < 2
+from_small true n e = omega (arith, e)
+from_small false n e = omega (arith, e)

@@ -1,10 +1,8 @@
 -- The words that we write.
-use Rattle.std.specs.Prelude.{ℕ, zero, suc, ◌+◌, ◌*◌, ◌/◌, ◌%◌, ◌^◌, Bool, cond, ◌&&◌, ◌==◌, nat_le, nat_lt}
+use Rattle.std.specs.Prelude.{ℕ, zero, suc, ◌+◌, ◌*◌, ◌/◌, ◌%◌, ◌^◌, Bool, cond, ◌&&◌, ◌==◌, nat_le, nat_lt, Option, Some, None}
 use Rattle.word.specs.Memory.{page_count}
 use Rattle.entry.specs.Entry.{size_of, frame_end}
 use Rattle.entry.specs.declared.Rights.{Rights}
-use Rattle.entry.specs.declared.Made.{Made}
-use Rattle.entry.specs.declared.Made.TheVariants.{Word, Refused}
 
 unfoldable pub flag : Bool → ℕ
 flag b = cond b 1 0
@@ -22,15 +20,15 @@ page_word n frame r = 1 + 2 * flag r.writable + 4 * flag r.user + large_flag n +
 unfoldable pub fits : ℕ → ℕ → Bool
 fits n frame = nat_le n 2 && (frame % size_of n == 0 && nat_lt frame frame_end)
 
-unfoldable pub made_page : ℕ → ℕ → Rights → Made
-made_page n frame r = cond (fits n frame) (Word (page_word n frame r)) Refused
+unfoldable pub made_page : ℕ → ℕ → Rights → Option ℕ
+made_page n frame r = cond (fits n frame) (Some (page_word n frame r)) None
 
 -- the table in page p: present, and it grants everything
 unfoldable pub table_word : ℕ → ℕ
 table_word p = 4096 * p + 7
 
-unfoldable pub made_table : ℕ → Made
-made_table p = cond (nat_lt p page_count) (Word (table_word p)) Refused
+unfoldable pub made_table : ℕ → Option ℕ
+made_table p = cond (nat_lt p page_count) (Some (table_word p)) None
 
 -- the word with other rights: bits 1, 2 and 63 are new, and every other is as it was
 unfoldable pub with_rights : ℕ → Rights → ℕ

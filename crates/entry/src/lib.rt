@@ -5,6 +5,10 @@ ghost use Rattle.std.specs.Prelude.{◌≡◌, ℕ, ◌<◌, ◌≤◌};
 ghost use Rattle.entry.specs.Entry as the;
 ghost use Rattle.entry.specs.Words as made;
 
+mod display;
+
+pub use display::Bytes;
+
 // Frames end here: physical addresses have 52 bits.
 pub const FRAME_END: u64 = 4503599627370496;
 
@@ -24,13 +28,8 @@ pub enum Entry {
     Table(u64, Rights),
 }
 
-#[derive(Clone, Copy)]
-pub enum Made {
-    Word(u64),
-    Refused,
-}
-
-// What one entry of level n covers; there are four levels.
+// What one entry of level n covers; there are four levels. A level is a number: what is public takes any, and the few that ask for less get a
+// numeral, or what was tested just before, with bounds of 2, 3 and 4.
 pub fn size(n: u64) -> u64
     ensures { (n < 4 → result ≡ the.size_of n) × (0 < result) × (4 ≤ n → result ≡ the.size_of 3) }
 {
@@ -126,15 +125,6 @@ pub fn decode(n: u64, w: u64) -> Entry
     large(n, w)
 }
 
-fn flag(b: bool) -> u64
-    ensures { (result ≡ made.flag b) × (result < 2) }
-{
-    if b {
-        return 1;
-    }
-    0
-}
-
 // Bit 7, in its place, as a page of level n has it.
 fn large_flag(n: u64) -> u64
     ensures { (result ≡ made.large_flag n) × (result < 129) }
@@ -145,36 +135,36 @@ fn large_flag(n: u64) -> u64
     128
 }
 
-// The word of a page at level n: refused where the frame is not a page of that size below 2^52.
-pub fn page_word(n: u64, frame: u64, r: Rights) -> Made
+// The word of a page at level n: none where the frame is not a page of that size below 2^52.
+pub fn page_word(n: u64, frame: u64, r: Rights) -> Option<u64>
     ensures { result ≡ made.made_page n frame r }
 {
     if 2 < n {
-        return Made::Refused;
+        return None;
     }
     if frame % size(n) != 0 {
-        return Made::Refused;
+        return None;
     }
     if FRAME_END <= frame {
-        return Made::Refused;
+        return None;
     }
-    Made::Word(
-        1 + 2 * flag(r.writable)
-            + 4 * flag(r.user)
+    Some(
+        1 + 2 * u64::from(r.writable)
+            + 4 * u64::from(r.user)
             + large_flag(n)
             + frame
-            + 9223372036854775808 * flag(r.noexec),
+            + 9223372036854775808 * u64::from(r.noexec),
     )
 }
 
 // The word that names the table in page p, and grants everything.
-pub fn table_word(p: u64) -> Made
+pub fn table_word(p: u64) -> Option<u64>
     ensures { result ≡ made.made_table p }
 {
     if word::PAGE_COUNT <= p {
-        return Made::Refused;
+        return None;
     }
-    Made::Word(4096 * p + 7)
+    Some(4096 * p + 7)
 }
 
 // The word with other rights; every other bit stays, the machine's marks among them.
@@ -182,8 +172,8 @@ pub fn with_rights(w: u64, r: Rights) -> u64
     ensures { result ≡ made.with_rights w r }
 {
     w % 2
-        + 2 * flag(r.writable)
-        + 4 * flag(r.user)
+        + 2 * u64::from(r.writable)
+        + 4 * u64::from(r.user)
         + 8 * (w / 8 % 1152921504606846976)
-        + 9223372036854775808 * flag(r.noexec)
+        + 9223372036854775808 * u64::from(r.noexec)
 }

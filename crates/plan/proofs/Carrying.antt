@@ -1,5 +1,5 @@
 -- Windows after the lists of a plan, as its functions leave them.
-use Rattle.std.proofs.Common.{◌≡◌, ℕ, ◌+◌, ◌-◌, ◌<◌, ◌≤◌, Bool, true, false, cond, leb, List, [], ◌∷◌, refl, ap, ◌∙◌, subst, arith, leb-false, leb-true}
+use Rattle.std.proofs.Common.{◌≡◌, ℕ, ◌+◌, ◌-◌, ◌<◌, ◌≤◌, Bool, true, false, cond, leb, List, [], ◌∷◌, refl, ap, ◌∙◌, subst, arith, leb-false, leb-true, Ok}
 use Rattle.word.specs.Memory.{holds}
 use Rattle.word.specs.Writes.{Write, Wrote, write, up_to}
 use Rattle.word.proofs.Writes.{holds_carried}
@@ -9,7 +9,6 @@ use Rattle.plan.specs.declared.maps.Mapping.{Mapping}
 use Rattle.plan.specs.declared.building.TableReached.{TableReached}
 use Rattle.pool.specs.Book.{in_pool}
 use Rattle.pool.specs.Stands.{stands_of}
-use Rattle.pool.specs.declared.Fit.TheVariants.{Fits}
 use Rattle.pool.specs.declared.Space.{Space}
 use Rattle.pool.specs.declared.Book.{Book}
 use Rattle.plan.specs.declared.unmaps.Removal.{Removal}
@@ -28,8 +27,8 @@ next_low target p s u = go (leb s.level target)
     go false = omega arith
 
 -- a space that makes sense does so after any writes
-pub stands_wrote : (sp : Space) (xs : List Write) (l r : ℕ) (s t : List ℕ) → Wrote sp.origin xs l r s t → stands_of (holds s sp.origin) sp ≡ Fits
-    → stands_of (holds t sp.origin) sp ≡ Fits
+pub stands_wrote : (sp : Space) (xs : List Write) (l r : ℕ) (s t : List ℕ) → Wrote sp.origin xs l r s t → stands_of (holds s sp.origin) sp ≡ Ok tt
+    → stands_of (holds t sp.origin) sp ≡ Ok tt
 stands_wrote sp xs l r s t f e = rw (f.bytes, holds_carried s sp.origin (up_to l xs)) e
 
 -- a way that has gone on has come to a page of the pool, and has fewer levels to go

@@ -1,3 +1,4 @@
+pub mod Exits
 pub mod Ways
 pub mod Reading
 pub mod Found

@@ -1,11 +1,10 @@
 -- What map hands on: the entry itself where no table is missing, and else what is to be built.
-use Rattle.std.proofs.Common.{◌≡◌, ℕ, ◌-◌, ◌%◌, ◌^◌, ◌<◌, ◌≤◌, Bool, true, false, cond, ◌&&◌, eqb, leb, sym, refl, ap, ◌∙◌, arith, lt-ltb, eq-eqb, eqb-true, le-leb, leb-true}
+use Rattle.std.proofs.Common.{◌≡◌, ℕ, ◌-◌, ◌%◌, ◌^◌, ◌<◌, ◌≤◌, Bool, true, false, cond, ◌&&◌, eqb, leb, sym, refl, ap, ◌∙◌, arith, lt-ltb, eq-eqb, eqb-true, le-leb, leb-true, Result, Some, None, Ok, Err}
 use borrow.Author.Tests.{lt-leb}
 use Rattle.word.proofs.Tests.{and_both}
 use Rattle.entry.specs.Entry.{size_of}
 use Rattle.entry.specs.Words.{fits, made_page}
 use Rattle.entry.specs.declared.Rights.{Rights}
-use Rattle.entry.specs.declared.Made.TheVariants as made
 use Rattle.walk.specs.Walk.{index_of}
 use Rattle.walk.proofs.Digits.{size_pos}
 use Rattle.pool.specs.declared.Space.{Space}
@@ -14,34 +13,36 @@ use Rattle.plan.specs.declared.descent.Way.{Way}
 use Rattle.plan.specs.declared.maps.Asked.{Asked}
 use Rattle.plan.specs.declared.maps.NewTables.{NewTables}
 use Rattle.plan.specs.declared.maps.Mapping.{Mapping}
-use Rattle.plan.specs.declared.maps.Supply.{Supply}
-use Rattle.plan.specs.declared.maps.Supply.TheVariants.{Pages, Lacking}
 use Rattle.plan.specs.declared.maps.Leaf.{Leaf}
-use Rattle.plan.specs.declared.building.Making.TheVariants as making
+use Rattle.plan.specs.declared.maps.Placing.{Placing}
 use Rattle.plan.specs.declared.maps.Placing.TheVariants as placing
 use Rattle.plan.specs.Map.{Placed, Go, Refused, supply_of, apart_of, spared_of, made_of, place_of, next_of, grow_of, build_of, writes_of, leaf_of, leaf_writes, did_of, making_of, placing_of}
 use Rattle.plan.proofs.Shapes.{Shaped}
 
+pub spared_lacking : (w : Way) (s : Result NewTables Reason) (y : Reason) → s ≡ Err y → spared_of w s ≡ Err y
+unfolding spared_of
+spared_lacking w s y e = rw e
+
 module _ (q : Asked) (target level table x : ℕ) where
-  pub place_lacking : (s : Supply) (y : Reason) → s ≡ Lacking y → placing.Refused y ≡ placing_of (place_of q target level table s)
+  pub place_lacking : (s : Result NewTables Reason) (y : Reason) → s ≡ Err y → Err y ≡ placing_of (place_of q target level table s)
   unfolding place_of placing_of
   place_lacking s y e = rw e
 
-  module _ (Made_so : made_page target q.frame q.rights ≡ made.Word x) where
-    pub place_pages : (s : Supply) (f : NewTables) → s ≡ Pages f → target < level
-        → placing.Built (record { base = q.base; target = target; level = level; table = table; word = x; fresh = f }) ≡ placing_of (place_of q target level table s)
+  module _ (Made_so : made_page target q.frame q.rights ≡ Some x) where
+    pub place_pages : (s : Result NewTables Reason) (f : NewTables) → s ≡ Ok f → target < level
+        → Ok (placing.Built (record { base = q.base; target = target; level = level; table = table; word = x; fresh = f })) ≡ placing_of (place_of q target level table s)
     unfolding place_of made_of placing_of
     place_pages s f e u = rw e (simp (Made_so, lt-leb level target u))
 
     pub place_here : (h : ℕ → Bool) (m : ℕ → ℕ) (sp : Space) (w : Way) (i : ℕ) → level ≤ target → i ≡ index_of level q.base
-        → placing.Here (record { table = table; index = i; word = x }) ≡ placing_of (place_of q target level table (spared_of w (supply_of h m sp (level - target))))
+        → Ok (placing.Here (record { table = table; index = i; word = x })) ≡ placing_of (place_of q target level table (spared_of w (supply_of h m sp (level - target))))
     unfolding supply_of spared_of apart_of place_of made_of placing_of
     place_here h m sp w i u e =
         let z : level - target ≡ 0 = omega arith in
         rw (z, e) (simp (eq-eqb 0 0 refl, Made_so, le-leb level target u))
 
 -- a frame that fits its level has a word
-pub shaped_made : (n size base frame : ℕ) (r : Rights) → Shaped n size base frame → made_page n frame r ≡ made.Refused → ⊥
+pub shaped_made : (n size base frame : ℕ) (r : Rights) → Shaped n size base frame → made_page n frame r ≡ None → ⊥
 unfolding made_page fits
 shaped_made n size base frame r s e =
     let a : frame % size_of n ≡ 0 = rw s.size_is at s.frame_aligned in
@@ -59,33 +60,33 @@ pub record Leafed (d : Placed) (c : Leaf) : Type 0 where
   pub need : mapping.fresh.need ≡ 0
   pub same : c ≡ leaf_of mapping
 
-pub placing_refused : (d : Placed) (r : Reason) → placing_of d ≡ placing.Refused r → d ≡ Refused r
+pub placing_refused : (d : Placed) (r : Reason) → placing_of d ≡ Err r → d ≡ Refused r
 unfolding placing_of
 placing_refused (Refused s) r e = cc
 placing_refused (Go p) r e = go (leb p.level p.target && eqb p.fresh.need 0) e
   where
-    go : (b : Bool) → cond b (placing.Here (leaf_of p)) (placing.Built p) ≡ placing.Refused r → Go p ≡ Refused r
+    go : (b : Bool) → cond b (Ok (placing.Here (leaf_of p))) (Ok (placing.Built p)) ≡ Err r → Go p ≡ Refused r
     go true k = let z : ◌≡◌ {A = ℕ} 0 1 = cc in absurd (omega arith)
     go false k = let z : ◌≡◌ {A = ℕ} 0 1 = cc in absurd (omega arith)
 
-pub placing_built : (d : Placed) (p : Mapping) → placing_of d ≡ placing.Built p → d ≡ Go p
+pub placing_built : (d : Placed) (p : Mapping) → placing_of d ≡ Ok (placing.Built p) → d ≡ Go p
 unfolding placing_of
 placing_built (Refused s) p e = let z : ◌≡◌ {A = ℕ} 0 1 = cc in absurd (omega arith)
 placing_built (Go x) p e = go (leb x.level x.target && eqb x.fresh.need 0) e
   where
-    go : (b : Bool) → cond b (placing.Here (leaf_of x)) (placing.Built x) ≡ placing.Built p → Go x ≡ Go p
+    go : (b : Bool) → cond {A = Result Placing Reason} b (Ok (placing.Here (leaf_of x))) (Ok (placing.Built x)) ≡ Ok (placing.Built p) → Go x ≡ Go p
     go true k = let z : ◌≡◌ {A = ℕ} 0 1 = cc in absurd (omega arith)
-    go false k = cc
+    go false k = let j : placing.Built x ≡ placing.Built p = cc in let i : x ≡ p = cc in ap Go i
 
-pub placing_here : (d : Placed) (c : Leaf) → placing_of d ≡ placing.Here c → Leafed d c
+pub placing_here : (d : Placed) (c : Leaf) → placing_of d ≡ Ok (placing.Here c) → Leafed d c
 unfolding placing_of
 placing_here (Refused s) c e = let z : ◌≡◌ {A = ℕ} 0 1 = cc in absurd (omega arith)
 placing_here (Go x) c e = go (leb x.level x.target && eqb x.fresh.need 0) refl e
   where
-    go : (b : Bool) → (leb x.level x.target && eqb x.fresh.need 0) ≡ b → cond b (placing.Here (leaf_of x)) (placing.Built x) ≡ placing.Here c → Leafed (Go x) c
+    go : (b : Bool) → (leb x.level x.target && eqb x.fresh.need 0) ≡ b → cond {A = Result Placing Reason} b (Ok (placing.Here (leaf_of x))) (Ok (placing.Built x)) ≡ Ok (placing.Here c) → Leafed (Go x) c
     go true t k =
         let a = and_both _ _ t in
-        record { mapping = x; decided = refl; level = leb-true _ _ a.0; need = eqb-true _ 0 a.1; same = cc }
+        record { mapping = x; decided = refl; level = leb-true _ _ a.0; need = eqb-true _ 0 a.1; same = let j : placing.Here (leaf_of x) ≡ placing.Here c = cc in let i : leaf_of x ≡ c = cc in sym i }
     go false t k = let z : ◌≡◌ {A = ℕ} 0 1 = cc in absurd (omega arith)
 
 -- and then that entry is all that is written
@@ -99,16 +100,6 @@ here_did sp d c k = ap leaf_writes k.same ∙ (leaf_writes_lem sp k.mapping k.le
 
 -- What map answers shows what was decided ---------------------------------------------------------------------------------------------
 
-pub here_made : (d : Placed) (c : Leaf) → Leafed d c → making.Done 0 ≡ making_of d
+pub here_made : (d : Placed) (c : Leaf) → Leafed d c → Ok 0 ≡ making_of d
 unfolding making_of
-here_made d c k = sym (rw k.decided (ap making.Done k.need))
-
-pub making_refused : (d : Placed) (r : Reason) → making_of d ≡ making.Refused r → d ≡ Refused r
-unfolding making_of
-making_refused (Refused s) r e = cc
-making_refused (Go p) r e = let z : ◌≡◌ {A = ℕ} 0 1 = cc in absurd (omega arith)
-
-pub making_done : (d : Placed) (k : ℕ) → making_of d ≡ making.Done k → (p : Mapping) × (d ≡ Go p) × (p.fresh.need ≡ k)
-unfolding making_of
-making_done (Refused s) k e = let z : ◌≡◌ {A = ℕ} 0 1 = cc in absurd (omega arith)
-making_done (Go p) k e = (p, refl, cc)
+here_made d c k = sym (rw k.decided (ap Ok k.need))

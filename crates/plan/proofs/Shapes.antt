@@ -1,12 +1,11 @@
 -- What it shows that sizes, alignment, range and rights are right.
-use Rattle.std.proofs.Common.{◌≡◌, ℕ, zero, suc, ◌+◌, ◌-◌, ◌*◌, ◌%◌, ◌^◌, ◌<◌, ◌≤◌, Bool, true, false, cond, eqb, leb, sym, refl, ◌∙◌, subst, arith, lt-ltb, eqb-true, leb-true}
+use Rattle.std.proofs.Common.{◌≡◌, ℕ, zero, suc, ◌+◌, ◌-◌, ◌*◌, ◌%◌, ◌^◌, ◌<◌, ◌≤◌, Bool, true, false, cond, eqb, leb, sym, refl, ◌∙◌, subst, arith, lt-ltb, eqb-true, leb-true, Result, Ok, Err}
+use Rattle.plan.specs.declared.Reason.{Reason}
 use Rattle.entry.specs.Entry.{size_of}
 use Rattle.walk.specs.Walk.{half, canonical}
 use Rattle.walk.proofs.Addresses.{by_wrapping}
 use Rattle.plan.specs.declared.Reason.TheVariants.{Size, BaseUnaligned, FrameUnaligned, BaseRange, FrameRange}
 use Rattle.plan.specs.declared.maps.Asked.{Asked}
-use Rattle.plan.specs.declared.maps.Shape.{Shape}
-use Rattle.plan.specs.declared.maps.Shape.TheVariants.{Level, Bad}
 use Rattle.plan.specs.Map.{fits_of, shape_of, strict_of, allowed_of}
 use Rattle.plan.specs.Rights.{write_execute}
 
@@ -56,11 +55,11 @@ shape_fits (suc (suc zero)) size base frame u e = rw e refl
 shape_fits (suc (suc (suc n))) size base frame u e = absurd (omega arith)
 
 -- what fits has the level that was asked about
-pub fits_level : (n k size base frame : ℕ) → fits_of n size base frame ≡ Level k → k ≡ n
+pub fits_level : (n k size base frame : ℕ) → fits_of n size base frame ≡ Ok k → k ≡ n
 unfolding fits_of
 fits_level n k size base frame e = go (eqb (base % size) 0) (eqb (frame % size) 0) (canonical base) (leb frame (2 ^ 52 - size)) e
   where
-    go : (a b c d : Bool) → cond a (cond b (cond c (cond d (Level n) (Bad FrameRange)) (Bad BaseRange)) (Bad FrameUnaligned)) (Bad BaseUnaligned) ≡ Level k → k ≡ n
+    go : (a b c d : Bool) → cond a (cond b (cond c (cond d (Ok n) (Err FrameRange)) (Err BaseRange)) (Err FrameUnaligned)) (Err BaseUnaligned) ≡ Ok k → k ≡ n
     go true true true true e = cc
     go true true true false e = let z : ◌≡◌ {A = ℕ} 0 1 = cc in absurd (omega arith)
     go true true false d e = let z : ◌≡◌ {A = ℕ} 0 1 = cc in absurd (omega arith)
@@ -70,7 +69,7 @@ fits_level n k size base frame e = go (eqb (base % size) 0) (eqb (frame % size) 
 module _ (base frame n : ℕ) where
   fitted : (k size : ℕ) → k ≤ 2 → size ≡ size_of k → size ≤ 1073741824 → (a b c d : Bool) → eqb (base % size) 0 ≡ a → eqb (frame % size) 0 ≡ b
       → canonical base ≡ c → leb frame (2 ^ 52 - size) ≡ d
-      → cond a (cond b (cond c (cond d (Level k) (Bad FrameRange)) (Bad BaseRange)) (Bad FrameUnaligned)) (Bad BaseUnaligned) ≡ Level n
+      → cond a (cond b (cond c (cond d (Ok k) (Err FrameRange)) (Err BaseRange)) (Err FrameUnaligned)) (Err BaseUnaligned) ≡ Ok n
       → Shaped n size base frame
   fitted k size u es v true true true true ea eb ec ed e =
       let same : k ≡ n = cc in
@@ -87,17 +86,17 @@ module _ (base frame n : ℕ) where
   fitted k size u es v true false c d ea eb ec ed e = let z : ◌≡◌ {A = ℕ} 0 1 = cc in absurd (omega arith)
   fitted k size u es v false b c d ea eb ec ed e = let z : ◌≡◌ {A = ℕ} 0 1 = cc in absurd (omega arith)
 
-  fits_shaped : (k size : ℕ) → k ≤ 2 → size ≡ size_of k → size ≤ 1073741824 → fits_of k size base frame ≡ Level n → Shaped n size base frame
+  fits_shaped : (k size : ℕ) → k ≤ 2 → size ≡ size_of k → size ≤ 1073741824 → fits_of k size base frame ≡ Ok n → Shaped n size base frame
   unfolding fits_of
   fits_shaped k size u es v e = fitted k size u es v _ _ _ _ refl refl refl refl e
 
   -- what is asked has a level: it is one of the three sizes, aligned, and in range
-  pub shaped : (size : ℕ) → shape_of size base frame ≡ Level n → Shaped n size base frame
+  pub shaped : (size : ℕ) → shape_of size base frame ≡ Ok n → Shaped n size base frame
   unfolding shape_of size_of
   shaped size e = go (eqb size 4096) (eqb size 2097152) (eqb size 1073741824) refl refl refl e
     where
       go : (a b c : Bool) → eqb size 4096 ≡ a → eqb size 2097152 ≡ b → eqb size 1073741824 ≡ c
-          → cond a (fits_of 0 4096 base frame) (cond b (fits_of 1 2097152 base frame) (cond c (fits_of 2 1073741824 base frame) (Bad Size))) ≡ Level n
+          → cond a (fits_of 0 4096 base frame) (cond b (fits_of 1 2097152 base frame) (cond c (fits_of 2 1073741824 base frame) (Err Size))) ≡ Ok n
           → Shaped n size base frame
       go true b c ea eb ec k = let s = eqb-true size 4096 ea in rw s (fits_shaped 0 4096 (omega arith) refl (omega arith) k)
       go false true c ea eb ec k = let s = eqb-true size 2097152 eb in rw s (fits_shaped 1 2097152 (omega arith) refl (omega arith) k)
@@ -107,16 +106,16 @@ module _ (base frame n : ℕ) where
 -- The rights ---------------------------------------------------------------------------------------------------------------------
 
 -- what is asked has the level of its shape, where the rights may be given
-pub allowed_strict : (q : Asked) (n : ℕ) → shape_of q.size q.base q.frame ≡ Level n → write_execute q.rights ≡ false → allowed_of q ≡ Level n
+pub allowed_strict : (q : Asked) (n : ℕ) → shape_of q.size q.base q.frame ≡ Ok n → write_execute q.rights ≡ false → allowed_of q ≡ Ok n
 unfolding allowed_of strict_of
 allowed_strict q n e s = rw (e, s)
 
 -- and no other
-pub allowed_shape : (q : Asked) (n : ℕ) → allowed_of q ≡ Level n → shape_of q.size q.base q.frame ≡ Level n
+pub allowed_shape : (q : Asked) (n : ℕ) → allowed_of q ≡ Ok n → shape_of q.size q.base q.frame ≡ Ok n
 unfolding allowed_of strict_of
 allowed_shape q n e = go (shape_of q.size q.base q.frame) (write_execute q.rights) refl e
   where
-    go : (x : Shape) (b : Bool) → write_execute q.rights ≡ b → strict_of q.rights x ≡ Level n → x ≡ Level n
-    go (Bad y) b eb k = let z : ◌≡◌ {A = ℕ} 0 1 = cc in absurd (omega arith)
-    go (Level l) true eb k = let j = rw eb at k in let z : ◌≡◌ {A = ℕ} 0 1 = cc in absurd (omega arith)
-    go (Level l) false eb k = rw eb at k
+    go : (x : Result ℕ Reason) (b : Bool) → write_execute q.rights ≡ b → strict_of q.rights x ≡ Ok n → x ≡ Ok n
+    go (Err y) b eb k = let z : ◌≡◌ {A = ℕ} 0 1 = cc in absurd (omega arith)
+    go (Ok l) true eb k = let j = rw eb at k in let z : ◌≡◌ {A = ℕ} 0 1 = cc in absurd (omega arith)
+    go (Ok l) false eb k = rw eb at k

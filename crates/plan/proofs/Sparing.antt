@@ -1,37 +1,31 @@
 -- OF ANY BYTES: the pages that map takes differ from each other, and none of them is a table that the way came through.
-use Rattle.std.proofs.Common.{◌≡◌, ℕ, ◌-◌, ◌<◌, ◌≤◌, Bool, true, false, cond, eqb, leb, ◌≢◌, sym, refl, ap, ◌∙◌, subst, arith, eq-eqb, ne_eqb, eqb-true, le-leb, leb-false}
+use Rattle.std.proofs.Common.{◌≡◌, ℕ, ◌-◌, ◌<◌, ◌≤◌, Bool, true, false, cond, eqb, leb, ◌≢◌, sym, refl, ap, ◌∙◌, subst, arith, eq-eqb, ne_eqb, eqb-true, le-leb, leb-false, Option, Result, Some, None, Ok, Err}
 use mathlib.Core.Bool.{false≢true}
 use native.Mathlib.Decide.{ℕ_discrete, dec_le}
 use borrow.Author.Tests.{lt-leb}
+use Rattle.pool.specs.declared.Reason.{Reason as PoolReason}
+use Rattle.plan.specs.declared.Reason.{Reason}
 use Rattle.entry.specs.Words.{made_page}
-use Rattle.entry.specs.declared.Made.{Made}
-use Rattle.entry.specs.declared.Made.TheVariants as made
 use Rattle.pool.specs.Book.{names_of}
 use Rattle.pool.specs.declared.Space.{Space}
-use Rattle.pool.specs.declared.Fit.{Fit}
-use Rattle.pool.specs.declared.Fit.TheVariants as fit
 use Rattle.plan.specs.declared.Reason.TheVariants.{FrameInPool, BadList}
 use Rattle.plan.specs.declared.descent.Way.{Way}
 use Rattle.plan.specs.declared.descent.Why.{Why}
 use Rattle.plan.specs.declared.descent.Why.TheVariants as why
 use Rattle.plan.specs.declared.maps.Asked.{Asked}
 use Rattle.plan.specs.declared.maps.Mapping.{Mapping}
-use Rattle.plan.specs.declared.maps.Shape.{Shape}
-use Rattle.plan.specs.declared.maps.Shape.TheVariants as shape
 use Rattle.plan.specs.declared.maps.NewTables.{NewTables}
-use Rattle.plan.specs.declared.maps.Supply.{Supply}
-use Rattle.plan.specs.declared.maps.Supply.TheVariants.{Pages, Lacking}
 use Rattle.plan.specs.Descend.{way_of}
 use Rattle.plan.specs.Map.{Go, Refused, way_has, apart_of, spared_of, allowed_of, meets_of, supply_of, made_of, place_of, because_of, stopped_of, fitting_of, standing_of, shaped_of, decide_of}
 use Rattle.plan.specs.Spare.{OnWay, last, second, third, fourth, Spared}
 
 -- what is answered is the supply itself
-pub spared_same : (w : Way) (s : Supply) (f : NewTables) → spared_of w s ≡ Pages f → s ≡ Pages f
+pub spared_same : (w : Way) (s : Result NewTables Reason) (f : NewTables) → spared_of w s ≡ Ok f → s ≡ Ok f
 unfolding spared_of
-spared_same w (Lacking y) f e = e
-spared_same w (Pages g) f e = go (apart_of w g) e
+spared_same w (Err y) f e = e
+spared_same w (Ok g) f e = go (apart_of w g) e
   where
-    go : (b : Bool) → cond b (Pages g) (Lacking BadList) ≡ Pages f → Pages g ≡ Pages f
+    go : (b : Bool) → cond b (Ok g) (Err BadList) ≡ Ok f → ◌≡◌ {A = Result NewTables Reason} (Ok g) (Ok f)
     go true k = k
     go false k = let z : ◌≡◌ {A = ℕ} 0 1 = cc in absurd (omega arith)
 
@@ -151,17 +145,17 @@ module _ (w : Way) (f : NewTables) where
           rw (lt-leb f.need 0 (omega arith), not_had w f.a (k.first_off (omega arith)), lt-leb f.need 1 (omega arith), ne_eqb f.a f.b (k.two (omega arith)), not_had w f.b (k.second_off (omega arith)), lt-leb f.need 2 (omega arith), ne_eqb f.a f.c (k.ends (omega arith)), ne_eqb f.b f.c (k.three (omega arith)), not_had w f.c (k.third_off (omega arith)))
 
   -- such a supply is answered
-  pub spares : Spared w f → spared_of w (Pages f) ≡ Pages f
+  pub spares : Spared w f → spared_of w (Ok f) ≡ Ok f
   unfolding spared_of
   spares k = rw (spared_apart k)
 
 -- WHAT IS ANSWERED is such a supply
-pub spared_so : (w : Way) (s : Supply) (f : NewTables) → spared_of w s ≡ Pages f → Spared w f
+pub spared_so : (w : Way) (s : Result NewTables Reason) (f : NewTables) → spared_of w s ≡ Ok f → Spared w f
 unfolding spared_of
-spared_so w (Lacking y) f e = let z : ◌≡◌ {A = ℕ} 0 1 = cc in absurd (omega arith)
-spared_so w (Pages g) f e = go (apart_of w g) refl e
+spared_so w (Err y) f e = let z : ◌≡◌ {A = ℕ} 0 1 = cc in absurd (omega arith)
+spared_so w (Ok g) f e = go (apart_of w g) refl e
   where
-    go : (b : Bool) → apart_of w g ≡ b → cond b (Pages g) (Lacking BadList) ≡ Pages f → Spared w f
+    go : (b : Bool) → apart_of w g ≡ b → cond b (Ok g) (Err BadList) ≡ Ok f → Spared w f
     go true t k = let same : g ≡ f = cc in subst (Spared w) same (apart_spared w g t)
     go false t k = let z : ◌≡◌ {A = ℕ} 0 1 = cc in absurd (omega arith)
 
@@ -175,20 +169,20 @@ module _ (h : ℕ → Bool) (m : ℕ → ℕ) (sp : Space) (q : Asked) (p : Mapp
   not_so : {target : ℕ} {w : Way} → ◌≡◌ {A = ℕ} 0 1 → So target w
   not_so z = absurd (omega arith)
 
-  made_so : (target level table : ℕ) (f : NewTables) (x : Made) → made_of q target level table f x ≡ Go p → (p.target ≡ target) × (f ≡ p.fresh)
+  made_so : (target level table : ℕ) (f : NewTables) (x : Option ℕ) → made_of q target level table f x ≡ Go p → (p.target ≡ target) × (f ≡ p.fresh)
   unfolding made_of
-  made_so target level table f made.Refused e = let z : ◌≡◌ {A = ℕ} 0 1 = cc in absurd (omega arith)
-  made_so target level table f (made.Word x) e =
+  made_so target level table f None e = let z : ◌≡◌ {A = ℕ} 0 1 = cc in absurd (omega arith)
+  made_so target level table f (Some x) e =
       let same : record { base = q.base; target = target; level = level; table = table; word = x; fresh = f } ≡ p = cc in
       (sym (ap (λ (y : Mapping). y.target) same), ap (λ (y : Mapping). y.fresh) same)
 
-  place_so : (target level table : ℕ) (w : Way) (s : Supply) → place_of q target level table (spared_of w s) ≡ Go p → So target w
+  place_so : (target level table : ℕ) (w : Way) (s : Result NewTables Reason) → place_of q target level table (spared_of w s) ≡ Go p → So target w
   unfolding place_of
   place_so target level table w s e = go (spared_of w s) refl e
     where
-      go : (x : Supply) → spared_of w s ≡ x → place_of q target level table x ≡ Go p → (p.target ≡ target) × Spared w p.fresh
-      go (Lacking y) k e = let z : ◌≡◌ {A = ℕ} 0 1 = cc in absurd (omega arith)
-      go (Pages f) k e = let t = made_so target level table f (made_page target q.frame q.rights) e in (t.0, subst (Spared w) t.1 (spared_so w s f k))
+      go : (x : Result NewTables Reason) → spared_of w s ≡ x → place_of q target level table x ≡ Go p → (p.target ≡ target) × Spared w p.fresh
+      go (Err y) k e = let z : ◌≡◌ {A = ℕ} 0 1 = cc in absurd (omega arith)
+      go (Ok f) k e = let t = made_so target level table f (made_page target q.frame q.rights) e in (t.0, subst (Spared w) t.1 (spared_so w s f k))
 
   because_so : (target : ℕ) (w : Way) (y : Why) → because_of h m sp q target w y ≡ Go p → So target w
   unfolding because_of
@@ -197,19 +191,19 @@ module _ (h : ℕ → Bool) (m : ℕ → ℕ) (sp : Space) (q : Asked) (p : Mapp
   because_so target w why.Table e = not_so cc
   because_so target w why.Stray e = not_so cc
 
-  fitting_so : (target : ℕ) (x : Fit) → fitting_of h m sp q target x ≡ Go p → So target (way_of h m sp q.base target)
+  fitting_so : (target : ℕ) (x : Result (Unit {0}) PoolReason) → fitting_of h m sp q target x ≡ Go p → So target (way_of h m sp q.base target)
   unfolding fitting_of stopped_of
-  fitting_so target (fit.Refused r) e = not_so cc
-  fitting_so target fit.Fits e = go (meets_of sp q.frame q.size) e
+  fitting_so target (Err r) e = not_so cc
+  fitting_so target (Ok tt) e = go (meets_of sp q.frame q.size) e
     where
       go : (b : Bool) → cond b (Refused FrameInPool) (stopped_of h m sp q target (way_of h m sp q.base target)) ≡ Go p → So target (way_of h m sp q.base target)
       go true k = not_so cc
       go false k = because_so target (way_of h m sp q.base target) (way_of h m sp q.base target).why k
 
-  shaped_so : (x : Shape) → shaped_of h m sp q x ≡ Go p → Spared (way_of h m sp q.base p.target) p.fresh
+  shaped_so : (x : Result ℕ Reason) → shaped_of h m sp q x ≡ Go p → Spared (way_of h m sp q.base p.target) p.fresh
   unfolding shaped_of standing_of
-  shaped_so (shape.Bad r) e = let z : ◌≡◌ {A = ℕ} 0 1 = cc in absurd (omega arith)
-  shaped_so (shape.Level n) e =
+  shaped_so (Err r) e = let z : ◌≡◌ {A = ℕ} 0 1 = cc in absurd (omega arith)
+  shaped_so (Ok n) e =
       let k = fitting_so n (names_of h m sp) e in subst (λ (t : ℕ). Spared (way_of h m sp q.base t) p.fresh) (sym k.0) k.1
 
   -- THE PAGES THAT MAP TAKES, of any bytes

@@ -1,8 +1,9 @@
 -- Of any bytes: where a way stops is one of the four levels, and one that stopped at a page did; and what the code keeps of a way.
-use Rattle.std.proofs.Common.{◌≡◌, ℕ, zero, suc, ◌<◌, ◌≤◌, Bool, true, false, cond, eqb, refl, arith}
+use Rattle.std.proofs.Common.{◌≡◌, ℕ, zero, suc, ◌<◌, ◌≤◌, Bool, true, false, cond, eqb, refl, ap, arith, Continue, Break}
 use Rattle.entry.specs.Entry.{bit, says}
 use Rattle.entry.specs.declared.Entry.{Entry}
 use Rattle.entry.specs.declared.Entry.TheVariants as entry
+use Rattle.entry.proofs.Fields.{last_no_table}
 use Rattle.walk.specs.Walk.{entry_of, index_of}
 use Rattle.pool.specs.Book.{in_pool}
 use Rattle.pool.specs.declared.Space.{Space}
@@ -10,8 +11,7 @@ use Rattle.plan.specs.declared.descent.Way.{Way}
 use Rattle.plan.specs.declared.descent.Why.{Why}
 use Rattle.plan.specs.declared.descent.Why.TheVariants as why
 use Rattle.plan.specs.declared.descent.Arrival.{Arrival}
-use Rattle.plan.specs.declared.descent.Descending.TheVariants as track
-use Rattle.plan.specs.Descend.{Descent, Going, Stopped, push_of, stop_of, at_entry_of, arrive_of, step_down_of, down_of, end_of, no_way, way_of, level_of, Paged, framed_of, stop_at, descending_of}
+use Rattle.plan.specs.Descend.{Descent, Going, Stopped, push_of, stop_of, at_entry_of, arrive_of, step_down_of, down_of, end_of, no_way, start_of, way_of, level_of, Paged, framed_of, stop_at, descending_of}
 
 -- Levels -----------------------------------------------------------------------------------------------------------------------
 
@@ -30,7 +30,7 @@ told_low target n x w (entry.Table t g) u v = go (eqb n target)
     go true = u
     go false = v
 
-pub step_low : (h : ℕ → Bool) (m : ℕ → ℕ) (sp : Space) (target va n : ℕ) (s : Descent) → n < 4 → level_of s < 4 → level_of (step_down_of h m sp target va n s) < 4
+step_low : (h : ℕ → Bool) (m : ℕ → ℕ) (sp : Space) (target va n : ℕ) (s : Descent) → n < 4 → level_of s < 4 → level_of (step_down_of h m sp target va n s) < 4
 unfolding step_down_of arrive_of stop_of push_of
 step_low h m sp target va n (Stopped w) u v = v
 step_low h m sp target va n (Going t w) u v = go (in_pool sp t) (h t)
@@ -41,7 +41,7 @@ step_low h m sp target va n (Going t w) u v = go (in_pool sp t) (h t)
     go true false = u
     go false b = u
 
-pub down_low : (h : ℕ → Bool) (m : ℕ → ℕ) (sp : Space) (target va n : ℕ) (s : Descent) → n ≤ 4 → level_of s < 4 → level_of (down_of h m sp target va n s) < 4
+down_low : (h : ℕ → Bool) (m : ℕ → ℕ) (sp : Space) (target va n : ℕ) (s : Descent) → n ≤ 4 → level_of s < 4 → level_of (down_of h m sp target va n s) < 4
 unfolding down_of
 down_low h m sp target va zero s u v = v
 down_low h m sp target va (suc n) s u v =
@@ -51,6 +51,34 @@ pub way_low : (h : ℕ → Bool) (m : ℕ → ℕ) (sp : Space) (va target : ℕ
 unfolding way_of
 way_low h m sp va target =
     rw (end_level (down_of h m sp target va 4 (Going sp.root no_way))) (down_low h m sp target va 4 (Going sp.root no_way) (omega arith) (omega arith))
+
+-- A way that has stopped comes no further, and at the last table each has -------------------------------------------------------
+
+pub down_stopped : (h : ℕ → Bool) (m : ℕ → ℕ) (sp : Space) (target va n : ℕ) (w : Way) → down_of h m sp target va n (Stopped w) ≡ Stopped w
+unfolding down_of step_down_of
+down_stopped h m sp target va zero w = refl
+down_stopped h m sp target va (suc n) w = down_stopped h m sp target va n w
+
+abbrev Ended : Descent → Type 0
+Ended (Going t w) = ⊥
+Ended (Stopped w) = Unit {0}
+
+told_ended : (target x : ℕ) (w : Way) (e : Entry) → says 0 x ≡ e → Ended (at_entry_of target 0 x w e)
+unfolding at_entry_of stop_of
+told_ended target x w entry.Nothing e = tt
+told_ended target x w (entry.Page f g) e = tt
+told_ended target x w (entry.Table t g) e = absurd (last_no_table x t g e)
+
+step_ended : (h : ℕ → Bool) (m : ℕ → ℕ) (sp : Space) (target va : ℕ) (s : Descent) → Ended (step_down_of h m sp target va 0 s)
+unfolding step_down_of arrive_of stop_of
+step_ended h m sp target va (Stopped w) = tt
+step_ended h m sp target va (Going t w) = go (in_pool sp t) (h t)
+  where
+    go : (a b : Bool)
+        → Ended (cond a (cond b (at_entry_of target 0 (m (entry_of 0 va t)) (push_of w t) (says 0 (m (entry_of 0 va t)))) (stop_of why.Stray 0 0 w)) (stop_of why.Stray 0 0 w))
+    go true true = told_ended target (m (entry_of 0 va t)) (push_of w t) (says 0 (m (entry_of 0 va t))) refl
+    go true false = tt
+    go false b = tt
 
 -- A way that stopped at a page -------------------------------------------------------------------------------------------------
 
@@ -142,31 +170,45 @@ unfolding says bit
 nothing_framed n = refl
 
 module _ (va : ℕ) where
-  pub descending_going : (o : Descent) (t : ℕ) (w : Way) → track.Going t w ≡ descending_of va o → o ≡ Going t w
-  unfolding descending_of
-  descending_going (Going t' w') t w e = cc
-  descending_going (Stopped w') t w e = let z : ◌≡◌ {A = ℕ} 0 1 = cc in absurd (omega arith)
+  module _ (h : ℕ → Bool) (m : ℕ → ℕ) (sp : Space) (target : ℕ) where
+    going : (n u : ℕ) (v : Way) (o : Descent) → Continue (u, v) ≡ descending_of va o → down_of h m sp target va n o ≡ down_of h m sp target va n (Going u v)
+    unfolding descending_of
+    going n u v (Going t w) e = let q : ◌≡◌ {A = ℕ × Way} (u, v) (t, w) = cc in cc (ap (λ p. p.0) q, ap (λ p. p.1) q)
+    going n u v (Stopped w) e = let z : ◌≡◌ {A = ℕ} 0 1 = cc in absurd (omega arith)
 
-  pub record StoppedWith (o : Descent) (x : Arrival) : Type 0 where
-    pub way : Way
-    pub trail : o ≡ Stopped way
-    pub same : x ≡ stop_at va way
+    stopped : (n : ℕ) (x : Arrival) (o : Descent) → Break x ≡ descending_of va o → Break x ≡ descending_of va (down_of h m sp target va n o)
+    unfolding descending_of
+    stopped n x (Going t w) e = let z : ◌≡◌ {A = ℕ} 0 1 = cc in absurd (omega arith)
+    stopped n x (Stopped w) e = rw (down_stopped h m sp target va n w) e
 
-  pub descending_stopped : (o : Descent) (x : Arrival) → track.Stopped x ≡ descending_of va o → StoppedWith o x
-  unfolding descending_of
-  descending_stopped (Going t' w') x e = let z : ◌≡◌ {A = ℕ} 0 1 = cc in absurd (omega arith)
-  descending_stopped (Stopped w') x e = record { way = w'; trail = refl; same = cc }
+    -- by what the code finds in the table in page t, of level n
+    module _ (n t : ℕ) (w : Way) where
+      pub went_on : (u : ℕ) (v : Way) → Continue (u, v) ≡ descending_of va (arrive_of h m sp target va n t w)
+          → down_of h m sp target va (suc n) (Going t w) ≡ down_of h m sp target va n (Going u v)
+      unfolding down_of step_down_of
+      went_on u v e = going n u v (arrive_of h m sp target va n t w) e
+
+      pub went_to : (x : Arrival) → Break x ≡ descending_of va (arrive_of h m sp target va n t w)
+          → Break x ≡ descending_of va (down_of h m sp target va (suc n) (Going t w))
+      unfolding down_of step_down_of
+      went_to x e = stopped n x (arrive_of h m sp target va n t w) e
+
+    -- and at the last table
+    pub went_last : (t : ℕ) (w : Way) → down_of h m sp target va 1 (Going t w) ≡ arrive_of h m sp target va 0 t w
+    unfolding down_of step_down_of
+    went_last t w = refl
+
+    ended : (o : Descent) → Ended o → descending_of va o ≡ Break (stop_at va (end_of o))
+    unfolding descending_of end_of
+    ended (Going t w) k = absurd k
+    ended (Stopped w) k = refl
+
+    pub descended : descending_of va (down_of h m sp target va 4 (start_of sp)) ≡ Break (stop_at va (way_of h m sp va target))
+    unfolding way_of down_of
+    descended = ended _ (step_ended h m sp target va _)
 
   -- an entry that was told
   pub told_stop : (y : Why) (n x i f : ℕ) (w : Way) → i ≡ index_of n va → framed_of (says n x) ≡ f
-      → track.Stopped (record { way = record { why = y; level = n; word = x; a = w.a; b = w.b; c = w.c; d = w.d }; index = i; frame = f }) ≡ descending_of va (stop_of y n x w)
+      → Break (record { way = record { why = y; level = n; word = x; a = w.a; b = w.b; c = w.c; d = w.d }; index = i; frame = f }) ≡ descending_of va (stop_of y n x w)
   unfolding descending_of stop_at stop_of
   told_stop y n x i f w e k = rw (e, k)
-
-  pub step_kept : (h : ℕ → Bool) (m : ℕ → ℕ) (sp : Space) (target n : ℕ) (o : Descent) (x : Arrival) → StoppedWith o x → track.Stopped x ≡ descending_of va (step_down_of h m sp target va n o)
-  unfolding step_down_of descending_of
-  step_kept h m sp target n o x k = rw (k.trail, k.same)
-
-  pub end_kept : (o : Descent) (x : Arrival) → StoppedWith o x → x ≡ stop_at va (end_of o)
-  unfolding end_of
-  end_kept o x k = rw (k.trail, k.same)

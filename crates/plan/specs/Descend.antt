@@ -1,6 +1,8 @@
 -- The way from the root towards the entry of an address at a target level: a fold of steps that read one entry each.
 -- It goes through pages of the pool only, and remembers the tables that it came through, the last one first.
 use Rattle.std.specs.Prelude.{◌≡◌, ℕ, zero, suc, Bool, cond, ◌==◌}
+use Rattle.std.specs.declared.ops.ControlFlow.{ControlFlow}
+use Rattle.std.specs.declared.ops.ControlFlow.TheVariants.{Continue, Break}
 use Rattle.entry.specs.declared.Rights.{Rights}
 use Rattle.entry.specs.Entry.{says}
 use Rattle.entry.specs.declared.Entry.{Entry}
@@ -12,8 +14,6 @@ use Rattle.plan.specs.declared.descent.Why.{Why}
 use Rattle.plan.specs.declared.descent.Why.TheVariants.{Nothing, Page, Table, Stray}
 use Rattle.plan.specs.declared.descent.Way.{Way}
 use Rattle.plan.specs.declared.descent.Arrival.{Arrival}
-use Rattle.plan.specs.declared.descent.Descending.{Descending}
-use Rattle.plan.specs.declared.descent.Descending.TheVariants as track
 
 -- a way that goes on at the table in a page, or has stopped
 pub data Descent : Type 0 where
@@ -81,9 +81,9 @@ pub record Paged (w : Way) : Type 0 where
 unfoldable pub stop_at : ℕ → Way → Arrival
 stop_at va w = record { way = w; index = index_of w.level va; frame = framed_of (says w.level w.word) }
 
-unfoldable pub descending_of : ℕ → Descent → Descending
-descending_of va (Going t w) = track.Going t w
-descending_of va (Stopped w) = track.Stopped (stop_at va w)
+unfoldable pub descending_of : ℕ → Descent → ControlFlow Arrival (ℕ × Way)
+descending_of va (Going t w) = Continue (t, w)
+descending_of va (Stopped w) = Break (stop_at va w)
 
 abbrev pub level_of : Descent → ℕ
 level_of (Going t w) = w.level

@@ -1,66 +1,53 @@
 -- Map: the decision, a function of the memory and what is asked, and the writes of its plan.
-use Rattle.std.specs.Prelude.{◌≡◌, ℕ, ◌+◌, ◌-◌, ◌*◌, ◌%◌, ◌<◌, ◌≤◌, Bool, true, false, cond, ◌&&◌, List, [], ◌∷◌, ◌++◌, ◌==◌, nat_le, nat_lt}
+use Rattle.std.specs.Prelude.{◌≡◌, ℕ, ◌+◌, ◌-◌, ◌*◌, ◌%◌, ◌<◌, ◌≤◌, Bool, true, false, cond, ◌&&◌, List, [], ◌∷◌, ◌++◌, ◌==◌, nat_le, nat_lt, Option, Result, Some, None, Ok, Err}
+use Rattle.pool.specs.declared.Reason.{Reason as PoolReason}
 use Rattle.word.specs.Memory.{page_count}
 use Rattle.word.specs.Writes.{Write, write, zeros}
 use Rattle.entry.specs.Entry.{frame_end}
 use Rattle.entry.specs.Words.{table_word, made_page}
-use Rattle.entry.specs.declared.Made.{Made}
-use Rattle.entry.specs.declared.Made.TheVariants as made
 use Rattle.entry.specs.declared.Rights.{Rights}
 use Rattle.walk.specs.Walk.{canonical, index_of}
 use Rattle.pool.specs.Book.{names_of, opened_of, listed_of, in_pool}
 use Rattle.pool.specs.Changes.{took_writes}
 use Rattle.pool.specs.declared.Space.{Space}
 use Rattle.pool.specs.declared.Book.{Book}
-use Rattle.pool.specs.declared.Fit.{Fit}
-use Rattle.pool.specs.declared.Fit.TheVariants as fit
-use Rattle.pool.specs.declared.Listed.{Listed}
-use Rattle.pool.specs.declared.Listed.TheVariants as listed
-use Rattle.pool.specs.declared.Opened.{Opened}
-use Rattle.pool.specs.declared.Opened.TheVariants as opened
 use Rattle.plan.specs.declared.Reason.{Reason}
 use Rattle.plan.specs.declared.Reason.TheVariants.{Size, BaseUnaligned, FrameUnaligned, BaseRange, FrameRange, WriteExecute, Pool, FrameInPool, Overlap, NoRoom, Stray, BadList}
 use Rattle.plan.specs.declared.descent.Way.{Way}
 use Rattle.plan.specs.declared.descent.Why.{Why}
 use Rattle.plan.specs.declared.descent.Why.TheVariants as why
 use Rattle.plan.specs.declared.maps.Asked.{Asked}
-use Rattle.plan.specs.declared.maps.Shape.{Shape}
-use Rattle.plan.specs.declared.maps.Shape.TheVariants.{Level, Bad}
 use Rattle.plan.specs.declared.maps.NewTables.{NewTables}
-use Rattle.plan.specs.declared.maps.Supply.{Supply}
-use Rattle.plan.specs.declared.maps.Supply.TheVariants.{Pages, Lacking}
 use Rattle.plan.specs.declared.maps.Mapping.{Mapping}
 use Rattle.plan.specs.declared.maps.Leaf.{Leaf}
 use Rattle.plan.specs.declared.maps.Placing.{Placing}
 use Rattle.plan.specs.declared.maps.Placing.TheVariants as placing
 use Rattle.plan.specs.declared.building.TableReached.{TableReached}
-use Rattle.plan.specs.declared.building.Making.{Making}
-use Rattle.plan.specs.declared.building.Making.TheVariants as making
 use Rattle.plan.specs.Descend.{way_of}
 use Rattle.plan.specs.Rights.{write_execute}
 
 -- Sizes, alignment, range, rights --------------------------------------------------------------------------------------------------------
 
-unfoldable pub fits_of : ℕ → ℕ → ℕ → ℕ → Shape
+unfoldable pub fits_of : ℕ → ℕ → ℕ → ℕ → Result ℕ Reason
 fits_of n size base frame =
     cond (base % size == 0)
     (cond (frame % size == 0)
-    (cond (canonical base) (cond (nat_le frame (frame_end - size)) (Level n) (Bad FrameRange)) (Bad BaseRange))
-    (Bad FrameUnaligned))
-    (Bad BaseUnaligned)
+    (cond (canonical base) (cond (nat_le frame (frame_end - size)) (Ok n) (Err FrameRange)) (Err BaseRange))
+    (Err FrameUnaligned))
+    (Err BaseUnaligned)
 
-unfoldable pub shape_of : ℕ → ℕ → ℕ → Shape
+unfoldable pub shape_of : ℕ → ℕ → ℕ → Result ℕ Reason
 shape_of size base frame =
     cond (size == 4096)
     (fits_of 0 4096 base frame)
-    (cond (size == 2097152) (fits_of 1 2097152 base frame) (cond (size == 1073741824) (fits_of 2 1073741824 base frame) (Bad Size)))
+    (cond (size == 2097152) (fits_of 1 2097152 base frame) (cond (size == 1073741824) (fits_of 2 1073741824 base frame) (Err Size)))
 
-unfoldable pub strict_of : Rights → Shape → Shape
-strict_of r (Level n) = cond (write_execute r) (Bad WriteExecute) (Level n)
-strict_of r (Bad y) = Bad y
+unfoldable pub strict_of : Rights → Result ℕ Reason → Result ℕ Reason
+strict_of r (Ok n) = cond (write_execute r) (Err WriteExecute) (Ok n)
+strict_of r (Err y) = Err y
 
 -- size, alignment and range, and then the rights: all that is looked at before the pool
-unfoldable pub allowed_of : Asked → Shape
+unfoldable pub allowed_of : Asked → Result ℕ Reason
 allowed_of q = strict_of q.rights (shape_of q.size q.base q.frame)
 
 -- what is asked ends where frames do, or below
@@ -76,21 +63,21 @@ meets_of sp frame size = nat_lt (sp.first * 4096) (frame + size) && nat_lt frame
 abbrev pub no_book : Book
 no_book = record { head = 0; free = 0; aside = 0; tickets = 0 }
 
-unfoldable pub nth_of : (ℕ → Bool) → (ℕ → ℕ) → Space → Book → ℕ → ℕ → Listed
-nth_of h m sp b need j = cond (nat_le need j) (listed.Page 0) (listed_of h m sp b j)
+unfoldable pub nth_of : (ℕ → Bool) → (ℕ → ℕ) → Space → Book → ℕ → ℕ → Option ℕ
+nth_of h m sp b need j = cond (nat_le need j) (Some 0) (listed_of h m sp b j)
 
-unfoldable pub fresh_three : Book → ℕ → Listed → Listed → Listed → Supply
-fresh_three b need (listed.Page x) (listed.Page y) (listed.Page z) = Pages (record { need = need; a = x; b = y; c = z; book = b })
-fresh_three b need listed.Bad y z = Lacking BadList
-fresh_three b need (listed.Page x) listed.Bad z = Lacking BadList
-fresh_three b need (listed.Page x) (listed.Page y) listed.Bad = Lacking BadList
+unfoldable pub fresh_three : Book → ℕ → Option ℕ → Option ℕ → Option ℕ → Result NewTables Reason
+fresh_three b need (Some x) (Some y) (Some z) = Ok (record { need = need; a = x; b = y; c = z; book = b })
+fresh_three b need None y z = Err BadList
+fresh_three b need (Some x) None z = Err BadList
+fresh_three b need (Some x) (Some y) None = Err BadList
 
-unfoldable pub fresh_of : (ℕ → Bool) → (ℕ → ℕ) → Space → Book → ℕ → Supply
+unfoldable pub fresh_of : (ℕ → Bool) → (ℕ → ℕ) → Space → Book → ℕ → Result NewTables Reason
 fresh_of h m sp b need = fresh_three b need (nth_of h m sp b need 0) (nth_of h m sp b need 1) (nth_of h m sp b need 2)
 
-unfoldable pub stock_of : (ℕ → Bool) → (ℕ → ℕ) → Space → ℕ → Opened → Supply
-stock_of h m sp need (opened.Book b) = cond (nat_lt b.free need) (Lacking NoRoom) (fresh_of h m sp b need)
-stock_of h m sp need (opened.Refused r) = Lacking (Pool r)
+unfoldable pub stock_of : (ℕ → Bool) → (ℕ → ℕ) → Space → ℕ → Result Book PoolReason → Result NewTables Reason
+stock_of h m sp need (Ok b) = cond (nat_lt b.free need) (Err NoRoom) (fresh_of h m sp b need)
+stock_of h m sp need (Err r) = Err (Pool r)
 
 -- page p is one of the tables that the way came through
 unfoldable pub way_has : Way → ℕ → Bool
@@ -110,14 +97,14 @@ apart_of w f =
     (cond (nat_le f.need 2) true
     (cond (f.a == f.c) false (cond (f.b == f.c) false (cond (way_has w f.c) false true))))))))
 
-unfoldable pub spared_of : Way → Supply → Supply
-spared_of w (Pages f) = cond (apart_of w f) (Pages f) (Lacking BadList)
-spared_of w (Lacking y) = Lacking y
+unfoldable pub spared_of : Way → Result NewTables Reason → Result NewTables Reason
+spared_of w (Ok f) = cond (apart_of w f) (Ok f) (Err BadList)
+spared_of w (Err y) = Err y
 
-abbrev pub none_of : Supply
-none_of = Pages (record { need = 0; a = 0; b = 0; c = 0; book = no_book })
+abbrev pub none_of : Result NewTables Reason
+none_of = Ok (record { need = 0; a = 0; b = 0; c = 0; book = no_book })
 
-unfoldable pub supply_of : (ℕ → Bool) → (ℕ → ℕ) → Space → ℕ → Supply
+unfoldable pub supply_of : (ℕ → Bool) → (ℕ → ℕ) → Space → ℕ → Result NewTables Reason
 supply_of h m sp need =
     cond (need == 0) none_of (stock_of h m sp need (opened_of h m sp))
 
@@ -128,13 +115,13 @@ pub data Placed : Type 0 where
   Go : Mapping → Placed
   Refused : Reason → Placed
 
-unfoldable pub made_of : Asked → ℕ → ℕ → ℕ → NewTables → Made → Placed
-made_of q target level table f made.Refused = Refused FrameRange
-made_of q target level table f (made.Word w) = Go (record { base = q.base; target = target; level = level; table = table; word = w; fresh = f })
+unfoldable pub made_of : Asked → ℕ → ℕ → ℕ → NewTables → Option ℕ → Placed
+made_of q target level table f None = Refused FrameRange
+made_of q target level table f (Some w) = Go (record { base = q.base; target = target; level = level; table = table; word = w; fresh = f })
 
-unfoldable pub place_of : Asked → ℕ → ℕ → ℕ → Supply → Placed
-place_of q target level table (Lacking y) = Refused y
-place_of q target level table (Pages f) = made_of q target level table f (made_page target q.frame q.rights)
+unfoldable pub place_of : Asked → ℕ → ℕ → ℕ → Result NewTables Reason → Placed
+place_of q target level table (Err y) = Refused y
+place_of q target level table (Ok f) = made_of q target level table f (made_page target q.frame q.rights)
 
 unfoldable pub because_of : (ℕ → Bool) → (ℕ → ℕ) → Space → Asked → ℕ → Way → Why → Placed
 because_of h m sp q target w why.Nothing = place_of q target w.level w.a (spared_of w (supply_of h m sp (w.level - target)))
@@ -145,17 +132,17 @@ because_of h m sp q target w why.Stray = Refused Stray
 unfoldable pub stopped_of : (ℕ → Bool) → (ℕ → ℕ) → Space → Asked → ℕ → Way → Placed
 stopped_of h m sp q target w = because_of h m sp q target w w.why
 
-unfoldable pub fitting_of : (ℕ → Bool) → (ℕ → ℕ) → Space → Asked → ℕ → Fit → Placed
-fitting_of h m sp q target fit.Fits =
+unfoldable pub fitting_of : (ℕ → Bool) → (ℕ → ℕ) → Space → Asked → ℕ → Result (Unit {0}) PoolReason → Placed
+fitting_of h m sp q target (Ok tt) =
     cond (meets_of sp q.frame q.size) (Refused FrameInPool) (stopped_of h m sp q target (way_of h m sp q.base target))
-fitting_of h m sp q target (fit.Refused r) = Refused (Pool r)
+fitting_of h m sp q target (Err r) = Refused (Pool r)
 
 unfoldable pub standing_of : (ℕ → Bool) → (ℕ → ℕ) → Space → Asked → ℕ → Placed
 standing_of h m sp q target = fitting_of h m sp q target (names_of h m sp)
 
-unfoldable pub shaped_of : (ℕ → Bool) → (ℕ → ℕ) → Space → Asked → Shape → Placed
-shaped_of h m sp q (Level n) = standing_of h m sp q n
-shaped_of h m sp q (Bad r) = Refused r
+unfoldable pub shaped_of : (ℕ → Bool) → (ℕ → ℕ) → Space → Asked → Result ℕ Reason → Placed
+shaped_of h m sp q (Ok n) = standing_of h m sp q n
+shaped_of h m sp q (Err r) = Refused r
 
 -- WHAT MAP DECIDES: size, alignment, range, rights, the pool, overlap, room, in this order
 unfoldable pub decide_of : (ℕ → Bool) → (ℕ → ℕ) → Space → Asked → Placed
@@ -220,18 +207,18 @@ did_of sp (Go p) = writes_of sp p
 did_of sp (Refused r) = []
 
 -- what is answered: how many tables were made
-unfoldable pub making_of : Placed → Making
-making_of (Go p) = making.Done p.fresh.need
-making_of (Refused r) = making.Refused r
+unfoldable pub making_of : Placed → Result ℕ Reason
+making_of (Go p) = Ok p.fresh.need
+making_of (Refused r) = Err r
 
 -- The same as the code hands it on: where no table is missing, the one entry and its word ------------------------------------------
 
 abbrev pub leaf_of : Mapping → Leaf
 leaf_of p = record { table = p.table; index = index_of p.level p.base; word = p.word }
 
-unfoldable pub placing_of : Placed → Placing
-placing_of (Go p) = cond (nat_le p.level p.target && p.fresh.need == 0) (placing.Here (leaf_of p)) (placing.Built p)
-placing_of (Refused r) = placing.Refused r
+unfoldable pub placing_of : Placed → Result Placing Reason
+placing_of (Go p) = cond (nat_le p.level p.target && p.fresh.need == 0) (Ok (placing.Here (leaf_of p))) (Ok (placing.Built p))
+placing_of (Refused r) = Err r
 
 abbrev pub leaf_writes : Leaf → List Write
 leaf_writes c = write c.table c.index c.word ∷ []

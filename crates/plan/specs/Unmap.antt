@@ -1,5 +1,7 @@
 -- Unmap: the decision, a function of the memory and what is asked, and the writes of its plan.
-use Rattle.std.specs.Prelude.{ℕ, ◌+◌, ◌<◌, Bool, cond, List, [], ◌∷◌, ◌++◌, ◌==◌, nat_le}
+use Rattle.std.specs.Prelude.{ℕ, ◌+◌, ◌<◌, Bool, cond, List, [], ◌∷◌, ◌++◌, ◌==◌, nat_le, Result, Ok, Err}
+use Rattle.pool.specs.declared.Reason.{Reason as PoolReason}
+use Rattle.plan.specs.declared.Reason.{Reason}
 use Rattle.word.specs.Scan.{besides_of}
 use Rattle.word.specs.Writes.{Write, write}
 use Rattle.walk.specs.Walk.{index_of}
@@ -8,19 +10,11 @@ use Rattle.pool.specs.Book.{book_of, opened_of, ticket_after}
 use Rattle.pool.specs.Changes.{aside_writes, aside_book}
 use Rattle.pool.specs.declared.Space.{Space}
 use Rattle.pool.specs.declared.Book.{Book}
-use Rattle.pool.specs.declared.Opened.{Opened}
-use Rattle.pool.specs.declared.Opened.TheVariants as opened
 use Rattle.pool.specs.declared.Reason.TheVariants.{BadBook}
 use Rattle.plan.specs.declared.Reason.TheVariants.{Pool}
 use Rattle.plan.specs.declared.descent.Way.{Way}
 use Rattle.plan.specs.declared.finding.PageEntry.{PageEntry}
-use Rattle.plan.specs.declared.finding.Sought.{Sought}
-use Rattle.plan.specs.declared.finding.Sought.TheVariants as sought
 use Rattle.plan.specs.declared.unmaps.Removal.{Removal}
-use Rattle.plan.specs.declared.unmaps.Removing.{Removing}
-use Rattle.plan.specs.declared.unmaps.Removing.TheVariants.{Go, Refused}
-use Rattle.plan.specs.declared.unmaps.Unmapping.{Unmapping}
-use Rattle.plan.specs.declared.unmaps.Unmapping.TheVariants as unmapping
 use Rattle.plan.specs.Find.{find_of}
 use Rattle.plan.specs.Map.{no_book}
 
@@ -37,23 +31,23 @@ emptied_of h m va w =
 
 -- The decision ---------------------------------------------------------------------------------------------------------------------
 
-unfoldable pub booked_of : Space → PageEntry → ℕ → Book → Removing
-booked_of sp s n b = cond (takes_of sp b n) (Go (record { page = s; empties = n; book = b })) (Refused (Pool BadBook))
+unfoldable pub booked_of : Space → PageEntry → ℕ → Book → Result Removal Reason
+booked_of sp s n b = cond (takes_of sp b n) (Ok (record { page = s; empties = n; book = b })) (Err (Pool BadBook))
 
-unfoldable pub open_of : Space → PageEntry → ℕ → Opened → Removing
-open_of sp s n (opened.Book b) = booked_of sp s n b
-open_of sp s n (opened.Refused r) = Refused (Pool r)
+unfoldable pub open_of : Space → PageEntry → ℕ → Result Book PoolReason → Result Removal Reason
+open_of sp s n (Ok b) = booked_of sp s n b
+open_of sp s n (Err r) = Err (Pool r)
 
 -- a book is needed only where a table becomes empty
-unfoldable pub remove_of : (ℕ → Bool) → (ℕ → ℕ) → Space → PageEntry → ℕ → Removing
-remove_of h m sp s n = cond (n == 0) (Go (record { page = s; empties = 0; book = no_book })) (open_of sp s n (opened_of h m sp))
+unfoldable pub remove_of : (ℕ → Bool) → (ℕ → ℕ) → Space → PageEntry → ℕ → Result Removal Reason
+remove_of h m sp s n = cond (n == 0) (Ok (record { page = s; empties = 0; book = no_book })) (open_of sp s n (opened_of h m sp))
 
-unfoldable pub removing_of : (ℕ → Bool) → (ℕ → ℕ) → Space → ℕ → Sought → Removing
-removing_of h m sp va (sought.Found s) = remove_of h m sp s (emptied_of h m va s.way)
-removing_of h m sp va (sought.Refused y) = Refused y
+unfoldable pub removing_of : (ℕ → Bool) → (ℕ → ℕ) → Space → ℕ → Result PageEntry Reason → Result Removal Reason
+removing_of h m sp va (Ok s) = remove_of h m sp s (emptied_of h m va s.way)
+removing_of h m sp va (Err y) = Err y
 
 -- WHAT UNMAP DECIDES
-unfoldable pub decide_of : (ℕ → Bool) → (ℕ → ℕ) → Space → ℕ → Removing
+unfoldable pub decide_of : (ℕ → Bool) → (ℕ → ℕ) → Space → ℕ → Result Removal Reason
 decide_of h m sp va = removing_of h m sp va (find_of h m sp va)
 
 -- The plan -------------------------------------------------------------------------------------------------------------------------
@@ -83,11 +77,11 @@ writes_of sp va r =
     ++ (cut_writes sp 1 r.empties r.page.way.c (index_of (r.page.way.level + 2) va) r.page.way.b (book1 sp r)
     ++ cut_writes sp 2 r.empties r.page.way.d (index_of (r.page.way.level + 3) va) r.page.way.c (book2 sp r)))
 
-unfoldable pub did_of : Space → ℕ → Removing → List Write
-did_of sp va (Go r) = writes_of sp va r
-did_of sp va (Refused y) = []
+unfoldable pub did_of : Space → ℕ → Result Removal Reason → List Write
+did_of sp va (Ok r) = writes_of sp va r
+did_of sp va (Err y) = []
 
 -- what is done, and the ticket of the book after it: so many pages more are set aside
-unfoldable pub unmapping_of : (ℕ → ℕ) → Space → Removing → Unmapping
-unmapping_of m sp (Go r) = unmapping.Done r (ticket_after (book_of m sp) r.empties)
-unmapping_of m sp (Refused y) = unmapping.Refused y
+unfoldable pub unmapping_of : (ℕ → ℕ) → Space → Result Removal Reason → Result (Removal × ℕ) Reason
+unmapping_of m sp (Ok r) = Ok (r, ticket_after (book_of m sp) r.empties)
+unmapping_of m sp (Err y) = Err y

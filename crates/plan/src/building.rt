@@ -4,19 +4,11 @@ ghost use Rattle.word.specs.Memory.{page_count, memory, holds};
 ghost use Rattle.word.specs.Writes.{Wrote};
 ghost use Rattle.pool.specs.Book.{in_pool};
 ghost use Rattle.pool.specs.Stands.{stands_of};
-ghost use Rattle.pool.specs.declared.Fit.TheVariants.{Fits};
 ghost use Rattle.plan.specs.Map as the;
 
 use crate::Reason;
 use crate::maps::{Asked, Leaf, Mapping, Placing, decide_map};
 use pool::Space;
-
-// What came of it: so many tables were made.
-#[derive(Clone, Copy)]
-pub enum Making {
-    Done(u64),
-    Refused(Reason),
-}
 
 #[derive(Clone, Copy)]
 pub struct TableReached {
@@ -42,7 +34,7 @@ fn grow(
     p: u64,
     s: TableReached,
 ) -> TableReached
-    requires { ((s.level < 4) × (p < page_count)) × ((stands_of (holds mem.old space.origin) space ≡ Fits) × (target < s.level → (in_pool space p ≡ true) × (in_pool space s.table ≡ true))) }
+    requires { ((s.level < 4) × (p < page_count)) × ((stands_of (holds mem.old space.origin) space ≡ Ok tt) × (target < s.level → (in_pool space p ≡ true) × (in_pool space s.table ≡ true))) }
     ensures value { result ≡ the.next_of target p s }
     ensures wrote { Wrote space.origin (the.grow_of va target p s) left.old left.new mem.old mem.new }
 {
@@ -58,7 +50,7 @@ fn grow(
 }
 
 fn build(mem: &mut [u8], left: &mut u64, space: Space, m: Mapping)
-    requires { the.Buildable space m × (stands_of (holds mem.old space.origin) space ≡ Fits) }
+    requires { the.Buildable space m × (stands_of (holds mem.old space.origin) space ≡ Ok tt) }
     ensures { Wrote space.origin (the.build_of m) left.old left.new mem.old mem.new }
 {
     let f = m.fresh;
@@ -79,7 +71,7 @@ fn build(mem: &mut [u8], left: &mut u64, space: Space, m: Mapping)
     );
 }
 
-// Where no table is missing: one write.
+// Where no table is missing: one write. Protect's is another plan, with a law of its own; each is one line.
 fn carry_here(mem: &mut [u8], left: &mut u64, space: Space, c: Leaf)
     ensures { Wrote space.origin (the.leaf_writes c) left.old left.new mem.old mem.new }
 {
@@ -88,7 +80,7 @@ fn carry_here(mem: &mut [u8], left: &mut u64, space: Space, c: Leaf)
 
 // The tables and the page, and then the book.
 fn carry_map(mem: &mut [u8], left: &mut u64, space: Space, m: Mapping)
-    requires { the.Buildable space m × (stands_of (holds mem.old space.origin) space ≡ Fits) }
+    requires { the.Buildable space m × (stands_of (holds mem.old space.origin) space ≡ Ok tt) }
     ensures { Wrote space.origin (the.writes_of space m) left.old left.new mem.old mem.new }
 {
     build(mem, left, space, m);
@@ -99,22 +91,19 @@ fn carry_map(mem: &mut [u8], left: &mut u64, space: Space, m: Mapping)
     }
 }
 
-// Maps, or refuses and writes nothing.
-pub fn map(mem: &mut [u8], left: &mut u64, space: Space, q: Asked) -> Making
+// Maps, and answers how many tables were made; or refuses and writes nothing.
+pub fn map(mem: &mut [u8], left: &mut u64, space: Space, q: Asked) -> Result<u64, Reason>
     ensures answer { result ≡ the.making_of (the.decide_of (holds mem.old space.origin) (memory mem.old space.origin) space q) }
     ensures order { Wrote space.origin (the.did_of space (the.decide_of (holds mem.old space.origin) (memory mem.old space.origin) space q)) left.old left.new mem.old mem.new }
 {
-    let d = decide_map(mem, space, q);
-    match d {
-        Placing::Refused(r) => Making::Refused(r),
+    match decide_map(mem, space, q)? {
         Placing::Here(c) => {
             carry_here(mem, left, space, c);
-            Making::Done(0)
+            Ok(0)
         }
         Placing::Built(p) => {
             carry_map(mem, left, space, p);
-            let f = p.fresh;
-            Making::Done(f.need)
+            Ok(p.fresh.need)
         }
     }
 }

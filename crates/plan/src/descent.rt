@@ -1,16 +1,23 @@
 // The way from the root towards the entry of an address at a level: where it stops, why, and the tables that it came through.
-ghost use Rattle.std.specs.Prelude.{◌≡◌, ℕ, ◌<◌};
+ghost use Rattle.std.specs.Prelude.{◌≡◌, ℕ, ◌<◌, Ok};
+ghost use Rattle.std.specs.declared.ops.ControlFlow.TheVariants.{Break};
 ghost use Rattle.word.specs.Memory.{memory, holds};
 ghost use Rattle.entry.specs.Entry.{says};
 ghost use Rattle.walk.specs.Walk.{index_of};
 ghost use Rattle.pool.specs.Stands.{stands_of};
-ghost use Rattle.pool.specs.declared.Fit.TheVariants.{Fits};
-ghost use Rattle.plan.specs.declared.descent.Descending.TheVariants.{Stopped};
 ghost use Rattle.plan.specs.Descend as the;
 
 use entry::Entry;
 use pool::Space;
-use word::Cell;
+use std::ops::ControlFlow;
+
+// A window in which the pool of a space stands, with its book and its root: that was tested. Whoever reads tables on a way takes it so.
+#[derive(Clone, Copy)]
+pub struct Standing<'a> {
+    pub mem: &'a [u8],
+    pub space: Space,
+    ghost stands: { stands_of (holds mem.now space.origin) space ≡ Ok tt },
+}
 
 #[derive(Clone, Copy)]
 pub enum Why {
@@ -22,7 +29,8 @@ pub enum Why {
     Stray,
 }
 
-// Where the way stops: the level and the word of the entry there, and the tables on the way, the last one first.
+// Where the way stops: the level and the word of the entry there, and the tables on the way, the last one first. The laws (`OnWay`, `Spared`) name
+// the four fields, so they are no array.
 #[derive(Clone, Copy)]
 pub struct Way {
     pub why: Why,
@@ -42,12 +50,6 @@ pub struct Arrival {
     pub frame: u64,
 }
 
-#[derive(Clone, Copy)]
-pub enum Descending {
-    Going(u64, Way),
-    Stopped(Arrival),
-}
-
 // The way has come to the table t.
 fn push(w: Way, t: u64) -> Way
     ensures { result ≡ the.push_of w t }
@@ -63,10 +65,10 @@ fn push(w: Way, t: u64) -> Way
     }
 }
 
-fn stop(y: Why, n: u64, x: u64, w: Way, i: u64, f: u64) -> Descending
-    ensures { result ≡ Stopped (record { way = the.stop_way y n x w; index = i; frame = f }) }
+fn stop(y: Why, n: u64, x: u64, w: Way, i: u64, f: u64) -> ControlFlow<Arrival, (u64, Way)>
+    ensures { result ≡ Break (record { way = the.stop_way y n x w; index = i; frame = f }) }
 {
-    Descending::Stopped(Arrival {
+    ControlFlow::Break(Arrival {
         way: Way {
             why: y,
             level: n,
@@ -82,7 +84,14 @@ fn stop(y: Why, n: u64, x: u64, w: Way, i: u64, f: u64) -> Descending
 }
 
 // The entry of level n, whose index is i and whose word is x, says e.
-fn at_entry(target: u64, n: u64, x: u64, w: Way, i: u64, e: Entry) -> Descending
+fn at_entry(
+    target: u64,
+    n: u64,
+    x: u64,
+    w: Way,
+    i: u64,
+    e: Entry,
+) -> ControlFlow<Arrival, (u64, Way)>
     ensures { (va : ℕ) → i ≡ index_of n va → e ≡ says n x → result ≡ the.descending_of va (the.at_entry_of target n x w e) }
 {
     match e {
@@ -92,85 +101,57 @@ fn at_entry(target: u64, n: u64, x: u64, w: Way, i: u64, e: Entry) -> Descending
             if n == target {
                 stop(Why::Table, n, x, w, i, 0)
             } else {
-                Descending::Going(t, w)
+                ControlFlow::Continue((t, w))
             }
         }
     }
 }
 
-// The way has come to the table in page t.
-fn arrive(mem: &[u8], space: Space, target: u64, va: u64, n: u64, t: u64, w: Way) -> Descending
-    requires { (n < 4) × (stands_of (holds mem.now space.origin) space ≡ Fits) }
-    ensures { result ≡ the.descending_of va (the.arrive_of (holds mem.now space.origin) (memory mem.now space.origin) space target va n t w) }
+// The way has come to the table in page t. It breaks off where it stops, and else goes on at the table in another page.
+fn arrive(
+    at: Standing,
+    target: u64,
+    va: u64,
+    n: u64,
+    t: u64,
+    w: Way,
+) -> ControlFlow<Arrival, (u64, Way)>
+    requires { n < 4 }
+    ensures { result ≡ the.descending_of va (the.arrive_of (holds at.entry.mem.now at.entry.space.origin) (memory at.entry.mem.now at.entry.space.origin) at.entry.space target va n t w) }
 {
     let i = walk::index(n, va);
-    let c = pool::entry(mem, space, t, i);
-    match c {
-        Cell::Word(x) => at_entry(target, n, x, push(w, t), i, entry::decode(n, x)),
-        Cell::Outside => stop(Why::Stray, n, 0, w, i, 0),
+    match pool::entry(at.mem, at.space, t, i) {
+        Some(x) => at_entry(target, n, x, push(w, t), i, entry::decode(n, x)),
+        None => stop(Why::Stray, n, 0, w, i, 0),
     }
 }
 
-fn step(mem: &[u8], space: Space, target: u64, va: u64, n: u64, s: Descending) -> Descending
-    requires { (n < 4) × (stands_of (holds mem.now space.origin) space ≡ Fits) }
-    ensures { (o : the.Descent) → s ≡ the.descending_of va o → result ≡ the.descending_of va (the.step_down_of (holds mem.now space.origin) (memory mem.now space.origin) space target va n o) }
+// From the root, level by level.
+fn down(at: Standing, target: u64, va: u64) -> ControlFlow<Arrival, (u64, Way)>
+    ensures { result ≡ the.descending_of va (the.down_of (holds at.entry.mem.now at.entry.space.origin) (memory at.entry.mem.now at.entry.space.origin) at.entry.space target va 4 (the.start_of at.entry.space)) }
 {
-    match s {
-        Descending::Going(t, w) => arrive(mem, space, target, va, n, t, w),
-        Descending::Stopped(x) => Descending::Stopped(x),
-    }
-}
-
-// Where the way begins.
-fn start(space: Space) -> Descending
-    ensures { (va : ℕ) → result ≡ the.descending_of va (the.start_of space) }
-{
-    Descending::Going(
-        space.root,
-        Way {
-            why: Why::Stray,
-            level: 0,
-            word: 0,
-            a: 0,
-            b: 0,
-            c: 0,
-            d: 0,
-        },
-    )
-}
-
-// The frame that an entry gives.
-fn framed(e: Entry) -> u64
-    ensures { result ≡ the.framed_of e }
-{
-    match e {
-        Entry::Nothing => 0,
-        Entry::Page(f, _) => f,
-        Entry::Table(_, _) => 0,
-    }
-}
-
-fn end(va: u64, s: Descending) -> Arrival
-    ensures { (o : the.Descent) → the.level_of o < 4 → s ≡ the.descending_of va o → result ≡ the.stop_at va (the.end_of o) }
-{
-    match s {
-        Descending::Going(_, w) => Arrival {
-            way: w,
-            index: walk::index(w.level, va),
-            frame: framed(entry::decode(w.level, w.word)),
-        },
-        Descending::Stopped(x) => x,
-    }
+    let w = Way {
+        why: Why::Stray,
+        level: 0,
+        word: 0,
+        a: 0,
+        b: 0,
+        c: 0,
+        d: 0,
+    };
+    let (t, w) = arrive(at, target, va, 3, at.space.root, w)?;
+    let (t, w) = arrive(at, target, va, 2, t, w)?;
+    let (t, w) = arrive(at, target, va, 1, t, w)?;
+    arrive(at, target, va, 0, t, w)
 }
 
 // The way of an address to its entry at the target level.
-pub fn descend(mem: &[u8], space: Space, va: u64, target: u64) -> Arrival
-    requires { stands_of (holds mem.now space.origin) space ≡ Fits }
-    ensures { result ≡ the.stop_at va (the.way_of (holds mem.now space.origin) (memory mem.now space.origin) space va target) }
+pub fn descend(at: Standing, va: u64, target: u64) -> Arrival
+    ensures { result ≡ the.stop_at va (the.way_of (holds at.entry.mem.now at.entry.space.origin) (memory at.entry.mem.now at.entry.space.origin) at.entry.space va target) }
 {
-    let s3 = step(mem, space, target, va, 3, start(space));
-    let s2 = step(mem, space, target, va, 2, s3);
-    let s1 = step(mem, space, target, va, 1, s2);
-    let s0 = step(mem, space, target, va, 0, s1);
-    end(va, s0)
+    match down(at, target, va) {
+        ControlFlow::Break(x) => x,
+        // no entry of the last table leads to a table
+        ControlFlow::Continue(_) => unreachable!(),
+    }
 }

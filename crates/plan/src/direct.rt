@@ -5,152 +5,130 @@ ghost use Rattle.word.specs.Memory.{memory, holds};
 ghost use Rattle.word.specs.Writes.{Wrote};
 ghost use Rattle.walk.specs.Walk.{index_of};
 ghost use Rattle.pool.specs.Stands.{stands_of};
-ghost use Rattle.pool.specs.declared.Fit.TheVariants.{Fits};
 ghost use Rattle.plan.specs.declared.descent.Way.{Way};
 ghost use Rattle.plan.specs.Descend.{Going, start_of, down_of};
 ghost use Rattle.plan.specs.Map.{decide_of};
 ghost use Rattle.plan.specs.AtOnce as the;
 
-use crate::maps::{Asked, Shape, fits, meets};
+use crate::Reason;
+use crate::descent::Standing;
+use crate::maps::{Asked, fits, meets};
 use crate::rights::write_execute;
-use entry::{Entry, Made};
-use pool::{Fit, Space};
-use word::Cell;
+use entry::Entry;
+use pool::Space;
 
-// What an entry leads to.
-#[derive(Clone, Copy)]
-pub enum Lead {
-    Table(u64),
+// Why an entry leads to no table.
+#[derive(Clone, Copy, Debug, PartialEq, Eq)]
+pub enum Stop {
     Page,
     Nothing,
     // its table is no page of the pool
     Stray,
 }
 
-#[derive(Clone, Copy)]
-pub enum Once {
-    Done,
-    // refused: something is mapped there
-    Overlap,
-    // nothing was written
-    Unsaid,
-}
-
-// What the entry of the address in the table in page t, of level n, leads to.
-fn follow(mem: &[u8], space: Space, n: u64, va: u64, t: u64) -> Lead
-    requires { (n < 4) × (stands_of (holds mem.now space.origin) space ≡ Fits) }
-    ensures { result ≡ the.lead_of (holds mem.now space.origin) (memory mem.now space.origin) space va n t }
+// The table that the entry of the address in the table in page t, of level n, leads to.
+fn follow(at: Standing, n: u64, va: u64, t: u64) -> Result<u64, Stop>
+    requires { n < 4 }
+    ensures { result ≡ the.lead_of (holds at.entry.mem.now at.entry.space.origin) (memory at.entry.mem.now at.entry.space.origin) at.entry.space va n t }
 {
-    let c = pool::entry(mem, space, t, walk::index(n, va));
-    match c {
-        Cell::Outside => Lead::Stray,
-        Cell::Word(w) => {
-            let e = entry::decode(n, w);
-            match e {
-                Entry::Nothing => Lead::Nothing,
-                Entry::Page(_, _) => Lead::Page,
-                Entry::Table(u, _) => Lead::Table(u),
-            }
-        }
+    let w = pool::entry(at.mem, at.space, t, walk::index(n, va)).ok_or(Stop::Stray)?;
+    match entry::decode(n, w) {
+        Entry::Nothing => Err(Stop::Nothing),
+        Entry::Page(_, _) => Err(Stop::Page),
+        Entry::Table(u, _) => Ok(u),
     }
 }
 
 // From the table in page t, of level 2, to that of the target's level.
-fn down(mem: &[u8], space: Space, target: u64, va: u64, t: u64) -> Lead
-    requires { stands_of (holds mem.now space.origin) space ≡ Fits }
-    ensures { target ≤ 1 → (w : Way) → the.Leads (holds mem.now space.origin) (memory mem.now space.origin) space target va (down_of (holds mem.now space.origin) (memory mem.now space.origin) space target va 3 (Going t w)) result }
+fn down(at: Standing, target: u64, va: u64, t: u64) -> Result<u64, Stop>
+    ensures { target ≤ 1 → (w : Way) → the.Leads (holds at.entry.mem.now at.entry.space.origin) (memory at.entry.mem.now at.entry.space.origin) at.entry.space target va (down_of (holds at.entry.mem.now at.entry.space.origin) (memory at.entry.mem.now at.entry.space.origin) at.entry.space target va 3 (Going t w)) result }
 {
-    let l = follow(mem, space, 2, va, t);
+    let u = follow(at, 2, va, t)?;
     if target == 1 {
-        return l;
+        return Ok(u);
     }
-    match l {
-        Lead::Table(u) => follow(mem, space, 1, va, u),
-        Lead::Page => Lead::Page,
-        Lead::Nothing => Lead::Nothing,
-        Lead::Stray => Lead::Stray,
-    }
+    follow(at, 1, va, u)
 }
 
 // From the root to the table of the target's level.
-fn last(mem: &[u8], space: Space, target: u64, va: u64) -> Lead
-    requires { stands_of (holds mem.now space.origin) space ≡ Fits }
-    ensures { target ≤ 2 → the.Leads (holds mem.now space.origin) (memory mem.now space.origin) space target va (down_of (holds mem.now space.origin) (memory mem.now space.origin) space target va 4 (start_of space)) result }
+fn last(at: Standing, target: u64, va: u64) -> Result<u64, Stop>
+    ensures { target ≤ 2 → the.Leads (holds at.entry.mem.now at.entry.space.origin) (memory at.entry.mem.now at.entry.space.origin) at.entry.space target va (down_of (holds at.entry.mem.now at.entry.space.origin) (memory at.entry.mem.now at.entry.space.origin) at.entry.space target va 4 (start_of at.entry.space)) result }
 {
-    let l = follow(mem, space, 3, va, space.root);
+    let u = follow(at, 3, va, at.space.root)?;
     if target == 2 {
-        return l;
+        return Ok(u);
     }
-    match l {
-        Lead::Table(u) => down(mem, space, target, va, u),
-        Lead::Page => Lead::Page,
-        Lead::Nothing => Lead::Nothing,
-        Lead::Stray => Lead::Stray,
-    }
+    down(at, target, va, u)
 }
 
 // The entry in the table in page t, of level n, is set where nothing is there.
-fn settle(mem: &mut [u8], left: &mut u64, space: Space, n: u64, va: u64, t: u64, x: u64) -> Once
-    requires { (n < 4) × (stands_of (holds mem.old space.origin) space ≡ Fits) }
+fn settle(
+    mem: &mut [u8],
+    left: &mut u64,
+    space: Space,
+    n: u64,
+    va: u64,
+    t: u64,
+    x: u64,
+) -> Option<Result<u64, Reason>>
+    requires { (n < 4) × (stands_of (holds mem.old space.origin) space ≡ Ok tt) }
     ensures value { result ≡ the.once_of (the.lead_of (holds mem.old space.origin) (memory mem.old space.origin) space va n t) }
     ensures wrote { Wrote space.origin (the.once_writes t (index_of n va) x (the.lead_of (holds mem.old space.origin) (memory mem.old space.origin) space va n t)) left.old left.new mem.old mem.new }
 {
-    let l = follow(mem, space, n, va, t);
-    match l {
-        Lead::Nothing => {
+    match follow(Standing { mem, space }, n, va, t) {
+        Err(Stop::Nothing) => {
             pool::set_entry(mem, left, space, t, walk::index(n, va), x);
-            Once::Done
+            Some(Ok(0))
         }
-        Lead::Page => Once::Overlap,
-        Lead::Table(_) => Once::Overlap,
-        Lead::Stray => Once::Unsaid,
+        Err(Stop::Page) => Some(Err(Reason::Overlap)),
+        Ok(_) => Some(Err(Reason::Overlap)),
+        Err(Stop::Stray) => None,
     }
 }
 
 // The way of what is asked, where all else was found right; x is the page's word.
-fn placed(mem: &mut [u8], left: &mut u64, space: Space, n: u64, va: u64, x: u64) -> Once
-    requires { (n ≤ 2) × (stands_of (holds mem.old space.origin) space ≡ Fits) }
+fn placed(
+    mem: &mut [u8],
+    left: &mut u64,
+    space: Space,
+    n: u64,
+    va: u64,
+    x: u64,
+) -> Option<Result<u64, Reason>>
+    requires { (n ≤ 2) × (stands_of (holds mem.old space.origin) space ≡ Ok tt) }
     ensures { the.Found left.old left.new mem.old mem.new space n va x result }
 {
-    let l = last(mem, space, n, va);
-    match l {
-        Lead::Table(t) => settle(mem, left, space, n, va, t, x),
-        // what remains is rare, and one exit for all of it keeps the compiler's registers
-        Lead::Page => Once::Unsaid,
-        Lead::Nothing => Once::Unsaid,
-        Lead::Stray => Once::Unsaid,
-    }
+    // where there is none is rare, and one exit for all of it keeps the compiler's registers
+    let t = last(Standing { mem, space }, n, va).ok()?;
+    settle(mem, left, space, n, va, t, x)
 }
 
-// Maps a page of level n where no table is missing.
-pub fn at_once(mem: &mut [u8], left: &mut u64, space: Space, q: Asked, n: u64) -> Once
+// Maps a page of level n where no table is missing, and says what map answers; where it leaves that unsaid, nothing was written.
+pub fn at_once(
+    mem: &mut [u8],
+    left: &mut u64,
+    space: Space,
+    q: Asked,
+    n: u64,
+) -> Option<Result<u64, Reason>>
     ensures { the.AtOnce left.old left.new mem.old mem.new space (decide_of (holds mem.old space.origin) (memory mem.old space.origin) space q) result }
 {
     if 2 < n {
-        return Once::Unsaid;
+        return None;
     }
     let size = entry::size(n);
     if q.size != size {
-        return Once::Unsaid;
+        return None;
     }
-    let s = fits(n, size, q.base, q.frame);
-    let Shape::Level(_) = s else {
-        return Once::Unsaid;
-    };
+    fits(n, size, q.base, q.frame).ok()?;
     let rights = q.rights;
     if write_execute(rights) {
-        return Once::Unsaid;
+        return None;
     }
-    let m = entry::page_word(n, q.frame, rights);
-    let Made::Word(x) = m else {
-        return Once::Unsaid;
-    };
-    let f = pool::names(mem, space);
-    let Fit::Fits = f else {
-        return Once::Unsaid;
-    };
+    let x = entry::page_word(n, q.frame, rights)?;
+    pool::names(mem, space).ok()?;
     if meets(space, q.frame, size) {
-        return Once::Unsaid;
+        return None;
     }
     placed(mem, left, space, n, q.base, x)
 }

@@ -7,8 +7,8 @@ ghost use Rattle.plan.specs.Descend.{stop_at, Paged};
 ghost use Rattle.plan.specs.Find as the;
 
 use crate::Reason;
-use crate::descent::{Arrival, Way, Why, descend};
-use pool::{Fit, Space};
+use crate::descent::{Arrival, Standing, Way, Why, descend};
+use pool::Space;
 
 // Where the page's entry is, and what it says.
 #[derive(Clone, Copy)]
@@ -19,12 +19,6 @@ pub struct PageEntry {
     pub size: u64,
 }
 
-#[derive(Clone, Copy)]
-pub enum Sought {
-    Found(PageEntry),
-    Refused(Reason),
-}
-
 // Is va the first address that an entry of level n covers?
 fn starts(n: u64, va: u64) -> bool
     ensures { n < 4 → result ≡ the.starts_of n va }
@@ -33,44 +27,38 @@ fn starts(n: u64, va: u64) -> bool
 }
 
 // The way stopped there.
-fn stopped(va: u64, t: Arrival) -> Sought
+fn stopped(va: u64, t: Arrival) -> Result<PageEntry, Reason>
     ensures { (w : Way) → (w.why ≡ Page → Paged w) → t ≡ stop_at va w → result ≡ the.found_stopped_of va w }
 {
     let w = t.way;
     if 3 < w.level {
-        return Sought::Refused(Reason::Stray);
+        return Err(Reason::Stray);
     }
-    let y = w.why;
-    match y {
-        Why::Stray => Sought::Refused(Reason::Stray),
-        Why::Nothing => Sought::Refused(Reason::NothingStarts),
-        Why::Table => Sought::Refused(Reason::NothingStarts),
+    match w.why {
+        Why::Stray => Err(Reason::Stray),
+        Why::Nothing => Err(Reason::NothingStarts),
+        Why::Table => Err(Reason::NothingStarts),
         Why::Page => {
             if starts(w.level, va) {
-                return Sought::Found(PageEntry {
+                return Ok(PageEntry {
                     way: w,
                     index: t.index,
                     frame: t.frame,
                     size: entry::size(w.level),
                 });
             }
-            Sought::Refused(Reason::NothingStarts)
+            Err(Reason::NothingStarts)
         }
     }
 }
 
 // Finds the page that starts at va, or says why there is none.
-pub fn find(mem: &[u8], space: Space, va: u64) -> Sought
+pub fn find(mem: &[u8], space: Space, va: u64) -> Result<PageEntry, Reason>
     ensures { result ≡ the.find_of (holds mem.now space.origin) (memory mem.now space.origin) space va }
 {
-    let fit = pool::names(mem, space);
-    match fit {
-        Fit::Refused(r) => Sought::Refused(Reason::Pool(r)),
-        Fit::Fits => {
-            if walk::canonical(va) {
-                return stopped(va, descend(mem, space, va, 4));
-            }
-            Sought::Refused(Reason::BaseRange)
-        }
+    pool::names(mem, space)?;
+    if walk::canonical(va) {
+        return stopped(va, descend(Standing { mem, space }, va, 4));
     }
+    Err(Reason::BaseRange)
 }

@@ -1,9 +1,13 @@
 // Map, unmap and protect: each decides first, only reading, and then carries out a plan in which every word is computed already.
 #![tactic(auto)]
 
+ghost use Rattle.std.specs.Prelude.{◌≡◌};
+ghost use Rattle.plan.specs.declared.Reason.TheVariants.{Pool};
+
 mod building;
 mod descent;
 mod direct;
+mod display;
 mod finding;
 mod maps;
 mod protects;
@@ -11,16 +15,16 @@ mod rights;
 mod spare;
 mod unmaps;
 
-pub use building::{Making, map};
+pub use building::map;
 pub use descent::{Way, Why};
-pub use direct::{Once, at_once};
-pub use maps::{Asked, Shape, allowed};
-pub use protects::{Change, Changing, protect};
+pub use direct::at_once;
+pub use maps::{Asked, allowed};
+pub use protects::{Change, protect};
 pub use rights::write_execute;
-pub use unmaps::{Removal, Unmapping, unmap};
+pub use unmaps::{Removal, unmap};
 
 // Why an operation is refused: one reason for each cause.
-#[derive(Clone, Copy)]
+#[derive(Clone, Copy, Debug, PartialEq, Eq)]
 pub enum Reason {
     // the size is none of 4 KiB, 2 MiB, 1 GiB
     Size,
@@ -45,4 +49,12 @@ pub enum Reason {
     Stray,
     // the book is damaged: it lists a page that is no table's
     BadList,
+}
+
+impl From<pool::Reason> for Reason {
+    ghost from_gives = { λ r y. y ≡ Pool r };
+
+    fn from(r: pool::Reason) -> Reason {
+        Reason::Pool(r)
+    }
 }

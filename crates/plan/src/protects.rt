@@ -6,7 +6,7 @@ ghost use Rattle.walk.specs.Walk.{index_of};
 ghost use Rattle.plan.specs.Protect as the;
 
 use crate::Reason;
-use crate::finding::{PageEntry, Sought, find};
+use crate::finding::{PageEntry, find};
 use crate::rights::write_execute;
 use entry::Rights;
 use pool::Space;
@@ -20,12 +20,6 @@ pub struct Change {
     pub frame: u64,
     pub size: u64,
     pub ticket: u64,
-}
-
-#[derive(Clone, Copy)]
-pub enum Changing {
-    Go(Change),
-    Refused(Reason),
 }
 
 fn changed(va: u64, s: PageEntry, rights: Rights, ticket: u64) -> Change
@@ -43,22 +37,18 @@ fn changed(va: u64, s: PageEntry, rights: Rights, ticket: u64) -> Change
 }
 
 // What protect would write.
-fn decide_protect(mem: &[u8], space: Space, va: u64, rights: Rights) -> Changing
+fn decide_protect(mem: &[u8], space: Space, va: u64, rights: Rights) -> Result<Change, Reason>
     ensures { result ≡ the.decide_of (holds mem.now space.origin) (memory mem.now space.origin) space va rights }
 {
     if write_execute(rights) {
-        return Changing::Refused(Reason::WriteExecute);
+        return Err(Reason::WriteExecute);
     }
-    let s = find(mem, space, va);
-    match s {
-        Sought::Refused(r) => Changing::Refused(r),
-        Sought::Found(p) => {
-            let ticket = pool::ticket(pool::book_now(mem, space));
-            Changing::Go(changed(va, p, rights, ticket))
-        }
-    }
+    let p = find(mem, space, va)?;
+    let ticket = pool::ticket(pool::book_now(mem, space));
+    Ok(changed(va, p, rights, ticket))
 }
 
+// One line, as map's where no table is missing; a plan of its own with its own law.
 fn carry_protect(mem: &mut [u8], left: &mut u64, space: Space, c: Change)
     ensures { Wrote space.origin (the.writes_of c) left.old left.new mem.old mem.new }
 {
@@ -66,16 +56,17 @@ fn carry_protect(mem: &mut [u8], left: &mut u64, space: Space, c: Change)
 }
 
 // Gives the page that starts at va other rights, or refuses and writes nothing.
-pub fn protect(mem: &mut [u8], left: &mut u64, space: Space, va: u64, rights: Rights) -> Changing
+pub fn protect(
+    mem: &mut [u8],
+    left: &mut u64,
+    space: Space,
+    va: u64,
+    rights: Rights,
+) -> Result<Change, Reason>
     ensures answer { result ≡ the.decide_of (holds mem.old space.origin) (memory mem.old space.origin) space va rights }
     ensures order { Wrote space.origin (the.did_of (the.decide_of (holds mem.old space.origin) (memory mem.old space.origin) space va rights)) left.old left.new mem.old mem.new }
 {
-    let d = decide_protect(mem, space, va, rights);
-    match d {
-        Changing::Refused(r) => Changing::Refused(r),
-        Changing::Go(c) => {
-            carry_protect(mem, left, space, c);
-            Changing::Go(c)
-        }
-    }
+    let c = decide_protect(mem, space, va, rights)?;
+    carry_protect(mem, left, space, c);
+    Ok(c)
 }

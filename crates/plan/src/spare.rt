@@ -4,7 +4,7 @@ ghost use Rattle.plan.specs.Map as the;
 
 use crate::Reason;
 use crate::descent::Way;
-use crate::maps::{NewTables, Supply};
+use crate::maps::NewTables;
 
 // Is page p one of the tables that the way came through?
 fn way_has(w: Way, p: u64) -> bool
@@ -65,17 +65,12 @@ fn apart(w: Way, f: NewTables) -> bool
     true
 }
 
-// The supply, where that is so.
-pub fn spared(w: Way, s: Supply) -> Supply
-    ensures { result ≡ the.spared_of w s }
+// These pages, where that is so.
+pub fn spared(w: Way, f: NewTables) -> Result<NewTables, Reason>
+    ensures { result ≡ the.spared_of w (Ok f) }
 {
-    match s {
-        Supply::Lacking(y) => Supply::Lacking(y),
-        Supply::Pages(f) => {
-            if apart(w, f) {
-                return Supply::Pages(f);
-            }
-            Supply::Lacking(Reason::BadList)
-        }
+    if apart(w, f) {
+        return Ok(f);
     }
+    Err(Reason::BadList)
 }

@@ -7,8 +7,8 @@ ghost use Rattle.plan.specs.Unmap as the;
 
 use crate::Reason;
 use crate::descent::Way;
-use crate::finding::{PageEntry, Sought, find};
-use pool::{Book, Opened, Space};
+use crate::finding::{PageEntry, find};
+use pool::{Book, Space};
 
 // The page that goes, how many tables become empty with it, and the book that takes them.
 #[derive(Clone, Copy)]
@@ -16,19 +16,6 @@ pub struct Removal {
     pub page: PageEntry,
     pub empties: u64,
     pub book: Book,
-}
-
-#[derive(Clone, Copy)]
-pub enum Removing {
-    Go(Removal),
-    Refused(Reason),
-}
-
-// What was done, and the ticket after it.
-#[derive(Clone, Copy)]
-pub enum Unmapping {
-    Done(Removal, u64),
-    Refused(Reason),
 }
 
 // How many tables become empty, from the one of the page's entry up; the root stays.
@@ -57,25 +44,25 @@ fn emptied(mem: &[u8], origin: u64, va: u64, i: u64, w: Way) -> u64
 }
 
 // The book has room for the tables that become empty.
-fn booked(space: Space, s: PageEntry, n: u64, b: Book) -> Removing
+fn booked(space: Space, s: PageEntry, n: u64, b: Book) -> Result<Removal, Reason>
     ensures { result ≡ the.booked_of space s n b }
 {
     if pool::takes(space, b, n) {
-        return Removing::Go(Removal {
+        return Ok(Removal {
             page: s,
             empties: n,
             book: b,
         });
     }
-    Removing::Refused(Reason::Pool(pool::Reason::BadBook))
+    Err(Reason::Pool(pool::Reason::BadBook))
 }
 
 // A book is needed only where a table becomes empty.
-fn remove(mem: &[u8], space: Space, s: PageEntry, n: u64) -> Removing
+fn remove(mem: &[u8], space: Space, s: PageEntry, n: u64) -> Result<Removal, Reason>
     ensures { result ≡ the.remove_of (holds mem.now space.origin) (memory mem.now space.origin) space s n }
 {
     if n == 0 {
-        return Removing::Go(Removal {
+        return Ok(Removal {
             page: s,
             empties: 0,
             book: Book {
@@ -88,25 +75,17 @@ fn remove(mem: &[u8], space: Space, s: PageEntry, n: u64) -> Removing
     }
     // A copy, so that the space itself need not lie in memory where no book is needed.
     let sp = space;
-    let o = pool::open(mem, sp);
-    match o {
-        Opened::Refused(r) => Removing::Refused(Reason::Pool(r)),
-        Opened::Book(b) => booked(space, s, n, b),
-    }
+    let b = pool::open(mem, sp)?;
+    booked(space, s, n, b)
 }
 
 // What unmap would write.
-fn decide_unmap(mem: &[u8], space: Space, va: u64) -> Removing
+fn decide_unmap(mem: &[u8], space: Space, va: u64) -> Result<Removal, Reason>
     ensures { result ≡ the.decide_of (holds mem.now space.origin) (memory mem.now space.origin) space va }
 {
-    let s = find(mem, space, va);
-    match s {
-        Sought::Refused(r) => Removing::Refused(r),
-        Sought::Found(p) => {
-            let w = p.way;
-            remove(mem, space, p, emptied(mem, space.origin, va, p.index, w))
-        }
-    }
+    let p = find(mem, space, va)?;
+    let n = emptied(mem, space.origin, va, p.index, p.way);
+    remove(mem, space, p, n)
 }
 
 // Where k is below n, the table `child` is the k-th that became empty: its entry in its parent, of level l, is cleared, and it is set aside.
@@ -153,18 +132,18 @@ fn carry_unmap(mem: &mut [u8], left: &mut u64, space: Space, va: u64, r: Removal
     cut(mem, left, sp, va, 2, n, w.d, l + 3, w.c, b2);
 }
 
-// Unmaps, and answers the ticket of the book after it, by the counts before; or refuses and writes nothing.
-pub fn unmap(mem: &mut [u8], left: &mut u64, space: Space, va: u64) -> Unmapping
+// Unmaps, and answers what went, and the ticket of the book after it, by the counts before; or refuses and writes nothing.
+pub fn unmap(
+    mem: &mut [u8],
+    left: &mut u64,
+    space: Space,
+    va: u64,
+) -> Result<(Removal, u64), Reason>
     ensures answer { result ≡ the.unmapping_of (memory mem.old space.origin) space (the.decide_of (holds mem.old space.origin) (memory mem.old space.origin) space va) }
     ensures order { Wrote space.origin (the.did_of space va (the.decide_of (holds mem.old space.origin) (memory mem.old space.origin) space va)) left.old left.new mem.old mem.new }
 {
-    let d = decide_unmap(mem, space, va);
-    match d {
-        Removing::Refused(r) => Unmapping::Refused(r),
-        Removing::Go(p) => {
-            let ticket = pool::ticket_after(pool::book_now(mem, space), p.empties);
-            carry_unmap(mem, left, space, va, p);
-            Unmapping::Done(p, ticket)
-        }
-    }
+    let p = decide_unmap(mem, space, va)?;
+    let ticket = pool::ticket_after(pool::book_now(mem, space), p.empties);
+    carry_unmap(mem, left, space, va, p);
+    Ok((p, ticket))
 }

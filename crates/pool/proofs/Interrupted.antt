@@ -1,14 +1,12 @@
 -- CREATE, INTERRUPTED: the signature is removed by its first write and set by its last, so stopped between them it leaves no book.
-use Rattle.std.proofs.Common.{◌≡◌, ℕ, zero, suc, ◌+◌, ◌-◌, ◌*◌, ◌<◌, ◌≢◌, List, [], ◌∷◌, ◌++◌, length, take, sym, refl, ap, ◌∙◌, arith}
+use Rattle.std.proofs.Common.{◌≡◌, ℕ, zero, suc, ◌+◌, ◌-◌, ◌*◌, ◌<◌, ◌≢◌, List, [], ◌∷◌, ◌++◌, length, take, sym, refl, ap, ◌∙◌, arith, Result, Ok, Err}
+use Rattle.pool.specs.declared.Reason.{Reason}
 use Rattle.word.specs.Memory.{at, set, memory, holds}
 use Rattle.word.specs.Writes.{Write, after, carried, zeros}
 use Rattle.word.proofs.Set.{set_other}
 use Rattle.word.proofs.Writes.{every_map, every_take, memory_carried}
 use Rattle.pool.specs.declared.Space.{Space}
 use Rattle.pool.specs.declared.Book.{Book}
-use Rattle.pool.specs.declared.Fit.{Fit}
-use Rattle.pool.specs.declared.Fit.TheVariants as fit
-use Rattle.pool.specs.declared.Opened.TheVariants as opened
 use Rattle.pool.specs.Layout.{signature_at, pages_at, root_at, tickets_at, free_at, aside_at, header_words, slot_at}
 use Rattle.pool.specs.Book.{word_of, signature, opened_of}
 use Rattle.pool.specs.Changes.{put}
@@ -97,11 +95,11 @@ module _ (sp : Space) (behind : sp.first < sp.root) where
   laid_unmarked m (suc k) z u = after_elsewhere (word_of sp signature_at) (after m (put sp signature_at 0 ∷ [])) (take k rest) (rest_until k (omega arith)) ∙ put_same m sp signature_at 0
 
 module _ (s : List ℕ) (origin first pages : ℕ) where
-  unmarked : (k : ℕ) (f : Fit) → may_create (length s) (holds s origin) origin first pages ≡ f → 0 < k → k < length (create_in (new_space origin first pages) f)
+  unmarked : (k : ℕ) (f : Result (Unit {0}) Reason) → may_create (length s) (holds s origin) origin first pages ≡ f → 0 < k → k < length (create_in (new_space origin first pages) f)
       → memory (carried s origin (take k (create_in (new_space origin first pages) f))) origin (word_of (new_space origin first pages) signature_at) ≡ 0
   unfolding create_in
-  unmarked k (fit.Refused r) e z u = absurd (omega arith)
-  unmarked k fit.Fits e z u =
+  unmarked k (Err r) e z u = absurd (omega arith)
+  unmarked k (Ok tt) e z u =
       let sp = new_space origin first pages in
       let f = may_fit (length s) (holds s origin) origin first pages e in
       let proper = laid_proper sp (roomy s origin first pages f) (record { enough = f.enough; behind = refl }) in
@@ -111,7 +109,7 @@ module _ (s : List ℕ) (origin first pages : ℕ) where
 
   -- NO BOOK YET: stopped between its first write and its last, whatever was there before and whatever is then opened there
   pub create_interrupted : (k : ℕ) → 0 < k → k < length (create_writes (length s) (holds s origin) origin first pages)
-      → (sp : Space) → sp.origin ≡ origin → sp.first ≡ first → (b : Book) → opened_of (holds (created_up_to s origin first pages k) origin) (memory (created_up_to s origin first pages k) origin) sp ≢ opened.Book b
+      → (sp : Space) → sp.origin ≡ origin → sp.first ≡ first → (b : Book) → opened_of (holds (created_up_to s origin first pages k) origin) (memory (created_up_to s origin first pages k) origin) sp ≢ Ok b
   unfolding create_writes
   create_interrupted k z u sp same here b e =
       let o = open_shows _ _ sp b e in

@@ -1,20 +1,16 @@
 -- What `free_page` answers: for any bytes a page of the pool that is neither the book's nor the root; of a true book, the page listed.
-use Rattle.std.proofs.Common.{◌≡◌, ℕ, ◌+◌, ◌/◌, ◌<◌, ◌≤◌, Bool, true, false, cond, not, ◌&&◌, eqb, ltb, ◌≢◌, refl, ap, ◌∙◌, subst, arith, lt-ltb, ne_eqb}
+use Rattle.std.proofs.Common.{◌≡◌, ℕ, ◌+◌, ◌/◌, ◌<◌, ◌≤◌, Bool, true, false, cond, not, ◌&&◌, eqb, ltb, ◌≢◌, refl, ap, ◌∙◌, subst, arith, lt-ltb, ne_eqb, Option, Some, None, Ok}
 use native.Mathlib.Decide.{dec_le}
 use borrow.Author.Tests.{eqb-false, not-true}
 use Rattle.word.proofs.Tests.{and_both}
 use Rattle.tables.specs.Roles.{Role, free, book, root}
 use Rattle.pool.specs.declared.Space.{Space}
 use Rattle.pool.specs.declared.Book.{Book}
-use Rattle.pool.specs.declared.Listed.{Listed}
-use Rattle.pool.specs.declared.Listed.TheVariants.{Page, Bad}
 use Rattle.pool.specs.Layout.{slot_at, book_pages}
 use Rattle.pool.specs.Book.{word_of, book_of, slot_of, page_at, in_pool, adds_up_of, names_of, opened_of, usable_of, named_of, listed_of}
 use Rattle.pool.specs.Booked.{Booked, Owned}
 use Rattle.pool.proofs.Counting.{InPool, pool_in, in_pool_lem, is_sound, slot_in}
 use Rattle.pool.proofs.Words.{word_page, slot_word}
-use Rattle.pool.specs.declared.Fit.TheVariants as fit
-use Rattle.pool.specs.declared.Opened.TheVariants as opened
 use Rattle.pool.proofs.Opening.{Fitting, Names, names, opens}
 
 -- a page for tables
@@ -22,15 +18,15 @@ pub record Usable (sp : Space) (p : ℕ) : Type 0 where
   pub in_the_pool : InPool sp p
   pub no_root : p ≢ sp.root
 
-page_yes : (t : Bool) (x : Listed) (p : ℕ) → cond t x Bad ≡ Page p → (t ≡ true) × (x ≡ Page p)
+page_yes : (t : Bool) (x : Option ℕ) (p : ℕ) → cond t x None ≡ Some p → (t ≡ true) × (x ≡ Some p)
 page_yes true x p e = (refl, e)
 page_yes false x p e = let z : ◌≡◌ {A = ℕ} 0 1 = cc in absurd (omega arith)
 
-same_page : (p q : ℕ) → Page p ≡ Page q → p ≡ q
+same_page : (p q : ℕ) → Some p ≡ Some q → p ≡ q
 same_page p q e = cc
 
 -- FOR ANY BYTES
-pub listed_usable : (h : ℕ → Bool) (m : ℕ → ℕ) (sp : Space) (b : Book) (k p : ℕ) → listed_of h m sp b k ≡ Page p → Usable sp p
+pub listed_usable : (h : ℕ → Bool) (m : ℕ → ℕ) (sp : Space) (b : Book) (k p : ℕ) → listed_of h m sp b k ≡ Some p → Usable sp p
 unfolding listed_of named_of usable_of
 listed_usable h m sp b k p e =
     let w = slot_at (slot_of sp.pages b.head k) in
@@ -76,16 +72,16 @@ module _ {sp : Space} {m : ℕ → ℕ} {role : ℕ → Role} (b : Booked sp m r
   named : (h : ℕ → Bool) → Fitting h sp.first sp.pages → Names h m sp
   named h f = record { fits = f; inside = root_behind; marked = b.marked; sized = b.sized; rooted = b.rooted }
 
-  pub booked_names : (h : ℕ → Bool) → Fitting h sp.first sp.pages → names_of h m sp ≡ fit.Fits
+  pub booked_names : (h : ℕ → Bool) → Fitting h sp.first sp.pages → names_of h m sp ≡ Ok tt
   booked_names h f = names h m sp (named h f)
 
   -- and is opened, with its counts
-  pub booked_opens : (h : ℕ → Bool) → Fitting h sp.first sp.pages → opened_of h m sp ≡ opened.Book (book_of m sp)
+  pub booked_opens : (h : ℕ → Bool) → Fitting h sp.first sp.pages → opened_of h m sp ≡ Ok (book_of m sp)
   booked_opens h f = opens h m sp (named h f) b.sound
 
   -- OF A TRUE BOOK: the free page at that position
   pub listed_free : (h : ℕ → Bool) → ((p : ℕ) → sp.first ≤ p → p < sp.first + sp.pages → h p ≡ true) → (k : ℕ) → k < (book_of m sp).free
-      → listed_of h m sp (book_of m sp) k ≡ Page (page_at m sp k)
+      → listed_of h m sp (book_of m sp) k ≡ Some (page_at m sp k)
   unfolding listed_of named_of usable_of page_at
   listed_free h w k u =
       let j = slot_of sp.pages (book_of m sp).head k in

@@ -1,14 +1,12 @@
 -- CREATE ESTABLISHES THE INVARIANT, for any bytes; and there is a pool for which it does.
-use Rattle.std.proofs.Common.{◌≡◌, ℕ, ◌+◌, ◌-◌, ◌*◌, ◌<◌, ◌≤◌, true, List, [], ◌∷◌, length, replicate, refl, arith}
+use Rattle.std.proofs.Common.{◌≡◌, ℕ, ◌+◌, ◌-◌, ◌*◌, ◌<◌, ◌≤◌, true, List, [], ◌∷◌, length, replicate, refl, arith, Result, Ok, Err}
+use Rattle.pool.specs.declared.Reason.{Reason}
 use lib.ListN.{length-replicate}
 use Rattle.word.specs.Memory.{memory, holds}
 use Rattle.word.specs.Writes.{Write, after, carried, zeros, Every}
 use Rattle.word.proofs.Writes.{every_append, every_map, every_zeros, holds_carried, memory_carried}
 use Rattle.tables.specs.Roles as tables
 use Rattle.pool.specs.declared.Space.{Space}
-use Rattle.pool.specs.declared.Fit.{Fit}
-use Rattle.pool.specs.declared.Fit.TheVariants as fit
-use Rattle.pool.specs.declared.Created.TheVariants as created
 use Rattle.pool.specs.Layout.{signature_at, head_at, header_words, slot_at, count_at, book_pages}
 use Rattle.pool.specs.Book.{word_of, signature, room_of}
 use Rattle.pool.specs.Changes.{put}
@@ -49,7 +47,7 @@ pub record NewPool (s : List ℕ) (sp : Space) : Type 0 where
   pub counts : (k : ℕ) → k < sp.pages → memory s sp.origin (word_of sp (count_at sp.pages k)) ≡ 0
 
 module _ (s : List ℕ) (origin first pages : ℕ) where
-  pub fit_fresh : may_create (length s) (holds s origin) origin first pages ≡ fit.Fits → NewPool (carried s origin (lay_out (new_space origin first pages))) (new_space origin first pages)
+  pub fit_fresh : may_create (length s) (holds s origin) origin first pages ≡ Ok tt → NewPool (carried s origin (lay_out (new_space origin first pages))) (new_space origin first pages)
   fit_fresh e = record {
     sound =
         rw (holds_carried s origin (lay_out sp), bytes)
@@ -79,17 +77,17 @@ module _ (s : List ℕ) (origin first pages : ℕ) where
       bytes = memory_carried s origin (lay_out sp) (every_map (λ p k. window p k.0 k.1) (lay_out sp) (laid_proper sp r n))
 
   -- WHAT CREATE HAS MADE, by its answer: the bytes that it leaves hold an empty root and a true book
-  pub create_makes : (p : ℕ) → created_of (length s) (holds s origin) origin first pages ≡ created.Root p
+  pub create_makes : (p : ℕ) → created_of (length s) (holds s origin) origin first pages ≡ Ok p
       → (p ≡ first + book_pages pages) × NewPool (carried s origin (create_writes (length s) (holds s origin) origin first pages)) (new_space origin first pages)
   unfolding created_of created_in create_writes create_in
   create_makes p e = go (may_create (length s) (holds s origin) origin first pages) refl e
     where
-      go : (r : Fit) → may_create (length s) (holds s origin) origin first pages ≡ r → created_in first pages r ≡ created.Root p
+      go : (r : Result (Unit {0}) Reason) → may_create (length s) (holds s origin) origin first pages ≡ r → created_in first pages r ≡ Ok p
           → (p ≡ first + book_pages pages) × NewPool (carried s origin (create_in (new_space origin first pages) r)) (new_space origin first pages)
-      go fit.Fits f e = (cc, fit_fresh f)
-      go (fit.Refused r) f e = let z : ◌≡◌ {A = ℕ} 0 1 = cc in absurd (omega arith)
+      go (Ok tt) f e = (cc, fit_fresh f)
+      go (Err r) f e = let z : ◌≡◌ {A = ℕ} 0 1 = cc in absurd (omega arith)
 
-fits_three : (s : List ℕ) → length s ≡ 12288 → may_create (length s) (holds s 0) 0 0 3 ≡ fit.Fits
+fits_three : (s : List ℕ) → length s ≡ 12288 → may_create (length s) (holds s 0) 0 0 3 ≡ Ok tt
 unfolding may_create room_of holds book_pages
 fits_three s e = rw e
 

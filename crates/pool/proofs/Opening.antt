@@ -1,18 +1,13 @@
 -- Reading a book: by what was read, and what an opened book shows.
-use Rattle.std.proofs.Common.{◌≡◌, ℕ, ◌+◌, ◌-◌, ◌/◌, ◌%◌, ◌^◌, ◌<◌, ◌≤◌, Bool, true, false, cond, ◌&&◌, eqb, leb, List, [], ◌∷◌, sym, refl, ap, ◌∙◌, subst, arith, eq-eqb, eqb-true, le-leb, leb-true}
+use Rattle.std.proofs.Common.{◌≡◌, ℕ, ◌+◌, ◌-◌, ◌/◌, ◌%◌, ◌^◌, ◌<◌, ◌≤◌, Bool, true, false, cond, ◌&&◌, eqb, leb, List, [], ◌∷◌, sym, refl, ap, ◌∙◌, subst, arith, eq-eqb, eqb-true, le-leb, leb-true, Option, Result, Some, None, Ok, Err, unwrap_or}
 use Rattle.word.specs.Memory.{memory, holds, read_of}
-use Rattle.word.specs.declared.Cell.{Cell}
-use Rattle.word.specs.declared.Cell.TheVariants as cell
 use Rattle.word.proofs.Memory.{read_word, read_outside, held}
 use Rattle.word.specs.Runs.{is_among, among_of, among_zeros}
 use Rattle.word.specs.Writes.{write, zeros}
 use Rattle.word.proofs.Runs.{Run, InRun, spans_run, spans_ends, run_holds, among_is, one_among, word_among, outside_among}
 use Rattle.word.proofs.Tests.{and_both}
 use Rattle.pool.specs.declared.Space.{Space}
-use Rattle.pool.specs.declared.Fit.{Fit}
-use Rattle.pool.specs.declared.Fit.TheVariants as fit
 use Rattle.pool.specs.declared.Reason.{Reason}
-use Rattle.pool.specs.declared.Listed.TheVariants.{Bad}
 use Rattle.pool.specs.Layout.{signature_at, pages_at, root_at, head_at, free_at, aside_at, tickets_at, book_pages}
 use Rattle.pool.specs.Book.{word_of, signature, book_of, room_of, in_pool, adds_up_of, AddsUp, headed_of, rooted_in, names_of, names_in, opened_of, opened_in, counts_of, named_of, usable_of}
 use Rattle.pool.specs.State.{word_in, word_now, book_now}
@@ -20,18 +15,16 @@ use Rattle.pool.specs.Stands.{stands_of, entry_writes, clear_writes}
 use Rattle.pool.specs.Create.{may_create, new_space, Roomy}
 use Rattle.pool.proofs.Far.{word_at_lem}
 use Rattle.pool.specs.declared.Book.{Book}
-use Rattle.pool.specs.declared.Opened.{Opened}
-use Rattle.pool.specs.declared.Opened.TheVariants as opened
 use Rattle.pool.proofs.Counting.{InPool, pool_in, in_pool_lem, adds_up_is, is_sound}
 
 module _ (s : List ℕ) (sp : Space) (k : ℕ) where
-  pub named_word : (w : ℕ) → read_of s sp.origin (sp.first + k / 512) (k % 512) ≡ cell.Word w → usable_of sp w ≡ named_of (holds s sp.origin) (memory s sp.origin) sp k
+  pub named_word : (w : ℕ) → read_of s sp.origin (sp.first + k / 512) (k % 512) ≡ Some w → usable_of sp w ≡ named_of (holds s sp.origin) (memory s sp.origin) sp k
   unfolding named_of
   named_word w e =
       let r = read_word s sp.origin (sp.first + k / 512) (k % 512) (omega arith) w e in
       rw r.0 (ap (usable_of sp) (sym r.1 ∙ ap (memory s sp.origin) (word_at_lem sp.first k)))
 
-  pub named_outside : read_of s sp.origin (sp.first + k / 512) (k % 512) ≡ cell.Outside → Bad ≡ named_of (holds s sp.origin) (memory s sp.origin) sp k
+  pub named_outside : read_of s sp.origin (sp.first + k / 512) (k % 512) ≡ None → None ≡ named_of (holds s sp.origin) (memory s sp.origin) sp k
   unfolding named_of
   named_outside e = rw (read_outside s sp.origin (sp.first + k / 512) (k % 512) (omega arith) e)
 
@@ -42,11 +35,11 @@ pub record Fitting (h : ℕ → Bool) (first pages : ℕ) : Type 0 where
   pub from : h first ≡ true
   pub upto : h (first + pages - 1) ≡ true
 
-fit_yes : (b : Bool) (x : Fit) (r : Reason) → cond b x (fit.Refused r) ≡ fit.Fits → (b ≡ true) × (x ≡ fit.Fits)
+fit_yes : (b : Bool) (x : Result (Unit {0}) Reason) (r : Reason) → cond b x (Err r) ≡ Ok tt → (b ≡ true) × (x ≡ Ok tt)
 fit_yes true x r e = (refl, e)
 fit_yes false x r e = let z : ◌≡◌ {A = ℕ} 0 1 = cc in absurd (omega arith)
 
-pub fitting : (h : ℕ → Bool) (first pages : ℕ) → room_of h first pages ≡ fit.Fits → Fitting h first pages
+pub fitting : (h : ℕ → Bool) (first pages : ℕ) → room_of h first pages ≡ Ok tt → Fitting h first pages
 unfolding room_of
 fitting h first pages e =
     let a = fit_yes (leb pages (2 ^ 32)) _ _ e in
@@ -59,7 +52,7 @@ pub fit_small : (s : List ℕ) (origin first pages : ℕ) → Fitting (holds s o
 fit_small s origin first pages f = omega (arith, (held s origin (first + pages - 1) f.upto).small, f.enough)
 
 -- a new pool has room
-pub may_fit : (len : ℕ) (h : ℕ → Bool) (origin first pages : ℕ) → may_create len h origin first pages ≡ fit.Fits → Fitting h first pages
+pub may_fit : (len : ℕ) (h : ℕ → Bool) (origin first pages : ℕ) → may_create len h origin first pages ≡ Ok tt → Fitting h first pages
 unfolding may_create
 may_fit len h origin first pages e =
     let a = fit_yes (eqb (origin % 4096) 0) _ _ e in
@@ -77,31 +70,42 @@ pub fit_inside : (s : List ℕ) (origin first pages : ℕ) → Fitting (holds s 
 fit_inside s origin first pages f = run_holds s origin first pages (fit_runs s origin first pages f)
 
 -- a word of the header, as the code reads it
-head_among : (s : List ℕ) (sp : Space) (i : ℕ) → i < 512 → room_of (holds s sp.origin) sp.first sp.pages ≡ fit.Fits
+head_among : (s : List ℕ) (sp : Space) (i : ℕ) → i < 512 → room_of (holds s sp.origin) sp.first sp.pages ≡ Ok tt
     → InRun s sp.origin sp.first sp.pages 0 sp.first i
 head_among s sp i u e =
     let f = fitting (holds s sp.origin) sp.first sp.pages e in
     record { run = fit_runs s sp.origin sp.first sp.pages f; small = u; behind = omega arith; before_end = omega (arith, f.enough) }
 
+-- word i of the header is w, in memory and for any bytes
+pub record Got (s : List ℕ) (sp : Space) (i w : ℕ) : Type 0 where
+  pub in_memory : room_of (holds s sp.origin) sp.first sp.pages ≡ Ok tt → w ≡ memory s sp.origin (word_of sp i)
+  pub for_any_bytes : w ≡ word_now s sp i
+
 module _ (s : List ℕ) (sp : Space) (i : ℕ) where
-  pub head_is : (w : ℕ) → among_of s sp.origin sp.first 0 sp.pages sp.first i ≡ cell.Word w → w ≡ memory s sp.origin (word_of sp i)
+  pub head_is : (w : ℕ) → among_of s sp.origin sp.first 0 sp.pages sp.first i ≡ Some w → w ≡ memory s sp.origin (word_of sp i)
   head_is w e = sym (word_among s sp.origin sp.first sp.pages 0 sp.first i w e).1
 
-  pub head_out : i < 512 → among_of s sp.origin sp.first 0 sp.pages sp.first i ≡ cell.Outside
-      → room_of (holds s sp.origin) sp.first sp.pages ≡ fit.Fits → ⊥
+  pub head_out : i < 512 → among_of s sp.origin sp.first 0 sp.pages sp.first i ≡ None
+      → room_of (holds s sp.origin) sp.first sp.pages ≡ Ok tt → ⊥
   head_out u e f = outside_among s sp.origin sp.first sp.pages 0 sp.first i e (head_among s sp i u f)
 
+  -- what is read, or 0
+  pub get_is : i < 512 → (c : Option ℕ) (w : ℕ) → c ≡ among_of s sp.origin sp.first 0 sp.pages sp.first i → w ≡ unwrap_or c 0 → Got s sp i w
+  unfolding word_now word_in
+  get_is u (Some w) x e f = rw f (record { in_memory = λ g. head_is w (sym e); for_any_bytes = rw (sym e) })
+  get_is u None x e f = record { in_memory = λ g. absurd (head_out u (sym e) g); for_any_bytes = rw (f, sym e) }
+
 -- THE COUNTS AS THEY STAND are the book's, where the pool lies in the window.
-pub now_is : (s : List ℕ) (sp : Space) → room_of (holds s sp.origin) sp.first sp.pages ≡ fit.Fits → book_now s sp ≡ book_of (memory s sp.origin) sp
+pub now_is : (s : List ℕ) (sp : Space) → room_of (holds s sp.origin) sp.first sp.pages ≡ Ok tt → book_now s sp ≡ book_of (memory s sp.origin) sp
 unfolding book_now word_now word_in head_at free_at aside_at tickets_at
 now_is s sp f = rw (word 6 (omega arith), word 4 (omega arith), word 5 (omega arith), word 3 (omega arith))
   where
     word : (i : ℕ) → i < 512 → word_in (among_of s sp.origin sp.first 0 sp.pages sp.first i) ≡ memory s sp.origin (word_of sp i)
     word i u = go (among_of s sp.origin sp.first 0 sp.pages sp.first i) refl
       where
-        go : (x : Cell) → among_of s sp.origin sp.first 0 sp.pages sp.first i ≡ x → word_in x ≡ memory s sp.origin (word_of sp i)
-        go (cell.Word w) e = head_is s sp i w e
-        go cell.Outside e = absurd (head_out s sp i u e f)
+        go : (x : Option ℕ) → among_of s sp.origin sp.first 0 sp.pages sp.first i ≡ x → word_in x ≡ memory s sp.origin (word_of sp i)
+        go (Some w) e = head_is s sp i w e
+        go None e = absurd (head_out s sp i u e f)
 
 -- A BOOK THAT NAMES A SPACE, for any bytes
 pub record Names (h : ℕ → Bool) (m : ℕ → ℕ) (sp : Space) : Type 0 where
@@ -111,23 +115,23 @@ pub record Names (h : ℕ → Bool) (m : ℕ → ℕ) (sp : Space) : Type 0 wher
   pub sized : m (word_of sp pages_at) ≡ sp.pages
   pub rooted : m (word_of sp root_at) ≡ sp.root
 
-room_yes : (h : ℕ → Bool) (m : ℕ → ℕ) (sp : Space) (r : Fit) → names_in m sp r ≡ fit.Fits → r ≡ fit.Fits
+room_yes : (h : ℕ → Bool) (m : ℕ → ℕ) (sp : Space) (r : Result (Unit {0}) Reason) → names_in m sp r ≡ Ok tt → r ≡ Ok tt
 unfolding names_in
-room_yes h m sp fit.Fits e = refl
-room_yes h m sp (fit.Refused r) e = let z : ◌≡◌ {A = ℕ} 0 1 = cc in absurd (omega arith)
+room_yes h m sp (Ok tt) e = refl
+room_yes h m sp (Err r) e = let z : ◌≡◌ {A = ℕ} 0 1 = cc in absurd (omega arith)
 
-root_yes : (sp : Space) (r : Fit) → rooted_in sp r ≡ fit.Fits → (r ≡ fit.Fits) × (in_pool sp sp.root ≡ true)
+root_yes : (sp : Space) (r : Result (Unit {0}) Reason) → rooted_in sp r ≡ Ok tt → (r ≡ Ok tt) × (in_pool sp sp.root ≡ true)
 unfolding rooted_in
-root_yes sp fit.Fits e = (refl, (fit_yes (in_pool sp sp.root) _ _ e).0)
-root_yes sp (fit.Refused r) e = let z : ◌≡◌ {A = ℕ} 0 1 = cc in absurd (omega arith)
+root_yes sp (Ok tt) e = (refl, (fit_yes (in_pool sp sp.root) _ _ e).0)
+root_yes sp (Err r) e = let z : ◌≡◌ {A = ℕ} 0 1 = cc in absurd (omega arith)
 
 module _ (h : ℕ → Bool) (m : ℕ → ℕ) (sp : Space) where
   -- there is room for it
-  pub names_room : names_of h m sp ≡ fit.Fits → room_of h sp.first sp.pages ≡ fit.Fits
+  pub names_room : names_of h m sp ≡ Ok tt → room_of h sp.first sp.pages ≡ Ok tt
   unfolding names_of
   names_room e = room_yes h m sp (room_of h sp.first sp.pages) e
 
-  pub names_shows : names_of h m sp ≡ fit.Fits → Names h m sp
+  pub names_shows : names_of h m sp ≡ Ok tt → Names h m sp
   unfolding names_of names_in headed_of
   names_shows e =
       let f = names_room e in
@@ -144,18 +148,18 @@ module _ (h : ℕ → Bool) (m : ℕ → ℕ) (sp : Space) where
       }
 
   -- and so it names it
-  pub names : Names h m sp → names_of h m sp ≡ fit.Fits
+  pub names : Names h m sp → names_of h m sp ≡ Ok tt
   unfolding names_of names_in headed_of rooted_in room_of
   names k =
       simp (le-leb _ _ k.fits.small, le-leb _ _ k.fits.enough, k.fits.from, k.fits.upto, eq-eqb _ _ k.marked, eq-eqb _ _ k.sized, eq-eqb _ _ k.rooted, in_pool_lem sp sp.root k.inside)
 
   -- the space makes sense
-  pub names_stands : names_of h m sp ≡ fit.Fits → stands_of h sp ≡ fit.Fits
+  pub names_stands : names_of h m sp ≡ Ok tt → stands_of h sp ≡ Ok tt
   unfolding stands_of rooted_in
   names_stands e = rw (names_room e, in_pool_lem sp sp.root (names_shows e).inside)
 
 -- A SPACE THAT MAKES SENSE lies in the window
-module _ (s : List ℕ) (sp : Space) (e : stands_of (holds s sp.origin) sp ≡ fit.Fits) where
+module _ (s : List ℕ) (sp : Space) (e : stands_of (holds s sp.origin) sp ≡ Ok tt) where
   pub stands_fit : Fitting (holds s sp.origin) sp.first sp.pages
   unfolding stands_of
   stands_fit = fitting (holds s sp.origin) sp.first sp.pages (root_yes sp (room_of (holds s sp.origin) sp.first sp.pages) e).0
@@ -182,20 +186,20 @@ pub record Open (h : ℕ → Bool) (m : ℕ → ℕ) (sp : Space) (b : Book) : T
   pub sound : AddsUp sp.pages b
   pub read : book_of m sp ≡ b
 
-open_yes : (t : Bool) (x : Opened) (r : Reason) (b : Book) → cond t x (opened.Refused r) ≡ opened.Book b → (t ≡ true) × (x ≡ opened.Book b)
+open_yes : (t : Bool) (x : Result Book Reason) (r : Reason) (b : Book) → cond t x (Err r) ≡ Ok b → (t ≡ true) × (x ≡ Ok b)
 open_yes true x r b e = (refl, e)
 open_yes false x r b e = let z : ◌≡◌ {A = ℕ} 0 1 = cc in absurd (omega arith)
 
-same_book : (b n : Book) → opened.Book b ≡ opened.Book n → b ≡ n
+same_book : (b n : Book) → ◌≡◌ {A = Result Book Reason} (Ok b) (Ok n) → b ≡ n
 same_book b n e = cc
 
-pub open_shows : (h : ℕ → Bool) (m : ℕ → ℕ) (sp : Space) (b : Book) → opened_of h m sp ≡ opened.Book b → Open h m sp b
+pub open_shows : (h : ℕ → Bool) (m : ℕ → ℕ) (sp : Space) (b : Book) → opened_of h m sp ≡ Ok b → Open h m sp b
 unfolding opened_of opened_in counts_of
 open_shows h m sp b e = go (names_of h m sp) refl e
   where
-    go : (r : Fit) → names_of h m sp ≡ r → opened_in m sp r ≡ opened.Book b → Open h m sp b
-    go (fit.Refused r) f e = let z : ◌≡◌ {A = ℕ} 0 1 = cc in absurd (omega arith)
-    go fit.Fits f e =
+    go : (r : Result (Unit {0}) Reason) → names_of h m sp ≡ r → opened_in m sp r ≡ Ok b → Open h m sp b
+    go (Err r) f e = let z : ◌≡◌ {A = ℕ} 0 1 = cc in absurd (omega arith)
+    go (Ok tt) f e =
         let k = open_yes (adds_up_of sp.pages (book_of m sp)) _ _ b e in
         let same = same_book (book_of m sp) b k.1 in
         record {
@@ -205,6 +209,6 @@ open_shows h m sp b e = go (names_of h m sp) refl e
         }
 
 -- and so it is opened
-pub opens : (h : ℕ → Bool) (m : ℕ → ℕ) (sp : Space) → Names h m sp → AddsUp sp.pages (book_of m sp) → opened_of h m sp ≡ opened.Book (book_of m sp)
+pub opens : (h : ℕ → Bool) (m : ℕ → ℕ) (sp : Space) → Names h m sp → AddsUp sp.pages (book_of m sp) → opened_of h m sp ≡ Ok (book_of m sp)
 unfolding opened_of opened_in counts_of
 opens h m sp k s = simp (names h m sp k, is_sound sp.pages (book_of m sp) s)

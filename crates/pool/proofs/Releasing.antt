@@ -1,5 +1,6 @@
 -- Releasing the oldest pages set aside keeps the book true, and releases exactly those whose number is below the ticket.
-use Rattle.std.proofs.Common.{◌≡◌, ℕ, ◌+◌, ◌-◌, ◌^◌, ◌<◌, ◌≤◌, Bool, true, false, cond, leb, ◌≢◌, ◌⊎◌, List, [], ◌∷◌, sym, refl, ap, ◌∙◌, inl, inr, arith, le-leb, leb-false, leb-true}
+use Rattle.std.proofs.Common.{◌≡◌, ℕ, ◌+◌, ◌-◌, ◌^◌, ◌<◌, ◌≤◌, Bool, true, false, cond, leb, ◌≢◌, ◌⊎◌, List, [], ◌∷◌, sym, refl, ap, ◌∙◌, inl, inr, arith, le-leb, leb-false, leb-true, Ok, Err}
+use Rattle.pool.specs.declared.NotDue.TheVariants as notdue
 use Rattle.word.specs.Writes.{after}
 use Rattle.tables.specs.Roles.{Role, free, aside, book}
 use Rattle.pool.specs.declared.Space.{Space}
@@ -7,7 +8,6 @@ use Rattle.pool.specs.declared.Book.{Book}
 use Rattle.pool.specs.Layout.{signature_at, pages_at, root_at, head_at, free_at, aside_at, tickets_at, header_words, slot_at}
 use Rattle.pool.specs.Book.{word_of, book_of, slot_of, page_at, AddsUp, due_of}
 use Rattle.pool.specs.Changes.{release_writes}
-use Rattle.pool.specs.declared.Due.TheVariants as due
 use Rattle.pool.specs.Booked.{Lists, Booked, released, Numbered}
 use Rattle.pool.proofs.Counting.{is_sound}
 use Rattle.tables.proofs.Unseen.{Shifted}
@@ -101,11 +101,11 @@ pub record Exactly (b : Book) (t k : ℕ) : Type 0 where
   pub below : (n : ℕ) → b.tickets ≤ n → n < t → n < b.tickets + k
   pub above : (n : ℕ) → t ≤ n → b.tickets ≤ n → b.tickets + k ≤ n
 
-pub due_exactly : (pages : ℕ) (b : Book) (t k : ℕ) → AddsUp pages b → due_of b t ≡ due.Pages k → Exactly b t k
+pub due_exactly : (pages : ℕ) (b : Book) (t k : ℕ) → AddsUp pages b → due_of b t ≡ Ok k → Exactly b t k
 unfolding due_of
 due_exactly pages b t k s e = first (leb t b.tickets) refl e
   where
-    third : (x : Bool) → leb t (2 ^ 62) ≡ x → b.tickets < t → t - b.tickets ≤ b.aside → cond x (due.Pages (t - b.tickets)) due.Spent ≡ due.Pages k → Exactly b t k
+    third : (x : Bool) → leb t (2 ^ 62) ≡ x → b.tickets < t → t - b.tickets ≤ b.aside → cond x (Ok (t - b.tickets)) (Err notdue.Spent) ≡ Ok k → Exactly b t k
     third true q u v e =
         let w = leb-true t (2 ^ 62) q in
         let z : t - b.tickets ≡ k = cc in
@@ -113,12 +113,12 @@ due_exactly pages b t k s e = first (leb t b.tickets) refl e
     third false q u v e = let z : ◌≡◌ {A = ℕ} 0 1 = cc in absurd (omega arith)
 
     second : (x : Bool) → leb (t - b.tickets) b.aside ≡ x → b.tickets < t
-        → cond x (cond (leb t (2 ^ 62)) (due.Pages (t - b.tickets)) due.Spent) due.Unknown ≡ due.Pages k → Exactly b t k
+        → cond x (cond (leb t (2 ^ 62)) (Ok (t - b.tickets)) (Err notdue.Spent)) (Err notdue.Unknown) ≡ Ok k → Exactly b t k
     second true q u e = third (leb t (2 ^ 62)) refl u (leb-true (t - b.tickets) b.aside q) e
     second false q u e = let z : ◌≡◌ {A = ℕ} 0 1 = cc in absurd (omega arith)
 
     first : (x : Bool) → leb t b.tickets ≡ x
-        → cond x (due.Pages 0) (cond (leb (t - b.tickets) b.aside) (cond (leb t (2 ^ 62)) (due.Pages (t - b.tickets)) due.Spent) due.Unknown) ≡ due.Pages k → Exactly b t k
+        → cond x (Ok 0) (cond (leb (t - b.tickets) b.aside) (cond (leb t (2 ^ 62)) (Ok (t - b.tickets)) (Err notdue.Spent)) (Err notdue.Unknown)) ≡ Ok k → Exactly b t k
     first true q e =
         let w = leb-true t b.tickets q in
         let z : 0 ≡ k = cc in
@@ -142,7 +142,7 @@ module _ {sp : Space} {m : ℕ → ℕ} {role : ℕ → Role} (b : Booked sp m r
     pub stays : (p n : ℕ) → Numbered m sp p n → t ≤ n → released m sp k role p ≡ aside
     pub keeps : (p n : ℕ) → Numbered m sp p n → t ≤ n → Numbered (after m (release_writes sp (book_of m sp) k)) sp p n
 
-  pub told : (t k : ℕ) → due_of (book_of m sp) t ≡ due.Pages k → Releases t k
+  pub told : (t k : ℕ) → due_of (book_of m sp) t ≡ Ok k → Releases t k
   told t k e = record {
     booked = release_booked b k x.enough x.early;
     frees = λ p n h u. release_frees b k x.enough p n h (x.below n (low p n h) u);

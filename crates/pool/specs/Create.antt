@@ -1,23 +1,20 @@
 -- What making a pool answers and writes.
-use Rattle.std.specs.Prelude.{ℕ, zero, suc, ◌+◌, ◌-◌, ◌*◌, ◌%◌, ◌^◌, ◌<◌, ◌≤◌, Bool, cond, List, [], ◌∷◌, ◌++◌, length, take, ◌==◌}
+use Rattle.std.specs.Prelude.{ℕ, zero, suc, ◌+◌, ◌-◌, ◌*◌, ◌%◌, ◌^◌, ◌<◌, ◌≤◌, Bool, cond, List, [], ◌∷◌, ◌++◌, length, take, ◌==◌, Result, Ok, Err}
+use Rattle.pool.specs.declared.Reason.{Reason}
 use Rattle.word.specs.Memory.{holds}
 use Rattle.word.specs.Writes.{Write, write, zeros, carried}
 use Rattle.pool.specs.declared.Space.{Space}
-use Rattle.pool.specs.declared.Fit.{Fit}
-use Rattle.pool.specs.declared.Fit.TheVariants as fit
 use Rattle.pool.specs.declared.Reason.TheVariants.{OriginUnaligned, LengthUnaligned}
-use Rattle.pool.specs.declared.Created.{Created}
-use Rattle.pool.specs.declared.Created.TheVariants as created
 use Rattle.pool.specs.Layout.{signature_at, pages_at, root_at, tickets_at, free_at, aside_at, header_words, slot_at, book_pages}
 use Rattle.pool.specs.Book.{signature, room_of}
 use Rattle.pool.specs.Changes.{put}
 
 -- the window's ends are page boundaries, and the pool fits
-unfoldable pub may_create : ℕ → (ℕ → Bool) → ℕ → ℕ → ℕ → Fit
+unfoldable pub may_create : ℕ → (ℕ → Bool) → ℕ → ℕ → ℕ → Result (Unit {0}) Reason
 may_create len h origin first pages =
     cond (origin % 4096 == 0)
-    (cond (len % 4096 == 0) (room_of h first pages) (fit.Refused LengthUnaligned))
-    (fit.Refused OriginUnaligned)
+    (cond (len % 4096 == 0) (room_of h first pages) (Err LengthUnaligned))
+    (Err OriginUnaligned)
 
 -- a new pool's root is the page behind its book
 abbrev pub new_space : ℕ → ℕ → ℕ → Space
@@ -68,17 +65,17 @@ pub record Roomy (sp : Space) : Type 0 where
   pub enough : book_pages sp.pages + 2 ≤ sp.pages
   pub low : sp.root < 2 ^ 41
 
-unfoldable pub created_in : ℕ → ℕ → Fit → Created
-created_in first pages fit.Fits = created.Root (first + book_pages pages)
-created_in first pages (fit.Refused r) = created.Refused r
+unfoldable pub created_in : ℕ → ℕ → Result (Unit {0}) Reason → Result ℕ Reason
+created_in first pages (Ok tt) = Ok (first + book_pages pages)
+created_in first pages (Err r) = Err r
 
 -- WHAT MAKING A POOL ANSWERS
-unfoldable pub created_of : ℕ → (ℕ → Bool) → ℕ → ℕ → ℕ → Created
+unfoldable pub created_of : ℕ → (ℕ → Bool) → ℕ → ℕ → ℕ → Result ℕ Reason
 created_of len h origin first pages = created_in first pages (may_create len h origin first pages)
 
-unfoldable pub create_in : Space → Fit → List Write
-create_in sp fit.Fits = lay_out sp
-create_in sp (fit.Refused r) = []
+unfoldable pub create_in : Space → Result (Unit {0}) Reason → List Write
+create_in sp (Ok tt) = lay_out sp
+create_in sp (Err r) = []
 
 -- WHAT IT WRITES
 unfoldable pub create_writes : ℕ → (ℕ → Bool) → ℕ → ℕ → ℕ → List Write

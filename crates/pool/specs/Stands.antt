@@ -1,23 +1,21 @@
 -- A space that makes sense, before any book is read; and a book with room for pages to be set aside.
-use Rattle.std.specs.Prelude.{ℕ, ◌+◌, ◌^◌, ◌<◌, ◌≤◌, Bool, cond, ◌&&◌, List, [], nat_le}
+use Rattle.std.specs.Prelude.{ℕ, ◌+◌, ◌^◌, ◌<◌, ◌≤◌, Bool, cond, ◌&&◌, List, [], nat_le, Option, Result, None}
+use Rattle.pool.specs.declared.Reason.{Reason}
 use Rattle.word.specs.Memory.{page_count}
 use Rattle.word.specs.Runs.{among_of, among_writes, among_zeros}
 use Rattle.word.specs.Writes.{Write}
-use Rattle.word.specs.declared.Cell.{Cell}
-use Rattle.word.specs.declared.Cell.TheVariants.{Outside}
 use Rattle.pool.specs.declared.Space.{Space}
 use Rattle.pool.specs.declared.Book.{Book}
-use Rattle.pool.specs.declared.Fit.{Fit}
 use Rattle.pool.specs.Layout.{book_pages}
 use Rattle.pool.specs.Book.{room_of, rooted_in, adds_up_of}
 
 -- the pool lies in the window with its book, and the root behind that
-unfoldable pub stands_of : (ℕ → Bool) → Space → Fit
+unfoldable pub stands_of : (ℕ → Bool) → Space → Result (Unit {0}) Reason
 stands_of h sp = rooted_in sp (room_of h sp.first sp.pages)
 
 -- what reading entry i of page p answers, where the pool lies in the window and p is a page of it, and not the book's
-unfoldable pub read_entry_of : List ℕ → Space → ℕ → ℕ → Cell
-read_entry_of s sp p i = cond (nat_le sp.pages (2 ^ 32)) (among_of s sp.origin sp.first (book_pages sp.pages) sp.pages p i) Outside
+unfoldable pub read_entry_of : List ℕ → Space → ℕ → ℕ → Option ℕ
+read_entry_of s sp p i = cond (nat_le sp.pages (2 ^ 32)) (among_of s sp.origin sp.first (book_pages sp.pages) sp.pages p i) None
 
 -- setting that entry to w is one write; where there is none, no write
 unfoldable pub entry_writes : List ℕ → Space → ℕ → ℕ → ℕ → List Write

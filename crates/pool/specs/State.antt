@@ -1,21 +1,16 @@
 -- The book's counts as they stand, and what asking for the state of a pool answers.
-use Rattle.std.specs.Prelude.{ℕ, ◌-◌, Bool, List}
+use Rattle.std.specs.Prelude.{ℕ, ◌-◌, Bool, List, Option, Result, Some, None, Ok, Err}
+use Rattle.pool.specs.declared.Reason.{Reason}
 use Rattle.word.specs.Runs.{among_of}
-use Rattle.word.specs.declared.Cell.{Cell}
-use Rattle.word.specs.declared.Cell.TheVariants as cell
 use Rattle.pool.specs.declared.Space.{Space}
 use Rattle.pool.specs.declared.Book.{Book}
-use Rattle.pool.specs.declared.Opened.{Opened}
-use Rattle.pool.specs.declared.Opened.TheVariants as opened
 use Rattle.pool.specs.declared.moment.Counts.{Counts}
-use Rattle.pool.specs.declared.moment.Stated.{Stated}
-use Rattle.pool.specs.declared.moment.Stated.TheVariants as stated
 use Rattle.pool.specs.Layout.{head_at, free_at, aside_at, tickets_at, book_pages}
 use Rattle.pool.specs.Book.{opened_of, ticket_in}
 
-unfoldable pub word_in : Cell → ℕ
-word_in (cell.Word w) = w
-word_in cell.Outside = 0
+unfoldable pub word_in : Option ℕ → ℕ
+word_in (Some w) = w
+word_in None = 0
 
 -- word i of the book's first page; 0 where there is none in the window
 unfoldable pub word_now : List ℕ → Space → ℕ → ℕ
@@ -40,10 +35,10 @@ counted_of sp b = record {
   ticket = ticket_in b;
 }
 
-unfoldable pub stated_of : Space → Opened → Stated
-stated_of sp (opened.Book b) = stated.Counts (counted_of sp b)
-stated_of sp (opened.Refused r) = stated.Refused r
+unfoldable pub stated_of : Space → Result Book Reason → Result Counts Reason
+stated_of sp (Ok b) = Ok (counted_of sp b)
+stated_of sp (Err r) = Err r
 
 -- WHAT STATE ANSWERS
-unfoldable pub state_of : (ℕ → Bool) → (ℕ → ℕ) → Space → Stated
+unfoldable pub state_of : (ℕ → Bool) → (ℕ → ℕ) → Space → Result Counts Reason
 state_of h m sp = stated_of sp (opened_of h m sp)

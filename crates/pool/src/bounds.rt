@@ -7,7 +7,7 @@ ghost use Rattle.pool.specs.Stands as stand;
 
 use crate::layout::HEADER;
 use crate::{Space, book_pages};
-use word::Cell;
+use word::Run;
 
 // How many pages the book of a pool has, where the pool's pages can be counted.
 pub fn book_of(pages: u64) -> u64
@@ -25,7 +25,7 @@ pub fn book_by_half(pages: u64) -> u64
     (HEADER / 2 + pages + 255) / 256
 }
 
-// By one comparison, where the pool's numbers are those of one in a window.
+// By one comparison, where the pool's numbers are those of one in a window: what `in_pool` tests first the compiler has seen before.
 fn in_pool_by_one(space: Space, p: u64) -> bool
     requires { stand.Counted space }
     ensures { result ≡ the.in_pool space p }
@@ -72,22 +72,27 @@ pub fn in_pool(space: Space, p: u64) -> bool
     in_pool_by_one(space, p)
 }
 
-// Entry i of page p, where the pool lies in the window and p is a page of it, and not the book's.
-pub fn entry(mem: &[u8], space: Space, p: u64, i: u64) -> Cell
+// The pool's pages, without those of its book.
+fn behind_book(space: Space) -> Run
+    requires { space.pages ≤ 2 ^ 32 }
+    ensures { result ≡ record { origin = space.origin; first = space.first; kept = book_pages space.pages; pages = space.pages } }
+{
+    Run {
+        origin: space.origin,
+        first: space.first,
+        kept: book_of(space.pages),
+        pages: space.pages,
+    }
+}
+
+// Entry i of page p, where the pool lies in the window and p is a page of it, and not the book's; else none.
+pub fn entry(mem: &[u8], space: Space, p: u64, i: u64) -> Option<u64>
     ensures { result ≡ stand.read_entry_of mem.now space p i }
 {
     if 4294967296 < space.pages {
-        return Cell::Outside;
+        return None;
     }
-    word::read_among(
-        mem,
-        space.origin,
-        space.first,
-        book_of(space.pages),
-        space.pages,
-        p,
-        i,
-    )
+    behind_book(space).read(mem, p, i)
 }
 
 // Sets entry i of page p, where the pool lies in the window and p is a page of it, and not the book's: one write of the budget; else no write.
@@ -97,17 +102,7 @@ pub fn set_entry(mem: &mut [u8], left: &mut u64, sp: Space, p: u64, i: u64, w: u
     if 4294967296 < sp.pages {
         return;
     }
-    word::write_among(
-        mem,
-        left,
-        sp.origin,
-        sp.first,
-        book_of(sp.pages),
-        sp.pages,
-        p,
-        i,
-        w,
-    );
+    behind_book(sp).write(mem, left, p, i, w)
 }
 
 // Clears page p, where the pool lies in the window and p is a page of it, and not the book's; else no write.
@@ -117,13 +112,5 @@ pub fn clear_page(mem: &mut [u8], left: &mut u64, sp: Space, p: u64)
     if 4294967296 < sp.pages {
         return;
     }
-    word::clear_among(
-        mem,
-        left,
-        sp.origin,
-        sp.first,
-        book_of(sp.pages),
-        sp.pages,
-        p,
-    );
+    behind_book(sp).clear(mem, left, p)
 }

@@ -5,7 +5,7 @@ ghost use Rattle.pool.specs.Changes as to;
 ghost use Rattle.pool.specs.Stands as stand;
 
 use crate::layout::{ASIDE_AT, FREE_AT, HEAD_AT, HEADER, TICKETS_AT};
-use crate::{Book, Space, adds_up, book_pages, slot};
+use crate::{Book, Space, adds_up, book_pages, run_of, slot};
 
 // Sets word k of the book: one write of the budget. A page from 2^40 on lies in no window, so any such page will do.
 pub fn put(mem: &mut [u8], left: &mut u64, space: Space, k: u64, w: u64)
@@ -15,16 +15,7 @@ pub fn put(mem: &mut [u8], left: &mut u64, space: Space, k: u64, w: u64)
         word::write(mem, left, space.origin, word::PAGE_COUNT, k % 512, w);
         return;
     }
-    word::write_by_run(
-        mem,
-        left,
-        space.origin,
-        space.first,
-        space.pages,
-        space.first + k / 512,
-        k % 512,
-        w,
-    )
+    run_of(space).write_any(mem, left, space.first + k / 512, k % 512, w)
 }
 
 // The k oldest free pages were taken.

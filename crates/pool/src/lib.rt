@@ -8,10 +8,11 @@ ghost use Rattle.word.specs.Memory.{memory, holds};
 ghost use Rattle.pool.specs.Book as the;
 ghost use Rattle.pool.specs.Layout.{book_pages};
 
-use word::Cell;
+use word::Run;
 
 mod bounds;
 mod changes;
+mod display;
 mod header;
 mod layout;
 mod making;
@@ -23,7 +24,7 @@ pub use changes::{release, set_aside, takes, took};
 pub use header::{book_now, names, open};
 pub use layout::{FREE_AT, HEADER, TICKETS_AT};
 pub use making::create;
-pub use moment::{Counts, Stated, state};
+pub use moment::{Counts, state};
 
 // "the-book" in ASCII.
 const SIGNATURE: u64 = 7741528751932270708;
@@ -50,7 +51,8 @@ pub struct Book {
     pub tickets: u64,
 }
 
-#[derive(Clone, Copy)]
+// Why a window, a pool, a root or a book is refused.
+#[derive(Clone, Copy, Debug, PartialEq, Eq)]
 pub enum Reason {
     OriginUnaligned,
     LengthUnaligned,
@@ -67,36 +69,9 @@ pub enum Reason {
     BadBook,
 }
 
-#[derive(Clone, Copy)]
-pub enum Fit {
-    Fits,
-    Refused(Reason),
-}
-
-#[derive(Clone, Copy)]
-pub enum Opened {
-    Book(Book),
-    Refused(Reason),
-}
-
-#[derive(Clone, Copy)]
-pub enum Listed {
-    Page(u64),
-    // a book lists what is no page for tables
-    Bad,
-}
-
-#[derive(Clone, Copy)]
-pub enum Created {
-    // the page of the root table
-    Root(u64),
-    Refused(Reason),
-}
-
-// What a report releases.
-#[derive(Clone, Copy)]
-pub enum Due {
-    Pages(u64),
+// Why a report releases nothing.
+#[derive(Clone, Copy, Debug, PartialEq, Eq)]
+pub enum NotDue {
     // a ticket above the present one
     Unknown,
     // no ticket is left
@@ -110,20 +85,38 @@ pub fn book_pages(pages: u64) -> u64
     pages / 256 + (HEADER + 2 * (pages % 256) + 511) / 512
 }
 
+// All pages of the pool.
+fn run_of(space: Space) -> Run
+    ensures { result ≡ record { origin = space.origin; first = space.first; kept = 0; pages = space.pages } }
+{
+    Run {
+        origin: space.origin,
+        first: space.first,
+        kept: 0,
+        pages: space.pages,
+    }
+}
+
 // Does a pool of that many pages have room for a book, a root and a page more, and lie in the window?
-fn room(mem: &[u8], origin: u64, first: u64, pages: u64) -> Fit
+fn room(mem: &[u8], origin: u64, first: u64, pages: u64) -> Result<(), Reason>
     ensures { result ≡ the.room_of (holds mem.now origin) first pages }
 {
     if MOST < pages {
-        return Fit::Refused(Reason::PoolLarge);
+        return Err(Reason::PoolLarge);
     }
     if pages < book_of(pages) + 2 {
-        return Fit::Refused(Reason::PoolSmall);
+        return Err(Reason::PoolSmall);
     }
-    if word::spans(mem, origin, first, pages) {
-        return Fit::Fits;
+    let run = Run {
+        origin,
+        first,
+        kept: 0,
+        pages,
+    };
+    if run.spans(mem) {
+        return Ok(());
     }
-    Fit::Refused(Reason::PoolOutside)
+    Err(Reason::PoolOutside)
 }
 
 // Can a pool of that many pages have a book with these counts?
@@ -163,51 +156,41 @@ fn slot(pages: u64, head: u64, k: u64) -> u64
     k - (pages - head)
 }
 
-// The page that word k of the book names.
-fn named(mem: &[u8], space: Space, k: u64) -> Listed
+// The page that word k of the book names; none where that is no page for tables.
+fn named(mem: &[u8], space: Space, k: u64) -> Option<u64>
     ensures { result ≡ the.named_of (holds mem.now space.origin) (memory mem.now space.origin) space k }
 {
     if word::PAGE_COUNT <= space.first {
-        return Listed::Bad;
+        return None;
     }
-    let c = word::read_by_run(
-        mem,
-        space.origin,
-        space.first,
-        space.pages,
-        space.first + k / 512,
-        k % 512,
-    );
-    match c {
-        Cell::Word(p) => usable(space, p),
-        Cell::Outside => Listed::Bad,
-    }
+    let p = run_of(space).read_any(mem, space.first + k / 512, k % 512)?;
+    usable(space, p)
 }
 
-// A page that can become a table.
-fn usable(space: Space, p: u64) -> Listed
+// The page, where it can become a table.
+fn usable(space: Space, p: u64) -> Option<u64>
     ensures { result ≡ the.usable_of space p }
 {
     if p == space.root {
-        return Listed::Bad;
+        return None;
     }
     if in_pool(space, p) {
-        return Listed::Page(p);
+        return Some(p);
     }
-    Listed::Bad
+    None
 }
 
 // The free page at position k, from the oldest on.
-pub fn free_page(mem: &[u8], space: Space, book: Book, k: u64) -> Listed
+pub fn free_page(mem: &[u8], space: Space, book: Book, k: u64) -> Option<u64>
     ensures { result ≡ the.listed_of (holds mem.now space.origin) (memory mem.now space.origin) space book k }
 {
     if book.free <= k {
-        return Listed::Bad;
+        return None;
     }
     if adds_up(space.pages, book) {
         return named(mem, space, HEADER + slot(space.pages, book.head, k));
     }
-    Listed::Bad
+    None
 }
 
 // The ticket of this moment: every page set aside so far has a smaller number, every later one has not.
@@ -226,18 +209,18 @@ pub fn ticket_after(book: Book, more: u64) -> u64
 
 // How many of the oldest pages set aside a report of this ticket releases. A count in its place would be wrong where two reports overlap:
 // the pages of the one would be counted for the other.
-pub fn due_by(book: Book, ticket: u64) -> Due
+pub fn due_by(book: Book, ticket: u64) -> Result<u64, NotDue>
     ensures { result ≡ the.due_of book ticket }
 {
     if ticket <= book.tickets {
-        return Due::Pages(0);
+        return Ok(0);
     }
     let k = ticket - book.tickets;
     if book.aside < k {
-        return Due::Unknown;
+        return Err(NotDue::Unknown);
     }
     if LAST < ticket {
-        return Due::Spent;
+        return Err(NotDue::Spent);
     }
-    Due::Pages(k)
+    Ok(k)
 }

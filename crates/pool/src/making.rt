@@ -6,30 +6,29 @@ ghost use Rattle.pool.specs.Create as made;
 
 use crate::changes::put;
 use crate::layout::{ASIDE_AT, FREE_AT, HEADER, PAGES_AT, ROOT_AT, SIGNATURE_AT, TICKETS_AT};
-use crate::{Created, Fit, Reason, SIGNATURE, Space, book_pages, room};
+use crate::{Reason, SIGNATURE, Space, book_pages, room};
 
 // May a pool be made there? The window's ends are page boundaries.
-fn may_create(mem: &[u8], origin: u64, first: u64, pages: u64) -> Fit
+fn may_create(mem: &[u8], origin: u64, first: u64, pages: u64) -> Result<(), Reason>
     ensures { result ≡ made.may_create (length mem.now) (holds mem.now origin) origin first pages }
 {
     if origin % 4096 != 0 {
-        return Fit::Refused(Reason::OriginUnaligned);
+        return Err(Reason::OriginUnaligned);
     }
     if mem.len() % 4096 != 0 {
-        return Fit::Refused(Reason::LengthUnaligned);
+        return Err(Reason::LengthUnaligned);
     }
     room(mem, origin, first, pages)
 }
 
-// Lists n pages from `from` on, in the first n slots.
+// Lists n pages from `from` on, in the first n slots. This loop and the two below stay three: over a closure for the word, each would need a
+// ghost function and a clause that ties the closure to it, which is more than the loop.
 fn fill(mem: &mut [u8], left: &mut u64, space: Space, from: u64, n: u64)
     requires { (from + n < 2 ^ 63) × (n < 2 ^ 63) }
     ensures { Wrote space.origin (made.fills space from n) left.old left.new mem.old mem.new }
 {
-    let mut j: u64 = 0;
-    while j < n {
+    for j in 0..n {
         put(mem, left, space, HEADER + j, from + j);
-        j += 1;
     }
 }
 
@@ -38,10 +37,8 @@ fn blank(mem: &mut [u8], left: &mut u64, space: Space, k: u64, n: u64)
     requires { k + n < 2 ^ 63 }
     ensures { Wrote space.origin (made.blanks space k n) left.old left.new mem.old mem.new }
 {
-    let mut j: u64 = 0;
-    while j < n {
+    for j in 0..n {
         put(mem, left, space, k + j, 0);
-        j += 1;
     }
 }
 
@@ -50,10 +47,8 @@ fn unmark(mem: &mut [u8], left: &mut u64, origin: u64, p: u64, n: u64)
     requires { p + n < 2 ^ 63 }
     ensures { Wrote origin (made.unmarks p n) left.old left.new mem.old mem.new }
 {
-    let mut j: u64 = 0;
-    while j < n {
+    for j in 0..n {
         word::write(mem, left, origin, p + j, SIGNATURE_AT, 0);
-        j += 1;
     }
 }
 
@@ -101,23 +96,24 @@ fn lay_out(mem: &mut [u8], left: &mut u64, space: Space)
 }
 
 // Makes a pool of these pages, with its book and an empty root, or refuses and changes nothing.
-pub fn create(mem: &mut [u8], left: &mut u64, origin: u64, first: u64, pages: u64) -> Created
+pub fn create(
+    mem: &mut [u8],
+    left: &mut u64,
+    origin: u64,
+    first: u64,
+    pages: u64,
+) -> Result<u64, Reason>
     ensures answer { result ≡ made.created_of (length mem.old) (holds mem.old origin) origin first pages }
     ensures order { Wrote origin (made.create_writes (length mem.old) (holds mem.old origin) origin first pages) left.old left.new mem.old mem.new }
 {
-    let fit = may_create(mem, origin, first, pages);
-    match fit {
-        Fit::Refused(r) => Created::Refused(r),
-        Fit::Fits => {
-            let root = first + book_pages(pages);
-            let space = Space {
-                origin: origin,
-                first: first,
-                pages: pages,
-                root: root,
-            };
-            lay_out(mem, left, space);
-            Created::Root(root)
-        }
-    }
+    may_create(mem, origin, first, pages)?;
+    let root = first + book_pages(pages);
+    let space = Space {
+        origin,
+        first,
+        pages,
+        root,
+    };
+    lay_out(mem, left, space);
+    Ok(root)
 }

@@ -4,7 +4,7 @@ ghost use Rattle.word.specs.Memory.{memory, holds};
 ghost use Rattle.pool.specs.Book as the;
 ghost use Rattle.pool.specs.State as say;
 
-use crate::{Book, Opened, Reason, Space, book_pages, open, ticket};
+use crate::{Book, Reason, Space, book_pages, open, ticket};
 
 // How many pages a pool has, how many of them are free, set aside, and tables beside the root; and the ticket of the moment.
 #[derive(Clone, Copy)]
@@ -14,12 +14,6 @@ pub struct Counts {
     pub aside: u64,
     pub tables: u64,
     pub ticket: u64,
-}
-
-#[derive(Clone, Copy)]
-pub enum Stated {
-    Counts(Counts),
-    Refused(Reason),
 }
 
 // What an opened book says of its pool.
@@ -37,12 +31,9 @@ fn counted(space: Space, b: Book) -> Counts
 }
 
 // Opens the book and answers its counts; writes nothing.
-pub fn state(mem: &[u8], space: Space) -> Stated
+pub fn state(mem: &[u8], space: Space) -> Result<Counts, Reason>
     ensures answer { result ≡ say.state_of (holds mem.now space.origin) (memory mem.now space.origin) space }
 {
-    let o = open(mem, space);
-    match o {
-        Opened::Refused(r) => Stated::Refused(r),
-        Opened::Book(b) => Stated::Counts(counted(space, b)),
-    }
+    let b = open(mem, space)?;
+    Ok(counted(space, b))
 }

@@ -6,6 +6,7 @@ use mathlib.Core.List.{List, [], ◌∷◌, ◌++◌}
 use mathlib.Core.Logic.{◌⊎◌, inl, inr}
 use mathlib.Core.Path.{◌≡◌, refl, sym, ap, ◌∙◌, subst}
 use native.Mathlib.Omega.{arith}
+use Rattle.std.proofs.Common.{Ok}
 use Rattle.word.specs.Writes as word
 use Rattle.walk.specs.Walk.{base_of}
 use Rattle.walk.specs.declared.Found.{Found}
@@ -30,7 +31,6 @@ use Rattle.plan.specs.declared.maps.Asked.{Asked}
 use Rattle.effect.specs.Whole.{Whole}
 use Rattle.effect.proofs.MapDone.{decided_done, mapped_inside}
 use Rattle.tablepath.specs.Answers.{map_said, map_answer, map_writes}
-use Rattle.tablepath.specs.declared.Mapped.TheVariants as mapped'
 use Rattle.tablepath.specs.Calls.{means, Call, Within, call_writes, Saw, Act, act_writes, wrote, Runs, UpTo, Reached}
 use Rattle.tablepath.specs.Nights.{Night, history, last_began, last_since, Some, uncovered, IsPage, untold_kept, Hit, Hits, Honest, Complete, Exact}
 use Rattle.tablepath.specs.Gone.{MapsTo, page_of}
@@ -48,7 +48,7 @@ use Rattle.tablepath.proofs.Onward.{night_whole, honest_before, complete_before,
 
 module _ (h : ℕ → Bool) (sp : Space) where
   -- before it nothing was there, and after it the page
-  map_turns : (m : ℕ → ℕ) (role : ℕ → Role) → Whole h sp m role → (q : Asked) (x : Placed) → map.decide_of h m sp q ≡ x → (k : ℕ) → map_said x ≡ mapped'.Done k
+  map_turns : (m : ℕ → ℕ) (role : ℕ → Role) → Whole h sp m role → (q : Asked) (x : Placed) → map.decide_of h m sp q ≡ x → (k : ℕ) → map_said x ≡ Ok k
       → (va : ℕ) → q.base ≤ va → va < q.base + q.size → (means h sp m va ≡ Nothing) × (means h sp (word.after m (map.did_of sp x)) va ≡ page_of q)
   unfolding map_said map.did_of
   map_turns m role w q (map.Refused r) e k f va u v = let z : ◌≡◌ {A = ℕ} 0 1 = cc in absurd (omega arith)

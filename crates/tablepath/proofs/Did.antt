@@ -1,11 +1,17 @@
 -- WHAT EACH CALL DOES TO THE MEANING of an address, at every moment of it: all is old or all is new, and the new is what the call did to the old.
 use Prim.Native.Nat.{ℕ, ◌+◌, ◌*◌, ◌/◌, ◌%◌, ◌<◌, ◌≤◌}
+use Rattle.pool.specs.declared.NotDue.TheVariants as notdue
 use mathlib.Core.Bool.{Bool}
 use mathlib.Core.List.{List, []}
 use mathlib.Core.Logic.{◌⊎◌, inl, inr}
 use mathlib.Core.Path.{◌≡◌, refl, sym, ap, ◌∙◌, subst, subst₂}
 use native.Mathlib.Decide.{ℕ_discrete}
 use native.Mathlib.Omega.{arith}
+use Rattle.std.proofs.Common.{Result, Ok, Err}
+use Rattle.plan.specs.declared.Reason.{Reason}
+use Rattle.pool.specs.declared.NotDue.{NotDue}
+use Rattle.plan.specs.declared.unmaps.Removal.{Removal}
+use Rattle.plan.specs.declared.protects.Change.{Change}
 use Rattle.word.specs.Writes.{Write}
 use Rattle.word.specs.Writes as word
 use Rattle.entry.specs.Entry.{size_of}
@@ -30,24 +36,17 @@ use Rattle.tables.proofs.Unseen.{alike_means}
 use Rattle.pool.specs.Book.{book_of, ticket_of, due_of}
 use Rattle.pool.specs.Booked.{setting_of}
 use Rattle.pool.specs.declared.Space.{Space}
-use Rattle.pool.specs.declared.Due.{Due}
-use Rattle.pool.specs.declared.Due.TheVariants as due
 use Rattle.plan.specs.Map as map
 use Rattle.plan.specs.Unmap as unmap
 use Rattle.plan.specs.Protect as protect
 use Rattle.plan.specs.declared.maps.Asked.{Asked}
 use Rattle.plan.specs.Map.{Placed}
-use Rattle.plan.specs.declared.unmaps.Removing.{Removing}
-use Rattle.plan.specs.declared.unmaps.Removing.TheVariants as removing
-use Rattle.plan.specs.declared.protects.Changing.{Changing}
-use Rattle.plan.specs.declared.protects.Changing.TheVariants as changing
 use Rattle.effect.specs.Whole.{Whole}
 use Rattle.effect.proofs.MapDone.{decided_done}
 use Rattle.effect.proofs.UnmapDone.{unmapped}
 use Rattle.effect.proofs.ProtectDone.{protected}
 use Rattle.effect.proofs.ToldDone as effect
 use Rattle.effect.proofs.Wholes.{book_opens}
-use Rattle.tablepath.specs.declared.Mapped.TheVariants as mapped'
 use Rattle.tablepath.specs.Answers.{map_answer, map_writes, unmap_writes, protect_writes, told_writes, told_did, due_did}
 use Rattle.tablepath.specs.Calls.{means, Call, Within, call_writes, Saw, Act, act_writes}
 use Rattle.tablepath.specs.Calls as calls
@@ -60,7 +59,7 @@ use Rattle.tablepath.proofs.Running.{act_served, seen_whole, saw_act}
 -- what a call that saw the memory s does to an address that meant the one, and means the other
 pub data Did (h : ℕ → Bool) (sp : Space) (s : ℕ → ℕ) (va : ℕ) : Call → Found → Found → Type 0 where
   same : {c : Call} {o o' : Found} → o' ≡ o → Did h sp s va c o o'
-  mapped : {q : Asked} {o o' : Found} (k : ℕ) → map_answer h s sp q ≡ mapped'.Done k → o ≡ Nothing → o' ≡ Page q.base q.size q.frame q.rights
+  mapped : {q : Asked} {o o' : Found} (k : ℕ) → map_answer h s sp q ≡ Ok k → o ≡ Nothing → o' ≡ Page q.base q.size q.frame q.rights
       → Did h sp s va (calls.map q) o o'
   gone : {base size frame : ℕ} {had : Rights} {o o' : Found} → Unmaps h sp (calls.unmap base) s va → o ≡ Page base size frame had → o' ≡ Nothing
       → Did h sp s va (calls.unmap base) o o'
@@ -117,10 +116,10 @@ module _ (h : ℕ → Bool) (sp : Space) where
         turned (calls.map q) q.base p.target (Page q.base q.size q.frame q.rights) d.role' (map.writes_of sp p) d.changed
         (λ vb n. mapped p.fresh.need (map_goes h m sp q p e) (nothing_mapped w.sound.built vb (omega arith) d.missing.comes d.missing.nothing n) refl)
 
-    unmap_stirs : (va : ℕ) (x : Removing) → unmap.decide_of h m sp va ≡ x → Stirs (calls.unmap va) m m (events_of (unmap.did_of sp va x))
+    unmap_stirs : (va : ℕ) (x : Result Removal Reason) → unmap.decide_of h m sp va ≡ x → Stirs (calls.unmap va) m m (events_of (unmap.did_of sp va x))
     unfolding unmap.did_of Unmaps
-    unmap_stirs va (removing.Refused y) e = stirs_none (calls.unmap va) m
-    unmap_stirs va (removing.Go r) e =
+    unmap_stirs va (Err y) e = stirs_none (calls.unmap va) m
+    unmap_stirs va (Ok r) e =
         let d = unmapped w va r e in
         turned (calls.unmap va) va r.page.way.level Nothing d.role' (unmap.writes_of sp va r) d.changed
         (λ vb n.
@@ -129,10 +128,10 @@ module _ (h : ℕ → Bool) (sp : Space) where
         gone (g.0, g.1, i.0, omega (arith, i.1, g.2))
         (near_page va r.page.way.level r.page.size r.page.frame d.had d.size_is d.aligned d.before vb n) refl)
 
-    protect_stirs : (va : ℕ) (g : Rights) (x : Changing) → protect.decide_of h m sp va g ≡ x → Stirs (calls.protect va g) m m (events_of (protect.did_of x))
+    protect_stirs : (va : ℕ) (g : Rights) (x : Result Change Reason) → protect.decide_of h m sp va g ≡ x → Stirs (calls.protect va g) m m (events_of (protect.did_of x))
     unfolding protect.did_of Protects
-    protect_stirs va g (changing.Refused y) e = stirs_none (calls.protect va g) m
-    protect_stirs va g (changing.Go c) e =
+    protect_stirs va g (Err y) e = stirs_none (calls.protect va g) m
+    protect_stirs va g (Ok c) e =
         let d = protected w va g c e in
         turned (calls.protect va g) va d.level (Page va c.size c.frame g) role (protect.writes_of c) d.changed
         (λ vb n.
@@ -141,11 +140,11 @@ module _ (h : ℕ → Bool) (sp : Space) where
         changed (y.0, y.1, i.0, omega (arith, i.1, y.2))
         (near_page va d.level c.size c.frame d.had d.size_is d.aligned d.before vb n) refl)
 
-    due_stirs : (t : ℕ) (x : Due) → due_of (book_of m sp) t ≡ x → Stirs (calls.told t) m m (events_of (due_did sp (book_of m sp) x))
+    due_stirs : (t : ℕ) (x : Result ℕ NotDue) → due_of (book_of m sp) t ≡ x → Stirs (calls.told t) m m (events_of (due_did sp (book_of m sp) x))
     unfolding due_did
-    due_stirs t due.Unknown e = stirs_none (calls.told t) m
-    due_stirs t due.Spent e = stirs_none (calls.told t) m
-    due_stirs t (due.Pages k) e =
+    due_stirs t (Err notdue.Unknown) e = stirs_none (calls.told t) m
+    due_stirs t (Err notdue.Spent) e = stirs_none (calls.told t) m
+    due_stirs t (Ok k) e =
         let d = effect.told w t k e in
         record {
           moments = all_map _ m _ _ (λ x q. as_means m _ x (inl q)) d.quiet;

@@ -1,10 +1,16 @@
 -- ENTRIES AS WE WRITE THEM: create makes them so; every call keeps them so, and so do the machine's marks, over any run. No call needs it.
 use Prim.Native.Nat.{ℕ, suc, ◌+◌, ◌<◌, ◌≤◌}
+use Rattle.pool.specs.declared.NotDue.TheVariants as notdue
 use mathlib.Core.Bool.{Bool, true, false, cond, ◌&&◌}
 use mathlib.Core.List.{List, [], ◌∷◌, ◌++◌, append-nil}
 use mathlib.Core.Logic.{inl, inr}
 use mathlib.Core.Path.{◌≡◌, refl, sym, ap, ◌∙◌, subst}
 use native.Mathlib.Omega.{arith}
+use Rattle.std.proofs.Common.{Result, Ok, Err}
+use Rattle.plan.specs.declared.Reason.{Reason}
+use Rattle.pool.specs.declared.NotDue.{NotDue}
+use Rattle.plan.specs.declared.unmaps.Removal.{Removal}
+use Rattle.plan.specs.declared.protects.Change.{Change}
 use lib.Dec.{leb, ltb, eqb}
 use lib.ListN.{length}
 use Rattle.word.specs.Memory.{at, memory, holds}
@@ -29,19 +35,12 @@ use Rattle.pool.specs.Layout.{book_pages}
 use Rattle.pool.specs.Book.{book_of, due_of}
 use Rattle.pool.specs.Booked.{new_role}
 use Rattle.pool.specs.Create.{created_of, create_writes, new_space}
-use Rattle.pool.specs.declared.Created.TheVariants as created
-use Rattle.pool.specs.declared.Due.{Due}
-use Rattle.pool.specs.declared.Due.TheVariants as due
 use Rattle.pool.specs.declared.Space.{Space}
 use Rattle.plan.specs.Map as map
 use Rattle.plan.specs.Unmap as unmap
 use Rattle.plan.specs.Protect as protect
 use Rattle.plan.specs.declared.maps.Asked.{Asked}
 use Rattle.plan.specs.Map.{Placed}
-use Rattle.plan.specs.declared.unmaps.Removing.{Removing}
-use Rattle.plan.specs.declared.unmaps.Removing.TheVariants as removing
-use Rattle.plan.specs.declared.protects.Changing.{Changing}
-use Rattle.plan.specs.declared.protects.Changing.TheVariants as changing
 use Rattle.effect.specs.Whole.{Whole}
 use Rattle.effect.proofs.Wholes.{book_opens}
 use Rattle.effect.proofs.MapDone.{decided_done, map_exact}
@@ -68,7 +67,7 @@ new_exact sp m q l i live u f g e = go (leb sp.first q && ltb q (sp.first + sp.p
     go true false true k = let three : l ≡ 3 = omega arith in absurd (root_no_page (m (at q i)) f g (subst (λ y. says y (m (at q i)) ≡ Page f g) three e))
 
 -- CREATE
-pub create_exact : (s : List ℕ) (origin first pages p : ℕ) → created_of (length s) (holds s origin) origin first pages ≡ created.Root p
+pub create_exact : (s : List ℕ) (origin first pages p : ℕ) → created_of (length s) (holds s origin) origin first pages ≡ Ok p
     → ExactBytes (carried s origin (create_writes (length s) (holds s origin) origin first pages)) (new_space origin first pages)
 create_exact s origin first pages p e = record {
   role = new_role (new_space origin first pages);
@@ -90,21 +89,21 @@ module _ (h : ℕ → Bool) (sp : Space) (m : ℕ → ℕ) (k : WholeExact h sp 
   map_keeps q (map.Refused r) e = none_keeps
   map_keeps q (map.Go p) e = record { role = (decided_done w q p e).role'; whole = (decided_done w q p e).whole; exact = map_exact w q k.exact p e }
 
-  unmap_keeps : (va : ℕ) (x : Removing) → unmap.decide_of h m sp va ≡ x → WholeExact h sp (word.after m (unmap.did_of sp va x))
+  unmap_keeps : (va : ℕ) (x : Result Removal Reason) → unmap.decide_of h m sp va ≡ x → WholeExact h sp (word.after m (unmap.did_of sp va x))
   unfolding unmap.did_of
-  unmap_keeps va (removing.Refused y) e = none_keeps
-  unmap_keeps va (removing.Go r) e = let d = unmapped w va r e in record { role = d.role'; whole = d.whole; exact = unmap_exact w k.exact va r e d }
+  unmap_keeps va (Err y) e = none_keeps
+  unmap_keeps va (Ok r) e = let d = unmapped w va r e in record { role = d.role'; whole = d.whole; exact = unmap_exact w k.exact va r e d }
 
-  protect_keeps : (va : ℕ) (g : Rights) (x : Changing) → protect.decide_of h m sp va g ≡ x → WholeExact h sp (word.after m (protect.did_of x))
+  protect_keeps : (va : ℕ) (g : Rights) (x : Result Change Reason) → protect.decide_of h m sp va g ≡ x → WholeExact h sp (word.after m (protect.did_of x))
   unfolding protect.did_of
-  protect_keeps va g (changing.Refused y) e = none_keeps
-  protect_keeps va g (changing.Go c) e = record { role = k.role; whole = (protected w va g c e).whole; exact = protect_exact w k.exact va g c e }
+  protect_keeps va g (Err y) e = none_keeps
+  protect_keeps va g (Ok c) e = record { role = k.role; whole = (protected w va g c e).whole; exact = protect_exact w k.exact va g c e }
 
-  due_keeps : (t : ℕ) (x : Due) → due_of (book_of m sp) t ≡ x → WholeExact h sp (word.after m (due_did sp (book_of m sp) x))
+  due_keeps : (t : ℕ) (x : Result ℕ NotDue) → due_of (book_of m sp) t ≡ x → WholeExact h sp (word.after m (due_did sp (book_of m sp) x))
   unfolding due_did
-  due_keeps t due.Unknown e = none_keeps
-  due_keeps t due.Spent e = none_keeps
-  due_keeps t (due.Pages j) e = record { role = _; whole = (effect.told w t j e).whole; exact = told_exact w k.exact t j e }
+  due_keeps t (Err notdue.Unknown) e = none_keeps
+  due_keeps t (Err notdue.Spent) e = none_keeps
+  due_keeps t (Ok j) e = record { role = _; whole = (effect.told w t j e).whole; exact = told_exact w k.exact t j e }
 
   call_keeps : (c : Call) → WholeExact h sp (word.after m (call_writes h m sp c))
   unfolding call_writes map_writes unmap_writes protect_writes told_writes told_did

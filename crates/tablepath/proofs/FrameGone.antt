@@ -7,6 +7,9 @@ use mathlib.Core.Logic.{◌⊎◌, inl, inr}
 use mathlib.Core.Path.{◌≡◌, refl, sym, ap, ◌∙◌, subst}
 use native.Mathlib.Decide.{dec_le}
 use native.Mathlib.Omega.{arith}
+use Rattle.std.proofs.Common.{Result, Ok, Err}
+use Rattle.plan.specs.declared.Reason.{Reason}
+use Rattle.plan.specs.declared.unmaps.Removal.{Removal}
 use Rattle.word.specs.Writes as word
 use Rattle.entry.specs.declared.Rights.{Rights}
 use Rattle.walk.specs.Walk.{base_of}
@@ -26,8 +29,6 @@ use Rattle.pool.specs.Book.{book_of, ticket_of}
 use Rattle.pool.specs.Booked.{setting_of}
 use Rattle.pool.specs.declared.Space.{Space}
 use Rattle.plan.specs.Unmap as unmap
-use Rattle.plan.specs.declared.unmaps.Removing.{Removing}
-use Rattle.plan.specs.declared.unmaps.Removing.TheVariants as removing
 use Rattle.effect.specs.Whole.{Whole}
 use Rattle.effect.proofs.UnmapDone.{unmapped}
 use Rattle.effect.proofs.Searching.{nowhere}
@@ -48,12 +49,12 @@ use Rattle.tablepath.proofs.Nights.{night_facts, night_page}
 
 module _ (h : ℕ → Bool) (sp : Space) where
   -- AFTER UNMAP OF b, whatever it answers, no address has a page that starts at b.
-  unmap_clears : (m : ℕ → ℕ) (role : ℕ → Role) → Whole h sp m role → (b : ℕ) (x : Removing) → unmap.decide_of h m sp b ≡ x
+  unmap_clears : (m : ℕ → ℕ) (role : ℕ → Role) → Whole h sp m role → (b : ℕ) (x : Result Removal Reason) → unmap.decide_of h m sp b ≡ x
       → (va size frame : ℕ) (r : Rights) → ¬ (means h sp (word.after m (unmap.did_of sp b x)) va ≡ Page b size frame r)
   unfolding unmap.did_of word.after
-  unmap_clears m role w b (removing.Refused y) e va size frame r k =
+  unmap_clears m role w b (Err y) e va size frame r k =
       nowhere (setting_of h sp) m b y (((unmap_exactly w b).refused y).0 e) (record { address = va; size = size; frame = frame; rights = r; means = k })
-  unmap_clears m role w b (removing.Go g) e va size frame r k =
+  unmap_clears m role w b (Ok g) e va size frame r k =
       let d = unmapped w b g e in
       let far : ¬ Near g.page.way.level b va = λ n. let z : ◌≡◌ {A = ℕ} 0 1 = cc (d.changed.turns.in_range va n) in omega arith in
       let was : means h sp m va ≡ Page b size frame r = sym (d.changed.turns.elsewhere va far) ∙ k in

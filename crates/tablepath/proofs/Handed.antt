@@ -2,18 +2,18 @@
 use Prim.Native.Nat.{ℕ}
 use mathlib.Core.Bool.{Bool}
 use mathlib.Core.Path.{◌≡◌, sym, ap}
+use Rattle.std.proofs.Common.{Ok}
 use Rattle.pool.specs.declared.Space.{Space}
 use Rattle.plan.specs.declared.maps.Asked.{Asked}
 use Rattle.plan.specs.declared.maps.Leaf.{Leaf}
 use Rattle.plan.specs.Map as map
 use Rattle.plan.proofs.Placings.{Leafed, here_did}
 use Rattle.tablepath.specs.Answers.{map_answer, map_writes, map_said}
-use Rattle.tablepath.specs.declared.Mapped.TheVariants as mapped
 
 module _ (h : ℕ → Bool) (m : ℕ → ℕ) (sp : Space) (q : Asked) (c : Leaf) (k : Leafed (map.decide_of h m sp q) c) where
-  pub here_answer : mapped.Done 0 ≡ map_answer h m sp q
+  pub here_answer : Ok 0 ≡ map_answer h m sp q
   unfolding map_answer map_said
-  here_answer = sym (rw k.decided (ap mapped.Done k.need))
+  here_answer = sym (rw k.decided (ap Ok k.need))
 
   pub here_writes : map.leaf_writes c ≡ map_writes h m sp q
   unfolding map_writes

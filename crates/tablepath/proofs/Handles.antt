@@ -7,6 +7,7 @@ use mathlib.Core.Logic.{◌⊎◌, inl, inr, ◌≢◌}
 use mathlib.Core.Path.{◌≡◌, refl, sym, ap, ◌∙◌, subst}
 use native.Mathlib.Omega.{arith}
 use borrow.Author.Tests.{eq-eqb, ne_eqb}
+use Rattle.std.proofs.Common.{Result, Ok, Err}
 use Rattle.word.specs.Memory.{at, memory, holds}
 use Rattle.word.specs.Writes.{after, carried, Every, none}
 use Rattle.word.proofs.Writes.{every_map, after_other, holds_carried, memory_carried}
@@ -19,8 +20,6 @@ use Rattle.pool.specs.Layout.{signature_at, pages_at, root_at}
 use Rattle.pool.specs.Book.{room_of, headed_of, rooted_in, names_in, names_of, opened_of, opened_in}
 use Rattle.pool.specs.Booked.{SameBook}
 use Rattle.pool.specs.declared.Space.{Space}
-use Rattle.pool.specs.declared.Fit.{Fit}
-use Rattle.pool.specs.declared.Fit.TheVariants as fit
 use Rattle.pool.specs.declared.Reason.{Reason as PoolReason}
 use Rattle.pool.proofs.Far.{word_at_lem}
 use Rattle.pool.proofs.Booked.{booked_same}
@@ -34,10 +33,6 @@ use Rattle.plan.specs.Rights.{write_execute}
 use Rattle.plan.specs.declared.Reason.{Reason}
 use Rattle.plan.specs.declared.Reason.TheVariants.{Pool, WriteExecute}
 use Rattle.plan.specs.declared.maps.Asked.{Asked}
-use Rattle.plan.specs.declared.maps.Shape.{Shape}
-use Rattle.plan.specs.declared.maps.Shape.TheVariants as shape
-use Rattle.plan.specs.declared.finding.Sought.TheVariants as sought
-use Rattle.plan.specs.declared.protects.Changing.TheVariants as changing
 use Rattle.effect.specs.OfPool.{OfPool}
 use Rattle.effect.specs.Whole.{Whole}
 use Rattle.tablepath.specs.Answers.{map_answer, map_writes, map_said, unmap_answer, unmap_writes, unmap_said, protect_answer, protect_writes, protect_said, told_answer, told_writes, told_said, told_did}
@@ -49,12 +44,12 @@ use Rattle.tablepath.specs.Looks.{WholeBytes}
 
 -- A space that no book names --------------------------------------------------------------------------------------------------------
 
-module _ (h : ℕ → Bool) (m : ℕ → ℕ) (sp : Space) (r : PoolReason) (e : names_of h m sp ≡ fit.Refused r) where
-  not_found : (va : ℕ) → find_of h m sp va ≡ sought.Refused (Pool r)
+module _ (h : ℕ → Bool) (m : ℕ → ℕ) (sp : Space) (r : PoolReason) (e : names_of h m sp ≡ Err r) where
+  not_found : (va : ℕ) → find_of h m sp va ≡ Err (Pool r)
   unfolding find_of sought_of
   not_found va = rw e
 
-  not_unmapped : (va : ℕ) → unmap.decide_of h m sp va ≡ unmap.removing_of h m sp va (sought.Refused (Pool r))
+  not_unmapped : (va : ℕ) → unmap.decide_of h m sp va ≡ unmap.removing_of h m sp va (Err (Pool r))
   unfolding unmap.decide_of
   not_unmapped va = ap (unmap.removing_of h m sp va) (not_found va)
 
@@ -62,15 +57,15 @@ module _ (h : ℕ → Bool) (m : ℕ → ℕ) (sp : Space) (r : PoolReason) (e :
   unfolding map.decide_of map.shaped_of map.standing_of map.fitting_of
   not_mapped q = go (map.allowed_of q) refl
     where
-      go : (x : Shape) → map.allowed_of q ≡ x → (y : Reason) × (map.shaped_of h m sp q (map.allowed_of q) ≡ map.Refused y)
-      go (shape.Bad y) s = (y, rw s)
-      go (shape.Level n) s = (Pool r, rw (s, e))
+      go : (x : Result ℕ Reason) → map.allowed_of q ≡ x → (y : Reason) × (map.shaped_of h m sp q (map.allowed_of q) ≡ map.Refused y)
+      go (Err y) s = (y, rw s)
+      go (Ok n) s = (Pool r, rw (s, e))
 
-  not_protected : (va : ℕ) (g : Rights) → (y : Reason) × (protect.decide_of h m sp va g ≡ changing.Refused y)
+  not_protected : (va : ℕ) (g : Rights) → (y : Reason) × (protect.decide_of h m sp va g ≡ Err y)
   unfolding protect.decide_of protect.changing_of
   not_protected va g = go (write_execute g) refl
     where
-      go : (b : Bool) → write_execute g ≡ b → (y : Reason) × (protect.decide_of h m sp va g ≡ changing.Refused y)
+      go : (b : Bool) → write_execute g ≡ b → (y : Reason) × (protect.decide_of h m sp va g ≡ Err y)
       go true s = (WriteExecute, rw s)
       go false s = (Pool r, rw (s, not_found va))
 
@@ -93,7 +88,7 @@ module _ (h : ℕ → Bool) (m : ℕ → ℕ) (sp : Space) (r : PoolReason) (e :
   }
 
 -- THE REASON, by the header's words
-pub named_not : (h : ℕ → Bool) (m : ℕ → ℕ) (sp : Space) → room_of h sp.first sp.pages ≡ fit.Fits → NamedNot h m sp
+pub named_not : (h : ℕ → Bool) (m : ℕ → ℕ) (sp : Space) → room_of h sp.first sp.pages ≡ Ok tt → NamedNot h m sp
 unfolding names_of names_in headed_of rooted_in
 named_not h m sp f = record {
   no_book = λ a. rw (f, ne_eqb _ _ a);
@@ -106,9 +101,9 @@ module _ (h : ℕ → Bool) (m : ℕ → ℕ) (sp : Space) where
   pub rejected_or_named : ((c : Call) → Rejected h m sp c) ⊎ BookAt m sp
   rejected_or_named = go (names_of h m sp) refl
     where
-      go : (x : Fit) → names_of h m sp ≡ x → ((c : Call) → Rejected h m sp c) ⊎ BookAt m sp
-      go (fit.Refused r) e = inl (unnamed_rejected h m sp r e)
-      go fit.Fits e = let k = names_shows h m sp e in inr (record { marked = k.marked; sized = k.sized; rooted = k.rooted })
+      go : (x : Result (Unit {0}) PoolReason) → names_of h m sp ≡ x → ((c : Call) → Rejected h m sp c) ⊎ BookAt m sp
+      go (Err r) e = inl (unnamed_rejected h m sp r e)
+      go (Ok tt) e = let k = names_shows h m sp e in inr (record { marked = k.marked; sized = k.sized; rooted = k.rooted })
 
 -- In a space that is whole ----------------------------------------------------------------------------------------------------------
 
@@ -176,9 +171,9 @@ module _ (h : ℕ → Bool) (m : ℕ → ℕ) (sp other : Space) (d : Disjoint s
 pub call_in_window : (s : List ℕ) (sp : Space) (m : ℕ → ℕ) (c : Call) → Every (λ q. holds s sp.origin q ≡ true) (call_writes (holds s sp.origin) m sp c)
 call_in_window s sp m c = go (names_of (holds s sp.origin) m sp) refl
   where
-    go : (x : Fit) → names_of (holds s sp.origin) m sp ≡ x → Every (λ q. holds s sp.origin q ≡ true) (call_writes (holds s sp.origin) m sp c)
-    go (fit.Refused r) e = rw (unnamed_rejected (holds s sp.origin) m sp r e c).nothing none
-    go fit.Fits e =
+    go : (x : Result (Unit {0}) PoolReason) → names_of (holds s sp.origin) m sp ≡ x → Every (λ q. holds s sp.origin q ≡ true) (call_writes (holds s sp.origin) m sp c)
+    go (Err r) e = rw (unnamed_rejected (holds s sp.origin) m sp r e c).nothing none
+    go (Ok tt) e =
         every_map (λ q u. fit_inside s sp.origin sp.first sp.pages (names_shows (holds s sp.origin) m sp e).fits q u.0 u.1) _ (call_in_pool (holds s sp.origin) m sp c)
 
 pub others_kept : (s : List ℕ) (sp other : Space) (role : ℕ → Role) → other.origin ≡ sp.origin → Disjoint sp other → WholeBytes s sp role → (c : Call)

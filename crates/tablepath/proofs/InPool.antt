@@ -1,5 +1,6 @@
 -- FOR ANY BYTES: whatever the book, the tables and the bounds say, a call writes words of the pool, and every other byte stays.
 use Prim.Native.Nat.{ℕ, ◌+◌, ◌-◌, ◌*◌, ◌/◌}
+use Rattle.pool.specs.declared.NotDue.TheVariants as notdue
 use mathlib.Core.Bool.{Bool, true, false, cond, ◌&&◌}
 use mathlib.Core.List.{List, [], ◌∷◌}
 use mathlib.Core.Logic.{◌≢◌}
@@ -7,6 +8,12 @@ use mathlib.Core.Path.{◌≡◌, refl, ◌∙◌, subst}
 use native.Mathlib.Omega.{arith}
 use lib.Dec.{ltb}
 use borrow.Author.Tests.{ltb-true}
+use Rattle.std.proofs.Common.{Result, Ok, Err}
+use Rattle.pool.specs.declared.Reason.{Reason as PoolReason}
+use Rattle.plan.specs.declared.Reason.{Reason}
+use Rattle.pool.specs.declared.NotDue.{NotDue}
+use Rattle.plan.specs.declared.unmaps.Removal.{Removal}
+use Rattle.plan.specs.declared.protects.Change.{Change}
 use lib.ListN.{get_or}
 use Rattle.word.specs.Bytes.{put_word}
 use Rattle.word.specs.Memory.{memory, holds, at, written}
@@ -19,19 +26,11 @@ use Rattle.entry.specs.declared.Rights.{Rights}
 use Rattle.pool.specs.Book.{opened_of, due_of}
 use Rattle.pool.specs.declared.Space.{Space}
 use Rattle.pool.specs.declared.Book.{Book}
-use Rattle.pool.specs.declared.Due.{Due}
-use Rattle.pool.specs.declared.Due.TheVariants as due
-use Rattle.pool.specs.declared.Opened.{Opened}
-use Rattle.pool.specs.declared.Opened.TheVariants as opened
 use Rattle.plan.specs.Map as map
 use Rattle.plan.specs.Unmap as unmap
 use Rattle.plan.specs.Protect as protect
 use Rattle.plan.specs.declared.maps.Asked.{Asked}
 use Rattle.plan.specs.Map.{Placed}
-use Rattle.plan.specs.declared.unmaps.Removing.{Removing}
-use Rattle.plan.specs.declared.unmaps.Removing.TheVariants as removing
-use Rattle.plan.specs.declared.protects.Changing.{Changing}
-use Rattle.plan.specs.declared.protects.Changing.TheVariants as changing
 use Rattle.effect.specs.OfPool.{OfPool}
 use Rattle.effect.proofs.MapInPool.{map_in_pool}
 use Rattle.effect.proofs.UnmapInPool.{unmap_in_pool}
@@ -46,26 +45,26 @@ module _ (h : ℕ → Bool) (m : ℕ → ℕ) (sp : Space) where
   did_map q (map.Go p) e = map_in_pool h m sp q p e
   did_map q (map.Refused r) e = none
 
-  did_unmap : (va : ℕ) (x : Removing) → unmap.decide_of h m sp va ≡ x → Every (OfPool sp) (unmap.did_of sp va x)
+  did_unmap : (va : ℕ) (x : Result Removal Reason) → unmap.decide_of h m sp va ≡ x → Every (OfPool sp) (unmap.did_of sp va x)
   unfolding unmap.did_of
-  did_unmap va (removing.Go r) e = unmap_in_pool h m sp va r e
-  did_unmap va (removing.Refused y) e = none
+  did_unmap va (Ok r) e = unmap_in_pool h m sp va r e
+  did_unmap va (Err y) e = none
 
-  did_protect : (va : ℕ) (g : Rights) (x : Changing) → protect.decide_of h m sp va g ≡ x → Every (OfPool sp) (protect.did_of x)
+  did_protect : (va : ℕ) (g : Rights) (x : Result Change Reason) → protect.decide_of h m sp va g ≡ x → Every (OfPool sp) (protect.did_of x)
   unfolding protect.did_of
-  did_protect va g (changing.Go c) e = protect_in_pool h m sp va g c e
-  did_protect va g (changing.Refused y) e = none
+  did_protect va g (Ok c) e = protect_in_pool h m sp va g c e
+  did_protect va g (Err y) e = none
 
-  did_due : (b : Book) (x : Due) → opened_of h m sp ≡ opened.Book b → Every (OfPool sp) (due_did sp b x)
+  did_due : (b : Book) (x : Result ℕ NotDue) → opened_of h m sp ≡ Ok b → Every (OfPool sp) (due_did sp b x)
   unfolding due_did
-  did_due b (due.Pages k) e = told_in_pool h m sp b k e
-  did_due b due.Unknown e = none
-  did_due b due.Spent e = none
+  did_due b (Ok k) e = told_in_pool h m sp b k e
+  did_due b (Err notdue.Unknown) e = none
+  did_due b (Err notdue.Spent) e = none
 
-  did_told : (t : ℕ) (x : Opened) → opened_of h m sp ≡ x → Every (OfPool sp) (told_did sp t x)
+  did_told : (t : ℕ) (x : Result Book PoolReason) → opened_of h m sp ≡ x → Every (OfPool sp) (told_did sp t x)
   unfolding told_did
-  did_told t (opened.Book b) e = did_due b (due_of b t) e
-  did_told t (opened.Refused r) e = none
+  did_told t (Ok b) e = did_due b (due_of b t) e
+  did_told t (Err r) e = none
 
   -- EVERY WRITE of every call is of a page of the pool.
   pub call_in_pool : (c : Call) → Every (OfPool sp) (call_writes h m sp c)

@@ -1,3 +1,4 @@
+pub mod Said
 pub mod Handed
 pub mod Marking
 pub mod Serving

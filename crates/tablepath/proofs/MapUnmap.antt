@@ -3,6 +3,7 @@ use Prim.Native.Nat.{ℕ, ◌<◌}
 use mathlib.Core.List.{List}
 use mathlib.Core.Path.{◌≡◌, sym, ◌∙◌}
 use native.Mathlib.Omega.{arith}
+use Rattle.std.proofs.Common.{Ok}
 use Rattle.word.specs.Memory.{memory, holds}
 use Rattle.walk.proofs.Digits.{size_pos}
 use Rattle.walk.specs.declared.Found.TheVariants.{Page}
@@ -12,15 +13,13 @@ use Rattle.pool.specs.declared.Space.{Space}
 use Rattle.plan.specs.declared.maps.Asked.{Asked}
 use Rattle.effect.specs.StartsAt.{StartsAt}
 use Rattle.tablepath.specs.Answers.{map_answer, unmap_answer}
-use Rattle.tablepath.specs.declared.Mapped.TheVariants as mapped
-use Rattle.tablepath.specs.declared.Unmapped.TheVariants as unmapped
 use Rattle.tablepath.specs.declared.Gone.{Gone}
 use Rattle.tablepath.specs.Looks.{in_window, look_up, WholeBytes, with_page}
 use Rattle.tablepath.proofs.Means.{map_means, unmap_means}
 use Rattle.tablepath.proofs.RoundTrips.{look_up_after_map}
 
 module _ (s : List ℕ) (sp : Space) (role : ℕ → Role) (w : WholeBytes s sp role) (q : Asked) (k : ℕ)
-    (done : in_window s sp.origin map_answer sp q ≡ mapped.Done k) where
+    (done : in_window s sp.origin map_answer sp q ≡ Ok k) where
   -- what holds after the map
   still : (role' : ℕ → Role) × WholeBytes (with_page s sp q) sp role'
   still = (map_means s sp q).kept role w
@@ -33,7 +32,7 @@ module _ (s : List ℕ) (sp : Space) (role : ℕ → Role) (w : WholeBytes s sp 
   at_base = look_up_after_map s sp role w q k done q.base (omega arith, omega (arith, wide))
 
   -- UNMAP AFTER MAP answers what was mapped
-  pub unmap_after_map : (g : Gone) × (in_window (with_page s sp q) sp.origin unmap_answer sp q.base ≡ unmapped.Done g) × (g.frame ≡ q.frame) × (g.size ≡ q.size)
+  pub unmap_after_map : (g : Gone) × (in_window (with_page s sp q) sp.origin unmap_answer sp q.base ≡ Ok g) × (g.frame ≡ q.frame) × (g.size ≡ q.size)
   unmap_after_map =
       let starts : StartsAt (setting_of (holds (with_page s sp q) sp.origin) sp) (memory (with_page s sp q) sp.origin) q.base =
       record { address = q.base; size = q.size; frame = q.frame; rights = q.rights; means = at_base } in

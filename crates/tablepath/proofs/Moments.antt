@@ -4,6 +4,8 @@ use mathlib.Core.Bool.{Bool}
 use mathlib.Core.List.{List}
 use mathlib.Core.Path.{◌≡◌, refl, sym, ap, ◌∙◌}
 use native.Mathlib.Omega.{arith}
+use Rattle.std.proofs.Common.{Result, Ok, Err}
+use Rattle.pool.specs.declared.Book.{Book}
 use Rattle.word.specs.Memory.{memory, holds}
 use Rattle.word.specs.Writes as word
 use Rattle.word.specs.Writes.{carried}
@@ -15,10 +17,7 @@ use Rattle.pool.specs.Booked.{tables_of}
 use Rattle.pool.specs.State.{counted_of, stated_of, state_of}
 use Rattle.pool.specs.declared.Space.{Space}
 use Rattle.pool.specs.declared.Reason.{Reason}
-use Rattle.pool.specs.declared.Opened.{Opened}
-use Rattle.pool.specs.declared.Opened.TheVariants as opened
 use Rattle.pool.specs.declared.moment.Counts.{Counts}
-use Rattle.pool.specs.declared.moment.Stated.TheVariants as stated
 use Rattle.pool.proofs.Pages.{free_count, aside_count, adds_up}
 use Rattle.pool.proofs.Tickets.{ticket_sound}
 use Rattle.effect.specs.Whole.{Whole}
@@ -32,10 +31,10 @@ use Rattle.tablepath.proofs.Wholes.{call_leaves}
 
 -- State ----------------------------------------------------------------------------------------------------------------------------
 
-refused_by : (sp : Space) (y : Reason) (x : Opened) → stated_of sp x ≡ stated.Refused y → x ≡ opened.Refused y
+refused_by : (sp : Space) (y : Reason) (x : Result Book Reason) → stated_of sp x ≡ Err y → x ≡ Err y
 unfolding stated_of
-refused_by sp y (opened.Book b) e = let z : ◌≡◌ {A = ℕ} 0 1 = cc in absurd (omega arith)
-refused_by sp y (opened.Refused r) e = let same : r ≡ y = cc in ap opened.Refused same
+refused_by sp y (Ok b) e = let z : ◌≡◌ {A = ℕ} 0 1 = cc in absurd (omega arith)
+refused_by sp y (Err r) e = let same : r ≡ y = cc in ap Err same
 
 -- STATE AND ITS BOOK, of any memory
 pub state_opened : (h : ℕ → Bool) (m : ℕ → ℕ) (sp : Space) → StateOpened h m sp
@@ -73,7 +72,7 @@ module _ {h : ℕ → Bool} {sp : Space} {m : ℕ → ℕ} {role : ℕ → Role}
 
   -- STATE, asked right after, answers it too
   pub state_after : (c : Call) (t : ℕ) → Handed h m sp c t
-      → (n : Counts) × (state_of h (word.after m (call_writes h m sp c)) sp ≡ stated.Counts n) × (n.ticket ≡ t)
+      → (n : Counts) × (state_of h (word.after m (call_writes h m sp c)) sp ≡ Ok n) × (n.ticket ≡ t)
   state_after c t k =
       let s = state_says (call_leaves h sp m role w c).0.1 in
       (s.counts, s.answered, s.ticket ∙ sym (handed_now c t k))
@@ -83,6 +82,6 @@ module _ {h : ℕ → Bool} {sp : Space} {m : ℕ → ℕ} {role : ℕ → Role}
 -- STATE AFTER UNMAP OR PROTECT answers its ticket
 pub state_after_call : (s : List ℕ) (sp : Space) (role : ℕ → Role) → WholeBytes s sp role → (c : Call) (t : ℕ) → Handed (holds s sp.origin) (memory s sp.origin) sp c t
     → (n : Counts) × (state_of (holds (carried s sp.origin (call_writes (holds s sp.origin) (memory s sp.origin) sp c)) sp.origin)
-    (memory (carried s sp.origin (call_writes (holds s sp.origin) (memory s sp.origin) sp c)) sp.origin) sp ≡ stated.Counts n) × (n.ticket ≡ t)
+    (memory (carried s sp.origin (call_writes (holds s sp.origin) (memory s sp.origin) sp c)) sp.origin) sp ≡ Ok n) × (n.ticket ≡ t)
 state_after_call s sp role w c t k =
     rw (holds_carried s sp.origin _, memory_carried s sp.origin _ (call_leaves _ sp _ role w c).1) (state_after w c t k)

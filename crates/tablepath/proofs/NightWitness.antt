@@ -7,6 +7,7 @@ use mathlib.Core.Logic.{inl, inr}
 use mathlib.Core.Path.{◌≡◌, refl, sym, ap, ◌∙◌, subst}
 use native.Mathlib.Decide.{dec_lt}
 use native.Mathlib.Omega.{arith}
+use Rattle.std.proofs.Common.{Ok}
 use lib.ListN.{length}
 use Rattle.word.specs.Memory.{at}
 use Rattle.word.specs.Writes.{Write}
@@ -33,7 +34,6 @@ use Rattle.pool.specs.declared.Space.{Space}
 use Rattle.plan.specs.Map as map
 use Rattle.plan.specs.Unmap as unmap
 use Rattle.plan.specs.declared.unmaps.Removal.{Removal}
-use Rattle.plan.specs.declared.unmaps.Removing.TheVariants as unmap'
 use Rattle.effect.specs.Whole.{Whole}
 use Rattle.effect.specs.UnmapDone.{UnmapDone}
 use Rattle.effect.proofs.MapDone.{mapped_outside}
@@ -41,7 +41,6 @@ use Rattle.effect.proofs.UnmapDone.{unmapped}
 use Rattle.effect.proofs.Exactly.{unmap_exactly}
 use Rattle.tablepath.specs.Answers.{map_writes, unmap_answer, unmap_writes}
 use Rattle.tablepath.specs.declared.Gone.{Gone}
-use Rattle.tablepath.specs.declared.Unmapped.TheVariants as unmapped'
 use Rattle.tablepath.specs.Calls.{Call, Within, call_writes, Act, act_writes}
 use Rattle.tablepath.specs.Calls as calls
 use Rattle.tablepath.specs.Nights.{Night, history, last_began, behind, front, joined, lately, due, covered, uncovered, Some, untold_kept, waiting, code_sees, Unmaps, Protects, Hit, Hits, Gets, Allowed, Honest, Telling, Exact}
@@ -120,7 +119,7 @@ module _ (s : List ℕ) (e : length s ≡ 20480) where
   means₁ = (five_pages s e).3
 
   -- and unmapped
-  removes : (r : Removal) × (unmap.decide_of (window s) m₁ five 0 ≡ unmap'.Go r)
+  removes : (r : Removal) × (unmap.decide_of (window s) m₁ five 0 ≡ Ok r)
   removes = (unmap_exactly whole₁ 0).succeeds.1 (record { address = 0; size = 4096; frame = 1048576; rights = of_data; means = means₁ })
 
   removed : UnmapDone (window s) five m₁ (five_pages s e).0 0 removes.0
@@ -224,9 +223,9 @@ module _ (s : List ℕ) (e : length s ≡ 20480) where
     λ va k. hits va (subst (λ l. Hits (window s) five (Hit (window s) five) l va) made (subst (λ l. Hits (window s) five (Hit (window s) five) (front (l ++ (lately (gone s) ∷ []))) va) none_due k)),
   )
     where
-      answered : (g : Gone) → unmap_answer (window s) (code_sees (window s) five (mapped s)) five 0 ≡ unmapped'.Done g → g.size ≡ 4096
+      answered : (g : Gone) → unmap_answer (window s) (code_sees (window s) five (mapped s)) five 0 ≡ Ok g → g.size ≡ 4096
       answered g a =
-          let there : unmap_answer (window s) m₁ five 0 ≡ unmapped'.Done g = subst (λ x. unmap_answer (window s) x five 0 ≡ unmapped'.Done g) (seen_now (window s) five untold_kept (mapped s) honest₁.0 honest₁.1 ∙ now₁) a in
+          let there : unmap_answer (window s) m₁ five 0 ≡ Ok g = subst (λ x. unmap_answer (window s) x five 0 ≡ Ok g) (seen_now (window s) five untold_kept (mapped s) honest₁.0 honest₁.1 ∙ now₁) a in
           let p : found.Page 0 g.size g.frame _ ≡ found.Page 0 4096 1048576 of_data = sym ((unmap_says whole₁ 0).gone g there).before ∙ means₁ in
           cc
 

@@ -1,10 +1,13 @@
 -- What the answers say, in a space that is whole: from what the decisions do.
 use Prim.Native.Nat.{ℕ, ◌+◌, ◌*◌, ◌%◌, ◌^◌, ◌≤◌}
+use Rattle.pool.specs.declared.NotDue.TheVariants as notdue
 use mathlib.Core.Bool.{Bool}
 use mathlib.Core.Logic.{◌↔◌}
 use mathlib.Core.Path.{◌≡◌, refl, sym, ap, ◌∙◌, subst}
 use native.Mathlib.Decide.{ℕ_discrete, dec_lt}
 use native.Mathlib.Omega.{arith}
+use Rattle.std.proofs.Common.{Result, Ok, Err}
+use Rattle.pool.specs.declared.NotDue.{NotDue}
 use Rattle.word.specs.Memory.{at, set}
 use Rattle.word.specs.Writes.{after}
 use Rattle.word.proofs.Set.{set_at, set_other}
@@ -20,8 +23,6 @@ use Rattle.pool.specs.Book.{book_of, ticket_of, ticket_after, due_of}
 use Rattle.pool.specs.Booked.{released}
 use Rattle.pool.specs.declared.Space.{Space}
 use Rattle.pool.specs.declared.Book.{Book}
-use Rattle.pool.specs.declared.Due.{Due}
-use Rattle.pool.specs.declared.Due.TheVariants as due
 use Rattle.pool.proofs.Releasing.{due_exactly, release_book}
 use Rattle.plan.specs.Map as map
 use Rattle.plan.specs.Unmap as unmap
@@ -29,9 +30,7 @@ use Rattle.plan.specs.Protect as protect
 use Rattle.plan.specs.declared.maps.Asked.{Asked}
 use Rattle.plan.specs.declared.maps.Mapping.{Mapping}
 use Rattle.plan.specs.declared.unmaps.Removal.{Removal}
-use Rattle.plan.specs.declared.unmaps.Removing.TheVariants as removing
 use Rattle.plan.specs.declared.protects.Change.{Change}
-use Rattle.plan.specs.declared.protects.Changing.TheVariants as changing
 use Rattle.effect.specs.Whole.{Whole}
 use Rattle.effect.specs.UnmapDone.{UnmapDone}
 use Rattle.effect.specs.ProtectDone.{ProtectDone}
@@ -42,7 +41,6 @@ use Rattle.effect.proofs.UnmapDone.{unmapped}
 use Rattle.effect.proofs.ProtectDone.{protected}
 use Rattle.effect.proofs.ToldDone as effect
 use Rattle.effect.proofs.Exactly.{unmap_exactly, protect_exactly, told_exactly}
-use Rattle.tablepath.specs.declared.Report.TheVariants as told
 use Rattle.tablepath.specs.Answers.{map_answer, map_writes, map_said, unmap_answer, unmap_writes, unmap_said, gone_of, protect_answer, protect_writes, altered_of, protect_said, told_answer, told_writes, told_said, told_did, due_said, due_did}
 use Rattle.tablepath.proofs.SaysAny.{map_refused_by, map_done_by, unmap_refused_by, unmap_done_by, protect_refused_by, protect_done_by, due_unknown, due_spent, due_released, due_no_refusal}
 use Rattle.tablepath.specs.Calls.{means}
@@ -91,7 +89,7 @@ module _ {h : ℕ → Bool} {sp : Space} {m : ℕ → ℕ} {role : ℕ → Role}
   unfolding told_answer told_said
   told_by t = rw (book_opens w)
 
-  told_released : (t k : ℕ) → due_of (book_of m sp) t ≡ due.Pages k → ToldReleased h h sp m (after m (told_writes h m sp t)) role t k
+  told_released : (t k : ℕ) → due_of (book_of m sp) t ≡ Ok k → ToldReleased h h sp m (after m (told_writes h m sp t)) role t k
   unfolding told_writes told_did due_did
   told_released t k e =
       let d = effect.told w t k e in
@@ -106,11 +104,11 @@ module _ {h : ℕ → Bool} {sp : Space} {m : ℕ → ℕ} {role : ℕ → Role}
         others = d.others;
       }
 
-  due_same : (t : ℕ) (x : Due) → due_of (book_of m sp) t ≡ x → (va : ℕ) → means h sp (after m (due_did sp (book_of m sp) x)) va ≡ means h sp m va
+  due_same : (t : ℕ) (x : Result ℕ NotDue) → due_of (book_of m sp) t ≡ x → (va : ℕ) → means h sp (after m (due_did sp (book_of m sp) x)) va ≡ means h sp m va
   unfolding due_did after
-  due_same t due.Unknown e va = refl
-  due_same t due.Spent e va = refl
-  due_same t (due.Pages k) e va = (effect.told w t k e).same va
+  due_same t (Err notdue.Unknown) e va = refl
+  due_same t (Err notdue.Spent) e va = refl
+  due_same t (Ok k) e va = (effect.told w t k e).same va
 
   told_same : (t va : ℕ) → means h sp (after m (told_writes h m sp t)) va ≡ means h sp m va
   unfolding told_writes told_did
@@ -135,19 +133,19 @@ module _ {h : ℕ → Bool} {sp : Space} {m : ℕ → ℕ} {role : ℕ → Role}
       }
 
   -- THE TICKET OF THE MOMENT releases all that is set aside
-  pub told_all : ticket_of (book_of m sp) ≤ 2 ^ 62 → told_answer h m sp (ticket_of (book_of m sp)) ≡ told.Released (book_of m sp).aside
+  pub told_all : ticket_of (book_of m sp) ≤ 2 ^ 62 → told_answer h m sp (ticket_of (book_of m sp)) ≡ Ok (book_of m sp).aside
   unfolding due_said
   told_all u =
       let b = book_of m sp in
       let r = (told_exactly sp.pages b (ticket_of b) w.booked.sound).succeeds.1 (omega arith, u) in
       let x = due_exactly sp.pages b (ticket_of b) r.0 w.booked.sound r.1 in
       let all : r.0 ≡ b.aside = elim (dec_lt r.0 b.aside) [ yes v ↦ absurd (omega (arith, x.below (b.tickets + r.0) (omega arith) (omega arith))) | no v ↦ omega (arith, x.enough) ] in
-      told_by (ticket_of b) ∙ ap due_said r.1 ∙ ap told.Released all
+      told_by (ticket_of b) ∙ ap due_said r.1 ∙ ap Ok all
 
 -- Unmap and protect --------------------------------------------------------------------------------------------------------------
 
 module _ {h : ℕ → Bool} {sp : Space} {m : ℕ → ℕ} {role : ℕ → Role} (w : Whole h sp m role) (va : ℕ) where
-  module _ (r : Removal) (e : unmap.decide_of h m sp va ≡ removing.Go r) where
+  module _ (r : Removal) (e : unmap.decide_of h m sp va ≡ Ok r) where
     -- the memory after it
     abbrev unmapped_now : ℕ → ℕ
     unmapped_now = after m (unmap_writes h m sp va)
@@ -183,7 +181,7 @@ module _ {h : ℕ → Bool} {sp : Space} {m : ℕ → ℕ} {role : ℕ → Role}
       more = rw e (ap (λ (x : Book). x.aside) d.counts);
       ticket = unmap_ticket;
       releases =
-          subst (λ x. (told_answer h unmapped_now sp x ≡ told.Released (book_of unmapped_now sp).aside) ↔ (x ≤ 2 ^ 62)) (sym unmap_ticket)
+          subst (λ x. (told_answer h unmapped_now sp x ≡ Ok (book_of unmapped_now sp).aside) ↔ (x ≤ 2 ^ 62)) (sym unmap_ticket)
           (λ x. ((told_says whole_now (ticket_of (book_of unmapped_now sp))).done.0 (_, x)).1, told_all whole_now);
     }
 
@@ -204,7 +202,7 @@ module _ {h : ℕ → Bool} {sp : Space} {m : ℕ → ℕ} {role : ℕ → Role}
         gone = λ g e. let f = unmap_done_by (book_of m sp) g (unmap.decide_of h m sp va) e in subst (UnmapGone h h sp m _ role va) f.2 (unmap_gone f.0 f.1);
       }
 
-  module _ (rights : Rights) (c : Change) (e : protect.decide_of h m sp va rights ≡ changing.Go c) where
+  module _ (rights : Rights) (c : Change) (e : protect.decide_of h m sp va rights ≡ Ok c) where
     p : ProtectDone h sp m role va rights c
     p = protected w va rights c e
 

@@ -6,6 +6,7 @@ use mathlib.Core.Path.{◌≡◌, refl, sym, ap, ◌∙◌, subst}
 use native.Mathlib.Decide.{ℕ_discrete, dec_le}
 use native.Mathlib.Omega.{arith}
 use borrow.Author.Tests.{eq-eqb, ne_eqb, le-leb, lt-leb}
+use Rattle.std.proofs.Common.{Result, Ok, Err}
 use lib.ListN.{length}
 use Rattle.word.specs.Memory.{holds}
 use Rattle.word.specs.Writes.{carried}
@@ -13,8 +14,6 @@ use Rattle.word.proofs.Tests.{and_both}
 use Rattle.pool.specs.Layout.{book_pages}
 use Rattle.pool.specs.Book.{room_of}
 use Rattle.pool.specs.Create.{created_of, created_in, create_writes, may_create}
-use Rattle.pool.specs.declared.Created.{Created}
-use Rattle.pool.specs.declared.Created.TheVariants as created
 use Rattle.pool.specs.declared.Reason.{Reason}
 use Rattle.pool.specs.declared.Reason.TheVariants.{OriginUnaligned, LengthUnaligned, PoolLarge, PoolSmall, PoolOutside}
 use Rattle.pool.proofs.Opening.{fit_inside}
@@ -24,7 +23,7 @@ use Rattle.tablepath.proofs.Witness.{nothing_yet}
 use Rattle.tablepath.specs.Says.{AlignedWindow, CreateCause, origin_unaligned, length_unaligned, large, small, outside, CreateSays}
 
 module _ (s : List ℕ) (origin first pages : ℕ) where
-  abbrev answer : Created
+  abbrev answer : Result ℕ Reason
   answer = created_of (length s) (holds s origin) origin first pages
 
   -- the pool's first and last page lie in the window
@@ -46,7 +45,7 @@ module _ (s : List ℕ) (origin first pages : ℕ) where
       go true d e = (first + pages - 1, omega arith, omega arith, e)
 
   -- A CAUSE IS A REFUSAL
-  cause_refuses : (y : Reason) → CreateCause s origin first pages y → answer ≡ created.Refused y
+  cause_refuses : (y : Reason) → CreateCause s origin first pages y → answer ≡ Err y
   unfolding created_of created_in may_create room_of ends
   cause_refuses y (origin_unaligned a) = rw (ne_eqb (origin % 4096) 0 a)
   cause_refuses y (length_unaligned a b) = rw (eq-eqb (origin % 4096) 0 a, ne_eqb (length s % 4096) 0 b)
@@ -64,9 +63,9 @@ module _ (s : List ℕ) (origin first pages : ℕ) where
           go true e = absurd (false≢true (sym n ∙ ends_hold u v e p l r))
 
   -- what is answered: a refusal for its cause, or the page behind the book
-  data CreateVerdict : Created → Type 0 where
-    refuses : (y : Reason) → CreateCause s origin first pages y → CreateVerdict (created.Refused y)
-    makes : CreateVerdict (created.Root (first + book_pages pages))
+  data CreateVerdict : Result ℕ Reason → Type 0 where
+    refuses : (y : Reason) → CreateCause s origin first pages y → CreateVerdict (Err y)
+    makes : CreateVerdict (Ok (first + book_pages pages))
 
   because : (y : Reason) → CreateCause s origin first pages y → CreateVerdict answer
   because y c = rw (cause_refuses y c) (refuses y c)
@@ -86,27 +85,27 @@ module _ (s : List ℕ) (origin first pages : ℕ) where
       go (yes a) (yes b) (yes c) (no d) = because PoolSmall (small (a, b) c (omega arith))
       go (yes a) (yes b) (yes c) (yes d) = room (a, b) c d ends refl
 
-  refused_cause : (y : Reason) → answer ≡ created.Refused y → CreateCause s origin first pages y
+  refused_cause : (y : Reason) → answer ≡ Err y → CreateCause s origin first pages y
   refused_cause y = go answer verdict
     where
-      go : (x : Created) → CreateVerdict x → x ≡ created.Refused y → CreateCause s origin first pages y
+      go : (x : Result ℕ Reason) → CreateVerdict x → x ≡ Err y → CreateCause s origin first pages y
       go x (refuses y' c) e = let same : y' ≡ y = cc in subst (CreateCause s origin first pages) same c
       go x makes e = let z : ◌≡◌ {A = ℕ} 0 1 = cc in absurd (omega arith)
 
-  root_no_cause : (p : ℕ) → answer ≡ created.Root p → (y : Reason) → ¬ CreateCause s origin first pages y
+  root_no_cause : (p : ℕ) → answer ≡ Ok p → (y : Reason) → ¬ CreateCause s origin first pages y
   root_no_cause p e y c = let f = cause_refuses y c in let z : ◌≡◌ {A = ℕ} 0 1 = cc in omega arith
 
-  root_behind : (p : ℕ) → answer ≡ created.Root p → p ≡ first + book_pages pages
+  root_behind : (p : ℕ) → answer ≡ Ok p → p ≡ first + book_pages pages
   root_behind p = go answer verdict
     where
-      go : (x : Created) → CreateVerdict x → x ≡ created.Root p → p ≡ first + book_pages pages
+      go : (x : Result ℕ Reason) → CreateVerdict x → x ≡ Ok p → p ≡ first + book_pages pages
       go x (refuses y c) e = let z : ◌≡◌ {A = ℕ} 0 1 = cc in absurd (omega arith)
       go x makes e = cc
 
-  no_cause_root : ((y : Reason) → ¬ CreateCause s origin first pages y) → answer ≡ created.Root (first + book_pages pages)
+  no_cause_root : ((y : Reason) → ¬ CreateCause s origin first pages y) → answer ≡ Ok (first + book_pages pages)
   no_cause_root n = go answer verdict
     where
-      go : (x : Created) → CreateVerdict x → x ≡ created.Root (first + book_pages pages)
+      go : (x : Result ℕ Reason) → CreateVerdict x → x ≡ Ok (first + book_pages pages)
       go x (refuses y c) = absurd (n y c)
       go x makes = refl
 
@@ -115,7 +114,7 @@ module _ (s : List ℕ) (origin first pages : ℕ) where
   create_says = record {
     refused = λ y. (refused_cause y, cause_refuses y);
     leaves = (refusal_leaves s).create origin first pages;
-    done = λ p. (λ e. (root_no_cause p e, root_behind p e), λ n. no_cause_root n.0 ∙ ap created.Root (sym n.1));
+    done = λ p. (λ e. (root_no_cause p e, root_behind p e), λ n. no_cause_root n.0 ∙ ap Ok (sym n.1));
     whole = λ p e. (create_whole s origin first pages p e).1;
     empty = λ p e. nothing_yet (create_whole s origin first pages p e).1;
   }

@@ -1,11 +1,17 @@
 -- Every call serves: map, unmap, protect and told, whatever they answer.
 use Prim.Native.Nat.{ℕ, ◌/◌, ◌≤◌}
+use Rattle.pool.specs.declared.NotDue.TheVariants as notdue
 use mathlib.Core.Bool.{Bool}
 use mathlib.Core.List.{List, []}
 use mathlib.Core.Logic.{◌⊎◌, inl, inr, ◌≢◌}
 use mathlib.Core.Path.{◌≡◌, refl, sym, ap, ◌∙◌, subst}
 use native.Mathlib.Decide.{dec_lt}
 use native.Mathlib.Omega.{arith}
+use Rattle.std.proofs.Common.{Result, Ok, Err}
+use Rattle.plan.specs.declared.Reason.{Reason}
+use Rattle.pool.specs.declared.NotDue.{NotDue}
+use Rattle.plan.specs.declared.unmaps.Removal.{Removal}
+use Rattle.plan.specs.declared.protects.Change.{Change}
 use Rattle.word.specs.Writes.{Write, after, Every}
 use Rattle.word.proofs.Writes.{every_map}
 use Rattle.entry.specs.declared.Rights.{Rights}
@@ -26,8 +32,6 @@ use Rattle.pool.specs.Booked.{setting_of, released, Numbered}
 use Rattle.pool.specs.Changes.{release_writes}
 use Rattle.pool.specs.declared.Space.{Space}
 use Rattle.pool.specs.declared.Book.{Book}
-use Rattle.pool.specs.declared.Due.{Due}
-use Rattle.pool.specs.declared.Due.TheVariants as due
 use Rattle.pool.proofs.Proper.{release_proper}
 use Rattle.pool.proofs.Releasing.{has_number, one_number}
 use Rattle.plan.specs.Map as map
@@ -35,10 +39,6 @@ use Rattle.plan.specs.Unmap as unmap
 use Rattle.plan.specs.Protect as protect
 use Rattle.plan.specs.declared.maps.Asked.{Asked}
 use Rattle.plan.specs.Map.{Placed}
-use Rattle.plan.specs.declared.unmaps.Removing.{Removing}
-use Rattle.plan.specs.declared.unmaps.Removing.TheVariants as removing
-use Rattle.plan.specs.declared.protects.Changing.{Changing}
-use Rattle.plan.specs.declared.protects.Changing.TheVariants as changing
 use Rattle.effect.specs.Whole.{Whole}
 use Rattle.effect.specs.ToldDone.{ToldDone}
 use Rattle.effect.proofs.MapDone.{decided_done}
@@ -71,18 +71,18 @@ module _ (h : ℕ → Bool) (sp : Space) (n : ℕ) (m : ℕ → ℕ) (role : ℕ
   map_served q (map.Refused r) e = none_served
   map_served q (map.Go p) e = let d = decided_done w q p e in changed_serves w u d.changed d.whole d.numbers
 
-  unmap_served : (va : ℕ) (x : Removing) → unmap.decide_of h m sp va ≡ x → Served h sp n m (unmap.did_of sp va x)
+  unmap_served : (va : ℕ) (x : Result Removal Reason) → unmap.decide_of h m sp va ≡ x → Served h sp n m (unmap.did_of sp va x)
   unfolding unmap.did_of
-  unmap_served va (removing.Refused y) e = none_served
-  unmap_served va (removing.Go r) e =
+  unmap_served va (Err y) e = none_served
+  unmap_served va (Ok r) e =
       let d = unmapped w va r e in
       changed_serves w u d.changed d.whole
       (record { numbers = d.numbers; tickets = ap (λ (b : Book). b.tickets) d.counts; more = omega (arith, ap (λ (b : Book). b.aside) d.counts) })
 
-  protect_served : (va : ℕ) (g : Rights) (x : Changing) → protect.decide_of h m sp va g ≡ x → Served h sp n m (protect.did_of x)
+  protect_served : (va : ℕ) (g : Rights) (x : Result Change Reason) → protect.decide_of h m sp va g ≡ x → Served h sp n m (protect.did_of x)
   unfolding protect.did_of
-  protect_served va g (changing.Refused y) e = none_served
-  protect_served va g (changing.Go c) e =
+  protect_served va g (Err y) e = none_served
+  protect_served va g (Ok c) e =
       let d = protected w va g c e in
       changed_serves w u d.changed d.whole
       (record { numbers = d.numbers; tickets = ap (λ (b : Book). b.tickets) d.book; more = omega (arith, ap (λ (b : Book). b.aside) d.book) })
@@ -122,11 +122,11 @@ module _ (h : ℕ → Bool) (sp : Space) (n : ℕ) (m : ℕ → ℕ) (role : ℕ
             subst (Numbered m sp p) same g.1
       ]
 
-  due_served : (t : ℕ) (x : Due) → t ≤ n → due_of (book_of m sp) t ≡ x → Served h sp n m (due_did sp (book_of m sp) x)
+  due_served : (t : ℕ) (x : Result ℕ NotDue) → t ≤ n → due_of (book_of m sp) t ≡ x → Served h sp n m (due_did sp (book_of m sp) x)
   unfolding due_did
-  due_served t due.Unknown v e = none_served
-  due_served t due.Spent v e = none_served
-  due_served t (due.Pages k) v e =
+  due_served t (Err notdue.Unknown) v e = none_served
+  due_served t (Err notdue.Spent) v e = none_served
+  due_served t (Ok k) v e =
       let d = effect.told w t k e in
       record {
         role = released m sp k role;

@@ -6,6 +6,10 @@ use mathlib.Core.List.{List, [], ◌∷◌, append-nil}
 use mathlib.Core.Logic.{◌⊎◌, inl, inr}
 use mathlib.Core.Path.{◌≡◌, refl, sym, ap, ◌∙◌, subst}
 use native.Mathlib.Omega.{arith}
+use Rattle.std.proofs.Common.{Result, Ok, Err}
+use Rattle.plan.specs.declared.Reason.{Reason}
+use Rattle.plan.specs.declared.unmaps.Removal.{Removal}
+use Rattle.plan.specs.declared.protects.Change.{Change}
 use Rattle.word.specs.Memory.{memory, holds}
 use Rattle.word.specs.Writes as word
 use Rattle.word.specs.Writes.{carried}
@@ -29,7 +33,6 @@ use Rattle.tables.specs.Discipline.{walker_of}
 use Rattle.pool.specs.Book.{book_of, ticket_of}
 use Rattle.pool.specs.Booked.{setting_of}
 use Rattle.pool.specs.Create.{new_space}
-use Rattle.pool.specs.declared.Created.TheVariants as created
 use Rattle.pool.specs.declared.Book.{Book}
 use Rattle.pool.specs.declared.Space.{Space}
 use Rattle.plan.specs.Map as map
@@ -38,15 +41,8 @@ use Rattle.plan.specs.Rights.{write_execute}
 use Rattle.plan.specs.Unmap as unmap
 use Rattle.plan.specs.declared.maps.Asked.{Asked}
 use Rattle.plan.specs.declared.Reason.TheVariants.{WriteExecute}
-use Rattle.plan.specs.declared.unmaps.Removing.{Removing}
-use Rattle.plan.specs.declared.unmaps.Removing.TheVariants as removing
-use Rattle.plan.specs.declared.protects.Changing.{Changing}
-use Rattle.plan.specs.declared.protects.Changing.TheVariants as changing
 use Rattle.plan.proofs.Strictly.{map_strict, map_refuses, map_only, protect_strict, protect_refuses, protect_only, unmap_never}
 use Rattle.effect.specs.Whole.{Whole}
-use Rattle.tablepath.specs.declared.Mapped.TheVariants as mapped
-use Rattle.tablepath.specs.declared.Unmapped.TheVariants as unmapped
-use Rattle.tablepath.specs.declared.Protected.TheVariants as protected
 use Rattle.tablepath.specs.declared.Altered.{Altered}
 use Rattle.tablepath.specs.Answers.{create_answer, create_writes, map_answer, map_said, unmap_answer, unmap_said, protect_answer, protect_said}
 use Rattle.tablepath.specs.Calls.{means, Call, call_writes, Act, act_writes, wrote, Runs, UpTo, Reached}
@@ -67,28 +63,28 @@ use Rattle.tablepath.proofs.Nights.{night_facts, night_told_fresh, night_fresh, 
 -- For any bytes -----------------------------------------------------------------------------------------------------------------------
 
 -- an answer gives the reason of the decision
-map_told : (x : map.Placed) → map_said x ≡ mapped.Refused WriteExecute → x ≡ map.Refused WriteExecute
+map_told : (x : map.Placed) → map_said x ≡ Err WriteExecute → x ≡ map.Refused WriteExecute
 unfolding map_said
 map_told (map.Go p) e = let z : ◌≡◌ {A = ℕ} 0 1 = cc in absurd (omega arith)
 map_told (map.Refused y) e = let same : y ≡ WriteExecute = cc in ap map.Refused same
 
-unmap_told : (b : Book) (x : Removing) → unmap_said b x ≡ unmapped.Refused WriteExecute → x ≡ removing.Refused WriteExecute
+unmap_told : (b : Book) (x : Result Removal Reason) → unmap_said b x ≡ Err WriteExecute → x ≡ Err WriteExecute
 unfolding unmap_said
-unmap_told b (removing.Go r) e = let z : ◌≡◌ {A = ℕ} 0 1 = cc in absurd (omega arith)
-unmap_told b (removing.Refused y) e = let same : y ≡ WriteExecute = cc in ap removing.Refused same
+unmap_told b (Ok r) e = let z : ◌≡◌ {A = ℕ} 0 1 = cc in absurd (omega arith)
+unmap_told b (Err y) e = let same : y ≡ WriteExecute = cc in ap Err same
 
-protect_told : (x : Changing) → protect_said x ≡ protected.Refused WriteExecute → x ≡ changing.Refused WriteExecute
+protect_told : (x : Result Change Reason) → protect_said x ≡ Err WriteExecute → x ≡ Err WriteExecute
 unfolding protect_said
-protect_told (changing.Go c) e = let z : ◌≡◌ {A = ℕ} 0 1 = cc in absurd (omega arith)
-protect_told (changing.Refused y) e = let same : y ≡ WriteExecute = cc in ap changing.Refused same
+protect_told (Ok c) e = let z : ◌≡◌ {A = ℕ} 0 1 = cc in absurd (omega arith)
+protect_told (Err y) e = let same : y ≡ WriteExecute = cc in ap Err same
 
 module _ (h : ℕ → Bool) (m : ℕ → ℕ) (sp : Space) where
   -- where it is done, the rights that were asked are not both
-  pub map_given : (q : Asked) (k : ℕ) → map_answer h m sp q ≡ mapped.Done k → write_execute q.rights ≡ false
+  pub map_given : (q : Asked) (k : ℕ) → map_answer h m sp q ≡ Ok k → write_execute q.rights ≡ false
   unfolding map_answer
   map_given q k e = let f = map_done_by k (map.decide_of h m sp q) e in map_strict h m sp q f.0 f.1
 
-  pub protect_given : (va : ℕ) (r : Rights) (g : Altered) → protect_answer h m sp va r ≡ protected.Done g → write_execute r ≡ false
+  pub protect_given : (va : ℕ) (r : Rights) (g : Altered) → protect_answer h m sp va r ≡ Ok g → write_execute r ≡ false
   unfolding protect_answer
   protect_given va r g e = let f = protect_done_by g (protect.decide_of h m sp va r) e in (protect_strict h m sp va r f.0 f.1).0
 
@@ -134,7 +130,7 @@ module _ (h : ℕ → Bool) (sp : Space) where
     call_strict = subst (Strict h sp) (events_after m (call_writes h m sp c)) (all_last (events_of (call_writes h m sp c)) m (Strict h sp) moments_strict)
 
 -- CREATE LEAVES NONE
-pub create_strict : (s : List ℕ) (origin first pages p : ℕ) → create_answer s origin first pages ≡ created.Root p
+pub create_strict : (s : List ℕ) (origin first pages p : ℕ) → create_answer s origin first pages ≡ Ok p
     → StrictBytes (carried s origin (create_writes s origin first pages)) (new_space origin first pages)
 create_strict s origin first pages p e va = go (canonical va) refl
   where

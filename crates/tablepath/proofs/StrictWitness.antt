@@ -4,6 +4,7 @@ use Prim.Native.Nat.{ℕ}
 use mathlib.Core.Bool.{Bool, true≢false}
 use mathlib.Core.List.{List}
 use mathlib.Core.Path.{◌≡◌, refl, subst}
+use Rattle.std.proofs.Common.{Ok}
 use lib.ListN.{length}
 use Rattle.word.specs.Memory.{memory, holds}
 use Rattle.word.specs.Writes.{after}
@@ -14,7 +15,6 @@ use Rattle.plan.specs.Map as map
 use Rattle.plan.specs.Rights.{write_execute}
 use Rattle.plan.specs.Find.{find_of}
 use Rattle.plan.specs.declared.finding.PageEntry.{PageEntry}
-use Rattle.plan.specs.declared.finding.Sought.TheVariants as sought
 use Rattle.effect.specs.Whole.{Whole}
 use Rattle.effect.specs.StartsAt.{StartsAt}
 use Rattle.effect.proofs.ProtectDone.{regranted_done}
@@ -43,13 +43,13 @@ module _ (s : List ℕ) (e : length s ≡ 20480) where
       (call_strict window five (memory (bytes s) 0) (new_role five) (start s e) (calls.map page) (create_strict s 0 0 5 1 (made s e)))
 
   -- the page's entry
-  entry : (p : PageEntry) × (find_of window mapped five 0 ≡ sought.Found p)
+  entry : (p : PageEntry) × (find_of window mapped five 0 ≡ Ok p)
   entry = go (verdict (five_pages s e).1 0)
     where
       starts : StartsAt (setting_of window five) mapped 0
       starts = record { address = 0; size = 4096; frame = 1048576; rights = _; means = (five_pages s e).3 }
 
-      go : FindVerdict (five_pages s e).1 0 → (p : PageEntry) × (find_of window mapped five 0 ≡ sought.Found p)
+      go : FindVerdict (five_pages s e).1 0 → (p : PageEntry) × (find_of window mapped five 0 ≡ Ok p)
       go (there p f a) = (p, f)
       go (missing y f n) = absurd (nowhere (setting_of window five) mapped 0 y n starts)
 

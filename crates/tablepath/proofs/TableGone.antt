@@ -1,12 +1,18 @@
 -- A TABLE IS GONE when it was set aside, and a shootdown that began then is done: no walk and no cache, for any address, reads a word of its page,
 -- until a call links it. Statement: specs/Shown.antt, TableGone.
 use Prim.Native.Nat.{ℕ, ◌+◌, ◌-◌, ◌<◌, ◌≤◌}
+use Rattle.pool.specs.declared.NotDue.TheVariants as notdue
 use mathlib.Core.Bool.{Bool}
 use mathlib.Core.List.{List, [], ◌∷◌}
 use mathlib.Core.Logic.{◌⊎◌, inl, inr, ◌≢◌}
 use mathlib.Core.Path.{◌≡◌, refl, sym, ap, ◌∙◌, subst}
 use native.Mathlib.Decide.{dec_lt}
 use native.Mathlib.Omega.{arith}
+use Rattle.std.proofs.Common.{Result, Ok, Err}
+use Rattle.plan.specs.declared.Reason.{Reason}
+use Rattle.pool.specs.declared.NotDue.{NotDue}
+use Rattle.plan.specs.declared.unmaps.Removal.{Removal}
+use Rattle.plan.specs.declared.protects.Change.{Change}
 use Rattle.word.specs.Memory.{at}
 use Rattle.word.specs.Writes.{Write}
 use Rattle.word.specs.Writes as word
@@ -28,18 +34,12 @@ use Rattle.pool.specs.Book.{book_of, ticket_of, due_of, page_at}
 use Rattle.pool.specs.Booked.{setting_of, released}
 use Rattle.pool.specs.Changes.{release_writes}
 use Rattle.pool.specs.declared.Space.{Space}
-use Rattle.pool.specs.declared.Due.{Due}
-use Rattle.pool.specs.declared.Due.TheVariants as due
 use Rattle.pool.proofs.Releasing.{has_number}
 use Rattle.plan.specs.Map as map
 use Rattle.plan.specs.Unmap as unmap
 use Rattle.plan.specs.Protect as protect
 use Rattle.plan.specs.declared.maps.Asked.{Asked}
 use Rattle.plan.specs.Map.{Placed}
-use Rattle.plan.specs.declared.unmaps.Removing.{Removing}
-use Rattle.plan.specs.declared.unmaps.Removing.TheVariants as removing
-use Rattle.plan.specs.declared.protects.Changing.{Changing}
-use Rattle.plan.specs.declared.protects.Changing.TheVariants as changing
 use Rattle.effect.specs.Whole.{Whole}
 use Rattle.effect.specs.ToldDone.{ToldDone}
 use Rattle.effect.proofs.MapDone.{decided_done}
@@ -47,7 +47,6 @@ use Rattle.effect.proofs.UnmapDone.{unmapped}
 use Rattle.effect.proofs.ProtectDone.{protected}
 use Rattle.effect.proofs.ToldDone as effect
 use Rattle.effect.proofs.Wholes.{book_opens}
-use Rattle.tablepath.specs.declared.Mapped.TheVariants as mapped
 use Rattle.tablepath.specs.Answers.{map_answer, map_writes, unmap_writes, protect_writes, told_writes, told_did, due_did}
 use Rattle.tablepath.specs.Calls.{Call, call_writes, Saw, Act, act_writes, wrote, Runs, UpTo}
 use Rattle.tablepath.specs.Calls as calls
@@ -106,17 +105,17 @@ module _ (h : ℕ → Bool) (sp : Space) (t : ℕ) where
         idle x i (inl f) = ap left f ∙ spare_left role s
         idle x i (inr f) = ap left (f ∙ e) ∙ spare_left role s
 
-    map_leaves : (q : Asked) (x : Placed) → map.decide_of h m sp q ≡ x → ((k j : ℕ) → map_answer h m sp q ≡ mapped.Done k → j < k → page_at m sp j ≢ t) → LeavesIt m (map.did_of sp x)
+    map_leaves : (q : Asked) (x : Placed) → map.decide_of h m sp q ≡ x → ((k j : ℕ) → map_answer h m sp q ≡ Ok k → j < k → page_at m sp j ≢ t) → LeavesIt m (map.did_of sp x)
     unfolding map.did_of
     map_leaves q (map.Refused r) e spares = leaves_none
     map_leaves q (map.Go p) e spares =
         let d = decided_done w q p e in
         changed_leaves q.base p.target _ d.role' (map.writes_of sp p) d.changed d.whole (d.taken.stays t (λ j u f. spares p.fresh.need j (map_goes h m sp q p e) u f))
 
-    unmap_leaves : (va : ℕ) (x : Removing) → unmap.decide_of h m sp va ≡ x → LeavesIt m (unmap.did_of sp va x)
+    unmap_leaves : (va : ℕ) (x : Result Removal Reason) → unmap.decide_of h m sp va ≡ x → LeavesIt m (unmap.did_of sp va x)
     unfolding unmap.did_of
-    unmap_leaves va (removing.Refused y) e = leaves_none
-    unmap_leaves va (removing.Go r) e =
+    unmap_leaves va (Err y) e = leaves_none
+    unmap_leaves va (Ok r) e =
         let d = unmapped w va r e in
         changed_leaves va r.page.way.level _ d.role' (unmap.writes_of sp va r) d.changed d.whole (elim (d.fate t) [ inl f ↦ f | inr f ↦ absurd (no_table s f.levels f.parent f.index f.was) ])
       where
@@ -124,16 +123,16 @@ module _ (h : ℕ → Bool) (sp : Space) (t : ℕ) where
         no_table (inl f) l q i g = let z : ◌≡◌ {A = ℕ} 0 1 = cc in omega arith
         no_table (inr f) l q i g = let z : ◌≡◌ {A = ℕ} 0 1 = cc in omega arith
 
-    protect_leaves : (va : ℕ) (g : Rights) (x : Changing) → protect.decide_of h m sp va g ≡ x → LeavesIt m (protect.did_of x)
+    protect_leaves : (va : ℕ) (g : Rights) (x : Result Change Reason) → protect.decide_of h m sp va g ≡ x → LeavesIt m (protect.did_of x)
     unfolding protect.did_of
-    protect_leaves va g (changing.Refused y) e = leaves_none
-    protect_leaves va g (changing.Go c) e = let d = protected w va g c e in changed_leaves va d.level _ role (protect.writes_of c) d.changed d.whole refl
+    protect_leaves va g (Err y) e = leaves_none
+    protect_leaves va g (Ok c) e = let d = protected w va g c e in changed_leaves va d.level _ role (protect.writes_of c) d.changed d.whole refl
 
-    due_leaves : (n : ℕ) (x : Due) → due_of (book_of m sp) n ≡ x → LeavesIt m (due_did sp (book_of m sp) x)
+    due_leaves : (n : ℕ) (x : Result ℕ NotDue) → due_of (book_of m sp) n ≡ x → LeavesIt m (due_did sp (book_of m sp) x)
     unfolding due_did
-    due_leaves n due.Unknown e = leaves_none
-    due_leaves n due.Spent e = leaves_none
-    due_leaves n (due.Pages k) e = record {
+    due_leaves n (Err notdue.Unknown) e = leaves_none
+    due_leaves n (Err notdue.Spent) e = leaves_none
+    due_leaves n (Ok k) e = record {
       role = released m sp k role;
       whole = d.whole;
       spare = go s;
@@ -154,7 +153,7 @@ module _ (h : ℕ → Bool) (sp : Space) (t : ℕ) where
     unfolding told_writes told_did
     told_leaves n = rw (book_opens w) (due_leaves n (due_of (book_of m sp) n) refl)
 
-    plan_leaves : (c : Call) → ((q : Asked) (k j : ℕ) → c ≡ calls.map q → map_answer h m sp q ≡ mapped.Done k → j < k → page_at m sp j ≢ t) → LeavesIt m (call_writes h m sp c)
+    plan_leaves : (c : Call) → ((q : Asked) (k j : ℕ) → c ≡ calls.map q → map_answer h m sp q ≡ Ok k → j < k → page_at m sp j ≢ t) → LeavesIt m (call_writes h m sp c)
     unfolding call_writes map_writes unmap_writes protect_writes
     plan_leaves (calls.map q) spares = map_leaves q (map.decide_of h m sp q) refl (λ k j. spares q k j refl)
     plan_leaves (calls.unmap va) spares = unmap_leaves va (unmap.decide_of h m sp va) refl

@@ -3,6 +3,7 @@ use Prim.Native.Nat.{ℕ, ◌^◌, ◌≤◌}
 use mathlib.Core.List.{List}
 use mathlib.Core.Path.{◌≡◌}
 use native.Mathlib.Omega.{arith}
+use Rattle.std.proofs.Common.{Ok}
 use Rattle.word.specs.Memory.{memory, holds}
 use Rattle.word.specs.Writes.{after, carried}
 use Rattle.word.proofs.Writes.{holds_carried, memory_carried}
@@ -13,7 +14,6 @@ use Rattle.tablepath.specs.Answers.{unmap_answer, unmap_writes}
 use Rattle.tablepath.specs.Calls.{call_writes}
 use Rattle.tablepath.specs.Calls as calls
 use Rattle.tablepath.specs.Says.{UnmapGone}
-use Rattle.tablepath.specs.declared.Unmapped.TheVariants as unmapped
 use Rattle.tablepath.specs.declared.Gone.{Gone}
 use Rattle.tablepath.proofs.Says.{unmap_says}
 use Rattle.tablepath.specs.Looks.{in_window, WholeBytes}
@@ -21,7 +21,7 @@ use Rattle.tablepath.specs.Tickets.{Reports}
 use Rattle.tablepath.proofs.Wholes.{call_leaves}
 
 module _ (s : List ℕ) (sp : Space) (role : ℕ → Role) (w : WholeBytes s sp role) (base : ℕ) (g : Gone)
-    (done : in_window s sp.origin unmap_answer sp base ≡ unmapped.Done g) (early : g.ticket ≤ 2 ^ 62) where
+    (done : in_window s sp.origin unmap_answer sp base ≡ Ok g) (early : g.ticket ≤ 2 ^ 62) where
   -- the memory after it
   abbrev now : ℕ → ℕ
   now = after (memory s sp.origin) (in_window s sp.origin unmap_writes sp base)

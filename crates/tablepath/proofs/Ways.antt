@@ -1,11 +1,17 @@
 -- WHAT EACH CALL DOES TO THE WAYS OF WALKS: a table that a walk comes to at some moment of a call, it comes to at the call's end; or the call
 -- unmapped a page, and set the table aside, whose addresses share the walk's prefix.
 use Prim.Native.Nat.{ℕ, ◌<◌, ◌≤◌}
+use Rattle.pool.specs.declared.NotDue.TheVariants as notdue
 use mathlib.Core.Bool.{Bool}
 use mathlib.Core.List.{List, []}
 use mathlib.Core.Logic.{◌⊎◌, inl, inr, ◌≢◌}
 use mathlib.Core.Path.{◌≡◌, refl, sym, ap, ◌∙◌, subst}
 use native.Mathlib.Omega.{arith}
+use Rattle.std.proofs.Common.{Result, Ok, Err}
+use Rattle.plan.specs.declared.Reason.{Reason}
+use Rattle.pool.specs.declared.NotDue.{NotDue}
+use Rattle.plan.specs.declared.unmaps.Removal.{Removal}
+use Rattle.plan.specs.declared.protects.Change.{Change}
 use Rattle.word.specs.Writes.{Write}
 use Rattle.word.specs.Writes as word
 use Rattle.entry.specs.Entry.{everything}
@@ -29,17 +35,11 @@ use Rattle.pool.specs.Book.{book_of, ticket_of, due_of}
 use Rattle.pool.specs.Booked.{setting_of}
 use Rattle.pool.specs.Changes.{release_writes}
 use Rattle.pool.specs.declared.Space.{Space}
-use Rattle.pool.specs.declared.Due.{Due}
-use Rattle.pool.specs.declared.Due.TheVariants as due
 use Rattle.plan.specs.Map as map
 use Rattle.plan.specs.Unmap as unmap
 use Rattle.plan.specs.Protect as protect
 use Rattle.plan.specs.declared.maps.Asked.{Asked}
 use Rattle.plan.specs.Map.{Placed}
-use Rattle.plan.specs.declared.unmaps.Removing.{Removing}
-use Rattle.plan.specs.declared.unmaps.Removing.TheVariants as removing
-use Rattle.plan.specs.declared.protects.Changing.{Changing}
-use Rattle.plan.specs.declared.protects.Changing.TheVariants as changing
 use Rattle.effect.specs.Whole.{Whole}
 use Rattle.effect.specs.UnmapDone.{UnmapDone}
 use Rattle.effect.proofs.MapDone.{decided_done}
@@ -144,11 +144,11 @@ module _ (h : ℕ → Bool) (sp : Space) where
         changed_ways (calls.map q) q.base p.target d.role' (map.writes_of sp p) d.changed
         (λ t live. inl (d.taken.stays t (λ j u f. live (ap left (ap role (sym f) ∙ w.booked.lists.frees j (omega (arith, d.fewer)))))))
 
-    unmap_ways : (va : ℕ) (x : Removing) → unmap.decide_of h m sp va ≡ x
+    unmap_ways : (va : ℕ) (x : Result Removal Reason) → unmap.decide_of h m sp va ≡ x
         → All m (events_of (unmap.did_of sp va x)) (WaysTo (calls.unmap va) m (after m (events_of (unmap.did_of sp va x))))
     unfolding unmap.did_of Unmaps
-    unmap_ways va (removing.Refused y) e = ways_none (calls.unmap va) m
-    unmap_ways va (removing.Go r) e =
+    unmap_ways va (Err y) e = ways_none (calls.unmap va) m
+    unmap_ways va (Ok r) e =
         let d = unmapped w va r e in
         let g = unmap_goes h m sp va r e in
         let hit : Unmaps h sp (calls.unmap va) m va = (g.0, g.1, omega arith, omega (arith, g.2, d.size_is, size_pos r.page.way.level)) in
@@ -161,20 +161,20 @@ module _ (h : ℕ → Bool) (sp : Space) where
         go d hit p (inr f) (inl g) = inl g
         go d hit p (inr f) (inr g) = inr (f, hit, g)
 
-    protect_ways : (va : ℕ) (g : Rights) (x : Changing) → protect.decide_of h m sp va g ≡ x
+    protect_ways : (va : ℕ) (g : Rights) (x : Result Change Reason) → protect.decide_of h m sp va g ≡ x
         → All m (events_of (protect.did_of x)) (WaysTo (calls.protect va g) m (after m (events_of (protect.did_of x))))
     unfolding protect.did_of
-    protect_ways va g (changing.Refused y) e = ways_none (calls.protect va g) m
-    protect_ways va g (changing.Go c) e =
+    protect_ways va g (Err y) e = ways_none (calls.protect va g) m
+    protect_ways va g (Ok c) e =
         let d = protected w va g c e in
         changed_ways (calls.protect va g) va d.level role (protect.writes_of c) d.changed (λ p live. inl refl)
 
     -- told writes the book alone
-    due_ways : (t : ℕ) (x : Due) → All m (events_of (due_did sp (book_of m sp) x)) (WaysTo (calls.told t) m (after m (events_of (due_did sp (book_of m sp) x))))
+    due_ways : (t : ℕ) (x : Result ℕ NotDue) → All m (events_of (due_did sp (book_of m sp) x)) (WaysTo (calls.told t) m (after m (events_of (due_did sp (book_of m sp) x))))
     unfolding due_did
-    due_ways t due.Unknown = ways_none (calls.told t) m
-    due_ways t due.Spent = ways_none (calls.told t) m
-    due_ways t (due.Pages k) =
+    due_ways t (Err notdue.Unknown) = ways_none (calls.told t) m
+    due_ways t (Err notdue.Spent) = ways_none (calls.told t) m
+    due_ways t (Ok k) =
         all_map es m (λ x. Built (setting_of h sp) x role) (WaysTo (calls.told t) m (after m es))
         (λ x b va n p c. inl (table_stays b end (λ q a z. refl) c (λ z. comes_some c (sym (comes_left b c) ∙ z)))) moments
       where

@@ -1,9 +1,16 @@
 -- What holds between operations, of the bytes: create establishes it, and every call keeps it.
 use Prim.Native.Nat.{ℕ, ◌+◌, ◌%◌}
+use Rattle.pool.specs.declared.NotDue.TheVariants as notdue
 use mathlib.Core.Bool.{Bool, true, false, cond}
 use mathlib.Core.List.{List, []}
 use mathlib.Core.Path.{◌≡◌, refl}
 use native.Mathlib.Omega.{arith}
+use Rattle.std.proofs.Common.{Result, Ok, Err}
+use Rattle.plan.specs.declared.Reason.{Reason as PlanReason}
+use Rattle.pool.specs.declared.Reason.{Reason}
+use Rattle.pool.specs.declared.NotDue.{NotDue}
+use Rattle.plan.specs.declared.unmaps.Removal.{Removal}
+use Rattle.plan.specs.declared.protects.Change.{Change}
 use lib.Dec.{eqb}
 use lib.ListN.{length}
 use Rattle.word.specs.Memory.{memory, holds}
@@ -16,11 +23,6 @@ use Rattle.pool.specs.Book.{book_of, room_of, in_pool, rooted_in, due_of}
 use Rattle.pool.specs.Booked.{new_role}
 use Rattle.pool.specs.Create.{created_of, created_in, create_writes, new_space, may_create}
 use Rattle.pool.specs.Stands.{stands_of}
-use Rattle.pool.specs.declared.Created.TheVariants as created
-use Rattle.pool.specs.declared.Due.{Due}
-use Rattle.pool.specs.declared.Due.TheVariants as due
-use Rattle.pool.specs.declared.Fit.{Fit}
-use Rattle.pool.specs.declared.Fit.TheVariants.{Fits, Refused}
 use Rattle.pool.specs.declared.Reason.TheVariants.{OriginUnaligned, LengthUnaligned}
 use Rattle.pool.specs.declared.Space.{Space}
 use Rattle.pool.proofs.Counting.{in_pool_lem}
@@ -31,10 +33,6 @@ use Rattle.plan.specs.Unmap as unmap
 use Rattle.plan.specs.Protect as protect
 use Rattle.plan.specs.declared.maps.Asked.{Asked}
 use Rattle.plan.specs.Map.{Placed}
-use Rattle.plan.specs.declared.unmaps.Removing.{Removing}
-use Rattle.plan.specs.declared.unmaps.Removing.TheVariants as removing
-use Rattle.plan.specs.declared.protects.Changing.{Changing}
-use Rattle.plan.specs.declared.protects.Changing.TheVariants as changing
 use Rattle.effect.specs.Whole.{Whole}
 use Rattle.effect.proofs.Wholes.{book_opens, every_held}
 use Rattle.effect.proofs.MapDone.{decided_done}
@@ -49,22 +47,22 @@ use Rattle.tablepath.specs.Looks.{WholeBytes}
 -- Create ------------------------------------------------------------------------------------------------------------------------
 
 module _ (s : List ℕ) (origin first pages : ℕ) where
-  may_room : may_create (length s) (holds s origin) origin first pages ≡ Fits → room_of (holds s origin) first pages ≡ Fits
+  may_room : may_create (length s) (holds s origin) origin first pages ≡ Ok tt → room_of (holds s origin) first pages ≡ Ok tt
   unfolding may_create
   may_room e = go (eqb (origin % 4096) 0) (eqb (length s % 4096) 0) e
     where
-      go : (a b : Bool) → cond a (cond b (room_of (holds s origin) first pages) (Refused LengthUnaligned)) (Refused OriginUnaligned) ≡ Fits → room_of (holds s origin) first pages ≡ Fits
+      go : (a b : Bool) → cond a (cond b (room_of (holds s origin) first pages) (Err LengthUnaligned)) (Err OriginUnaligned) ≡ Ok tt → room_of (holds s origin) first pages ≡ Ok tt
       go true true k = k
       go true false k = let z : ◌≡◌ {A = ℕ} 0 1 = cc in absurd (omega arith)
       go false b k = let z : ◌≡◌ {A = ℕ} 0 1 = cc in absurd (omega arith)
 
-  root_may : (p : ℕ) (x : Fit) → created_in first pages x ≡ created.Root p → x ≡ Fits
+  root_may : (p : ℕ) (x : Result (Unit {0}) Reason) → created_in first pages x ≡ Ok p → x ≡ Ok tt
   unfolding created_in
-  root_may p Fits e = refl
-  root_may p (Refused r) e = let z : ◌≡◌ {A = ℕ} 0 1 = cc in absurd (omega arith)
+  root_may p (Ok tt) e = refl
+  root_may p (Err r) e = let z : ◌≡◌ {A = ℕ} 0 1 = cc in absurd (omega arith)
 
   -- CREATE ESTABLISHES IT: where it answers a root, the space is whole, with every page behind the root free.
-  pub create_whole : (p : ℕ) → created_of (length s) (holds s origin) origin first pages ≡ created.Root p
+  pub create_whole : (p : ℕ) → created_of (length s) (holds s origin) origin first pages ≡ Ok p
       → (p ≡ first + book_pages pages)
       × WholeBytes (carried s origin (create_writes (length s) (holds s origin) origin first pages)) (new_space origin first pages) (new_role (new_space origin first pages))
   unfolding created_of stands_of rooted_in
@@ -100,21 +98,21 @@ module _ (h : ℕ → Bool) (sp : Space) (m : ℕ → ℕ) (role : ℕ → Role)
   map_leaves q (map.Refused r) e = none_leaves
   map_leaves q (map.Go p) e = let d = decided_done w q p e in ((d.role', d.whole), every_map (λ x u. u.held) (map.writes_of sp p) d.proper)
 
-  unmap_leaves : (va : ℕ) (x : Removing) → unmap.decide_of h m sp va ≡ x → Leaves (unmap.did_of sp va x)
+  unmap_leaves : (va : ℕ) (x : Result Removal PlanReason) → unmap.decide_of h m sp va ≡ x → Leaves (unmap.did_of sp va x)
   unfolding unmap.did_of
-  unmap_leaves va (removing.Refused y) e = none_leaves
-  unmap_leaves va (removing.Go r) e = let d = unmapped w va r e in ((d.role', d.whole), every_held w (unmap.writes_of sp va r) d.proper)
+  unmap_leaves va (Err y) e = none_leaves
+  unmap_leaves va (Ok r) e = let d = unmapped w va r e in ((d.role', d.whole), every_held w (unmap.writes_of sp va r) d.proper)
 
-  protect_leaves : (va : ℕ) (g : Rights) (x : Changing) → protect.decide_of h m sp va g ≡ x → Leaves (protect.did_of x)
+  protect_leaves : (va : ℕ) (g : Rights) (x : Result Change PlanReason) → protect.decide_of h m sp va g ≡ x → Leaves (protect.did_of x)
   unfolding protect.did_of
-  protect_leaves va g (changing.Refused y) e = none_leaves
-  protect_leaves va g (changing.Go c) e = let d = protected w va g c e in ((role, d.whole), every_held w (protect.writes_of c) d.proper)
+  protect_leaves va g (Err y) e = none_leaves
+  protect_leaves va g (Ok c) e = let d = protected w va g c e in ((role, d.whole), every_held w (protect.writes_of c) d.proper)
 
-  due_leaves : (t : ℕ) (x : Due) → due_of (book_of m sp) t ≡ x → Leaves (due_did sp (book_of m sp) x)
+  due_leaves : (t : ℕ) (x : Result ℕ NotDue) → due_of (book_of m sp) t ≡ x → Leaves (due_did sp (book_of m sp) x)
   unfolding due_did
-  due_leaves t due.Unknown e = none_leaves
-  due_leaves t due.Spent e = none_leaves
-  due_leaves t (due.Pages k) e = let d = effect.told w t k e in ((_, d.whole), every_held w _ d.proper)
+  due_leaves t (Err notdue.Unknown) e = none_leaves
+  due_leaves t (Err notdue.Spent) e = none_leaves
+  due_leaves t (Ok k) e = let d = effect.told w t k e in ((_, d.whole), every_held w _ d.proper)
 
   pub call_leaves : (c : Call) → Leaves (call_writes h m sp c)
   unfolding call_writes map_writes unmap_writes protect_writes told_writes told_did

@@ -7,6 +7,7 @@ use mathlib.Core.Logic.{◌⊎◌, inl, inr, ◌≢◌}
 use mathlib.Core.Path.{◌≡◌, refl, sym, ◌∙◌, subst}
 use native.Mathlib.Decide.{ℕ_discrete}
 use native.Mathlib.Omega.{arith}
+use Rattle.std.proofs.Common.{Ok}
 use lib.Dec.{eqb, leb, ltb}
 use lib.ListN.{length}
 use Rattle.word.specs.Memory.{memory, holds}
@@ -29,7 +30,6 @@ use Rattle.pool.specs.Layout.{book_pages}
 use Rattle.pool.specs.Book.{book_of, page_at, room_of}
 use Rattle.pool.specs.Booked.{setting_of, new_role, tables_of, how_many}
 use Rattle.pool.specs.Create.{created_of, created_in, may_create}
-use Rattle.pool.specs.declared.Created.TheVariants as created
 use Rattle.pool.specs.declared.Space.{Space}
 use Rattle.pool.proofs.Words.{small_book}
 use Rattle.pool.proofs.Pages.{adds_up}
@@ -114,7 +114,7 @@ pub one_page : book_pages 5 ≡ 1
 one_page = small_book 5 (omega arith)
 
 module _ (s : List ℕ) (e : length s ≡ 20480) where
-  pub made : created_of (length s) (holds s 0) 0 0 5 ≡ created.Root 1
+  pub made : created_of (length s) (holds s 0) 0 0 5 ≡ Ok 1
   unfolding created_of created_in may_create room_of holds
   made = rw (e, one_page, one_page)
 

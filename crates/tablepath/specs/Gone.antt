@@ -1,5 +1,5 @@
 -- WHAT THE CALLS OF A NIGHT SAY, by their own answers, of a frame, of an address, and of a table's page.
-use Rattle.std.specs.Prelude.{ℕ, ◌+◌, ◌<◌, ◌≤◌, Bool, List, [], ◌∷◌, ◌++◌, ◌⊎◌, ◌≡◌}
+use Rattle.std.specs.Prelude.{ℕ, ◌+◌, ◌<◌, ◌≤◌, Bool, List, [], ◌∷◌, ◌++◌, ◌⊎◌, ◌≡◌, Ok}
 use Rattle.entry.specs.declared.Rights.{Rights}
 use Rattle.walk.specs.declared.Found.{Found}
 use Rattle.walk.specs.declared.Found.TheVariants.{Page}
@@ -7,7 +7,6 @@ use Rattle.pool.specs.Book.{book_of, page_at}
 use Rattle.pool.specs.declared.Space.{Space}
 use Rattle.plan.specs.declared.maps.Asked.{Asked}
 use Rattle.tablepath.specs.Answers.{map_answer}
-use Rattle.tablepath.specs.declared.Mapped.TheVariants as mapped
 use Rattle.tablepath.specs.Calls.{means, map, unmap, Act}
 use Rattle.tablepath.specs.Nights.{Night, dusk, calls, happens, begins, done, uncovered, Hit, Hits}
 
@@ -41,7 +40,7 @@ module _ (h : ℕ → Bool) (sp : Space) (f s : ℕ) where
     pub asked : Asked
     pub is_map : a.call ≡ map asked
     pub tables : ℕ
-    pub is_done : map_answer h a.saw sp asked ≡ mapped.Done tables
+    pub is_done : map_answer h a.saw sp asked ≡ Ok tables
     pub at_base : asked.base ≡ b
     pub begins_before : asked.frame < f + s
     pub ends_behind : f < asked.frame + asked.size
@@ -57,7 +56,7 @@ module _ (h : ℕ → Bool) (sp : Space) (f s : ℕ) where
 pub record MapsTo (h : ℕ → Bool) (sp : Space) (q : Asked) (va : ℕ) (a : Act) : Type 0 where
   pub is_map : a.call ≡ map q
   pub tables : ℕ
-  pub is_done : map_answer h a.saw sp q ≡ mapped.Done tables
+  pub is_done : map_answer h a.saw sp q ≡ Ok tables
   pub from : q.base ≤ va
   pub upto : va < q.base + q.size
 
@@ -85,7 +84,7 @@ pub record Links (h : ℕ → Bool) (sp : Space) (t : ℕ) (a : Act) : Type 0 wh
   pub asked : Asked
   pub is_map : a.call ≡ map asked
   pub tables : ℕ
-  pub is_done : map_answer h a.saw sp asked ≡ mapped.Done tables
+  pub is_done : map_answer h a.saw sp asked ≡ Ok tables
   pub number : ℕ
   pub taken : number < tables
   pub is_page : page_at a.saw sp number ≡ t

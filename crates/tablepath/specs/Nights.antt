@@ -1,5 +1,5 @@
 -- A NIGHT: calls, shootdowns and reports, one after the other and without end, beside walks, caches, store buffers, marks and other programs.
-use Rattle.std.specs.Prelude.{ℕ, ◌+◌, ◌*◌, ◌<◌, ◌≤◌, Bool, List, [], ◌∷◌, ◌++◌, ◌⊎◌, ◌≡◌}
+use Rattle.std.specs.Prelude.{ℕ, ◌+◌, ◌*◌, ◌<◌, ◌≤◌, Bool, List, [], ◌∷◌, ◌++◌, ◌⊎◌, ◌≡◌, Ok}
 use Rattle.entry.specs.Entry.{everything}
 use Rattle.entry.specs.declared.Entry.{Entry}
 use Rattle.entry.specs.declared.Rights.{Rights}
@@ -19,9 +19,7 @@ use Rattle.pool.specs.Booked.{setting_of}
 use Rattle.pool.specs.declared.Space.{Space}
 use Rattle.effect.specs.Whole.{Whole}
 use Rattle.tablepath.specs.Answers.{unmap_answer, protect_answer}
-use Rattle.tablepath.specs.declared.Unmapped.TheVariants as unmapped
 use Rattle.tablepath.specs.declared.Gone.{Gone}
-use Rattle.tablepath.specs.declared.Protected.TheVariants as protected
 use Rattle.tablepath.specs.declared.Altered.{Altered}
 use Rattle.tablepath.specs.Calls.{Call, map, unmap, protect, told, Within, PoolWord, Remarked, Saw, Act, act_writes}
 
@@ -155,7 +153,7 @@ module _ (h : ℕ → Bool) (sp : Space) where
   -- va lies in a page that the call unmapped, by its own answer
   unfoldable pub Unmaps : Call → (ℕ → ℕ) → ℕ → Type 0
   Unmaps (map q) s va = ⊥
-  Unmaps (unmap b) s va = (g : Gone) × (unmap_answer h s sp b ≡ unmapped.Done g) × (b ≤ va) × (va < b + g.size)
+  Unmaps (unmap b) s va = (g : Gone) × (unmap_answer h s sp b ≡ Ok g) × (b ≤ va) × (va < b + g.size)
   Unmaps (protect b r) s va = ⊥
   Unmaps (told t) s va = ⊥
 
@@ -163,7 +161,7 @@ module _ (h : ℕ → Bool) (sp : Space) where
   unfoldable pub Protects : Call → (ℕ → ℕ) → ℕ → Type 0
   Protects (map q) s va = ⊥
   Protects (unmap b) s va = ⊥
-  Protects (protect b r) s va = (g : Altered) × (protect_answer h s sp b r ≡ protected.Done g) × (b ≤ va) × (va < b + g.size)
+  Protects (protect b r) s va = (g : Altered) × (protect_answer h s sp b r ≡ Ok g) × (b ≤ va) × (va < b + g.size)
   Protects (told t) s va = ⊥
 
   abbrev pub Hit : Call → (ℕ → ℕ) → ℕ → Type 0

@@ -1,5 +1,7 @@
 -- WHAT THE ANSWERS SAY: of map, unmap, protect, told and look-up in a space that is whole, over any memory; of create and of every refusal, for any bytes.
-use Rattle.std.specs.Prelude.{ℕ, ◌+◌, ◌%◌, ◌^◌, ◌<◌, ◌≤◌, Bool, true, false, List, ◌↔◌, ◌⊎◌, ◌≢◌, ◌≡◌, length}
+use Rattle.std.specs.Prelude.{ℕ, ◌+◌, ◌%◌, ◌^◌, ◌<◌, ◌≤◌, Bool, true, false, List, ◌↔◌, ◌⊎◌, ◌≢◌, ◌≡◌, length, Result, Ok, Err}
+use Rattle.tablepath.specs.declared.NotReleased.TheVariants as notreleased
+use Rattle.tablepath.specs.declared.NotReleased.{NotReleased}
 use Rattle.word.specs.Memory.{holds}
 use Rattle.word.specs.Writes.{carried}
 use Rattle.entry.specs.Kept.{SameButRights}
@@ -14,10 +16,6 @@ use Rattle.pool.specs.Booked.{setting_of, Taken, Numbered, tables_of, new_role}
 use Rattle.pool.specs.Create.{new_space}
 use Rattle.pool.specs.declared.Space.{Space}
 use Rattle.pool.specs.declared.Book.{Book}
-use Rattle.pool.specs.declared.Opened.TheVariants as opened
-use Rattle.pool.specs.declared.Due.TheVariants as due
-use Rattle.pool.specs.declared.Created.{Created}
-use Rattle.pool.specs.declared.Created.TheVariants as created
 use Rattle.pool.specs.declared.Reason.{Reason as PoolReason}
 use Rattle.pool.specs.declared.Reason.TheVariants.{OriginUnaligned, LengthUnaligned, PoolLarge, PoolSmall, PoolOutside}
 use Rattle.plan.specs.declared.Reason.{Reason}
@@ -28,16 +26,8 @@ use Rattle.effect.specs.MapDone.{Fitted, Misses}
 use Rattle.effect.specs.MapRefused.{Cause}
 use Rattle.effect.specs.StartsAt.{StartsAt, NotThere, NotProtected}
 use Rattle.effect.specs.UnmapDone.{SetAside}
-use Rattle.tablepath.specs.declared.Mapped.{Mapped}
-use Rattle.tablepath.specs.declared.Mapped.TheVariants as mapped
 use Rattle.tablepath.specs.declared.Gone.{Gone}
-use Rattle.tablepath.specs.declared.Unmapped.{Unmapped}
-use Rattle.tablepath.specs.declared.Unmapped.TheVariants as unmapped
 use Rattle.tablepath.specs.declared.Altered.{Altered}
-use Rattle.tablepath.specs.declared.Protected.{Protected}
-use Rattle.tablepath.specs.declared.Protected.TheVariants as protected
-use Rattle.tablepath.specs.declared.Report.{Report}
-use Rattle.tablepath.specs.declared.Report.TheVariants as told
 use Rattle.tablepath.specs.Answers.{create_answer, create_writes, map_answer, map_writes, unmap_answer, unmap_writes, protect_answer, protect_writes, told_answer, told_writes}
 use Rattle.tablepath.specs.Calls.{means}
 use Rattle.tablepath.specs.Looks.{in_window, look_up, In, WholeBytes}
@@ -73,13 +63,13 @@ module _ (h h' : ℕ → Bool) (sp : Space) (m m' : ℕ → ℕ) (role : ℕ →
     -- at most three
     pub few : k ≤ 3
 
-  pub record MapSays (q : Asked) (r : Mapped) : Type 0 where
+  pub record MapSays (q : Asked) (r : Result ℕ Reason) : Type 0 where
     -- it refuses for a reason exactly where the cause of that reason holds
-    pub refused : (y : Reason) → (r ≡ mapped.Refused y) ↔ Cause h sp m q y
+    pub refused : (y : Reason) → (r ≡ Err y) ↔ Cause h sp m q y
     -- it is done exactly where there is no cause
-    pub done : ((k : ℕ) × (r ≡ mapped.Done k)) ↔ ((y : Reason) → ¬ Cause h sp m q y)
+    pub done : ((k : ℕ) × (r ≡ Ok k)) ↔ ((y : Reason) → ¬ Cause h sp m q y)
     -- and what it answers then is the number of tables that were made
-    pub made : (k : ℕ) → r ≡ mapped.Done k → MapMade q k
+    pub made : (k : ℕ) → r ≡ Ok k → MapMade q k
 
   -- Unmap ----------------------------------------------------------------------------------------------------------------------
 
@@ -103,15 +93,15 @@ module _ (h h' : ℕ → Bool) (sp : Space) (m m' : ℕ → ℕ) (role : ℕ →
     -- the ticket is that of the moment after it
     pub ticket : g.ticket ≡ ticket_of (book_of m' sp)
     -- reported, it releases all that is set aside until then, exactly while tickets are left
-    pub releases : (told_answer h' m' sp g.ticket ≡ told.Released (book_of m' sp).aside) ↔ (g.ticket ≤ 2 ^ 62)
+    pub releases : (told_answer h' m' sp g.ticket ≡ Ok (book_of m' sp).aside) ↔ (g.ticket ≤ 2 ^ 62)
 
-  pub record UnmapSays (va : ℕ) (r : Unmapped) : Type 0 where
+  pub record UnmapSays (va : ℕ) (r : Result Gone Reason) : Type 0 where
     -- it refuses exactly where no page is found: va is no address, or none starts there
-    pub refused : (y : Reason) → (r ≡ unmapped.Refused y) ↔ NotThere (setting_of h sp) m va y
+    pub refused : (y : Reason) → (r ≡ Err y) ↔ NotThere (setting_of h sp) m va y
     -- it is done exactly where one starts
-    pub done : ((g : Gone) × (r ≡ unmapped.Done g)) ↔ StartsAt (setting_of h sp) m va
+    pub done : ((g : Gone) × (r ≡ Ok g)) ↔ StartsAt (setting_of h sp) m va
     -- and what it answers then is so
-    pub gone : (g : Gone) → r ≡ unmapped.Done g → UnmapGone va g
+    pub gone : (g : Gone) → r ≡ Ok g → UnmapGone va g
 
   -- Protect --------------------------------------------------------------------------------------------------------------------
 
@@ -129,13 +119,13 @@ module _ (h h' : ℕ → Bool) (sp : Space) (m m' : ℕ → ℕ) (role : ℕ →
     -- the ticket is that of the moment after it, which is that of the moment before
     pub ticket : (g.ticket ≡ ticket_of (book_of m' sp)) × (g.ticket ≡ ticket_of (book_of m sp))
 
-  pub record ProtectSays (va : ℕ) (rights : Rights) (r : Protected) : Type 0 where
+  pub record ProtectSays (va : ℕ) (rights : Rights) (r : Result Altered Reason) : Type 0 where
     -- it refuses exactly where the page would be writable and executable, and then, as unmap, where none is found
-    pub refused : (y : Reason) → (r ≡ protected.Refused y) ↔ NotProtected (setting_of h sp) m va rights y
+    pub refused : (y : Reason) → (r ≡ Err y) ↔ NotProtected (setting_of h sp) m va rights y
     -- it is done exactly where one starts and it would not
-    pub done : ((g : Altered) × (r ≡ protected.Done g)) ↔ ((write_execute rights ≡ false) × StartsAt (setting_of h sp) m va)
+    pub done : ((g : Altered) × (r ≡ Ok g)) ↔ ((write_execute rights ≡ false) × StartsAt (setting_of h sp) m va)
     -- and what it answers then is so
-    pub same : (g : Altered) → r ≡ protected.Done g → ProtectSame va rights g
+    pub same : (g : Altered) → r ≡ Ok g → ProtectSame va rights g
 
   -- Told -----------------------------------------------------------------------------------------------------------------------
 
@@ -156,19 +146,19 @@ module _ (h h' : ℕ → Bool) (sp : Space) (m m' : ℕ → ℕ) (role : ℕ →
     -- and no other page has another role
     pub others : (p : ℕ) → role p ≢ aside → role' p ≡ role p
 
-  pub record ToldSays (t : ℕ) (r : Report) : Type 0 where
+  pub record ToldSays (t : ℕ) (r : Result ℕ NotReleased) : Type 0 where
     -- unknown: exactly a ticket above the present one; one below it need not have been handed out
-    pub unknown : (r ≡ told.Unknown) ↔ (ticket_of (book_of m sp) < t)
+    pub unknown : (r ≡ Err notreleased.Unknown) ↔ (ticket_of (book_of m sp) < t)
     -- spent: exactly one that is not, and with which the numbers would run out
-    pub spent : (r ≡ told.Spent) ↔ ((t ≤ ticket_of (book_of m sp)) × (2 ^ 62 < t))
+    pub spent : (r ≡ Err notreleased.Spent) ↔ ((t ≤ ticket_of (book_of m sp)) × (2 ^ 62 < t))
     -- done with exactly all others
-    pub done : ((k : ℕ) × (r ≡ told.Released k)) ↔ ((t ≤ ticket_of (book_of m sp)) × (t ≤ 2 ^ 62))
+    pub done : ((k : ℕ) × (r ≡ Ok k)) ↔ ((t ≤ ticket_of (book_of m sp)) × (t ≤ 2 ^ 62))
     -- the book is never refused
-    pub never : (y : PoolReason) → r ≢ told.Refused y
+    pub never : (y : PoolReason) → r ≢ Err (notreleased.Pool y)
     -- no address means anything else
     pub same : (va : ℕ) → means h' sp m' va ≡ means h sp m va
     -- and what it answers is the number of pages that were released
-    pub released : (k : ℕ) → r ≡ told.Released k → ToldReleased t k
+    pub released : (k : ℕ) → r ≡ Ok k → ToldReleased t k
 
 -- Look-up and state ----------------------------------------------------------------------------------------------------------------
 
@@ -186,9 +176,9 @@ pub record LookUpSays (h : ℕ → Bool) (sp : Space) (va : ℕ) (o : Found) : T
 -- TOLD, of any memory
 pub record ToldOpened (h : ℕ → Bool) (m : ℕ → ℕ) (sp : Space) (t : ℕ) : Type 0 where
   -- it refuses exactly where the book does not open, for that reason
-  pub refused : (y : PoolReason) → (told_answer h m sp t ≡ told.Refused y) ↔ (opened_of h m sp ≡ opened.Refused y)
+  pub refused : (y : PoolReason) → (told_answer h m sp t ≡ Err (notreleased.Pool y)) ↔ (opened_of h m sp ≡ Err y)
   -- it releases pages exactly where the book opened and so many are due
-  pub released : (k : ℕ) → (told_answer h m sp t ≡ told.Released k) ↔ ((b : Book) × (opened_of h m sp ≡ opened.Book b) × (due_of b t ≡ due.Pages k))
+  pub released : (k : ℕ) → (told_answer h m sp t ≡ Ok k) ↔ ((b : Book) × (opened_of h m sp ≡ Ok b) × (due_of b t ≡ Ok k))
 
 -- the window begins and ends at page boundaries
 abbrev pub AlignedWindow : List ℕ → ℕ → Type 0
@@ -209,34 +199,34 @@ pub data CreateCause (s : List ℕ) (origin first pages : ℕ) : PoolReason → 
       → CreateCause s origin first pages PoolOutside
 
 -- CREATE, of the bytes s at entry and s' at exit
-pub record CreateSays (s s' : List ℕ) (origin first pages : ℕ) (r : Created) : Type 0 where
+pub record CreateSays (s s' : List ℕ) (origin first pages : ℕ) (r : Result ℕ PoolReason) : Type 0 where
   -- it refuses for a reason exactly where the cause of that reason holds
-  pub refused : (y : PoolReason) → (r ≡ created.Refused y) ↔ CreateCause s origin first pages y
+  pub refused : (y : PoolReason) → (r ≡ Err y) ↔ CreateCause s origin first pages y
   -- and then leaves every byte
-  pub leaves : (y : PoolReason) → r ≡ created.Refused y → s' ≡ s
+  pub leaves : (y : PoolReason) → r ≡ Err y → s' ≡ s
   -- it answers the page behind the book exactly where there is no cause, and no other page ever
-  pub done : (p : ℕ) → (r ≡ created.Root p) ↔ (((y : PoolReason) → ¬ CreateCause s origin first pages y) × (p ≡ first + book_pages pages))
+  pub done : (p : ℕ) → (r ≡ Ok p) ↔ (((y : PoolReason) → ¬ CreateCause s origin first pages y) × (p ≡ first + book_pages pages))
   -- then the space is whole, with every page behind the root free
-  pub whole : (p : ℕ) → r ≡ created.Root p → WholeBytes s' (new_space origin first pages) (new_role (new_space origin first pages))
+  pub whole : (p : ℕ) → r ≡ Ok p → WholeBytes s' (new_space origin first pages) (new_role (new_space origin first pages))
   -- and no address is mapped
-  pub empty : (p : ℕ) → r ≡ created.Root p → (va : ℕ) → canonical va ≡ true → look_up s' (new_space origin first pages) va ≡ found.Nothing
+  pub empty : (p : ℕ) → r ≡ Ok p → (va : ℕ) → canonical va ≡ true → look_up s' (new_space origin first pages) va ≡ found.Nothing
 
 -- what told answers besides pages released: refusals, all three
-abbrev pub Declined : Report → Type 0
-Declined (told.Released k) = ⊥
-Declined told.Unknown = Unit {0}
-Declined told.Spent = Unit {0}
-Declined (told.Refused y) = Unit {0}
+abbrev pub Declined : Result ℕ NotReleased → Type 0
+Declined (Ok k) = ⊥
+Declined (Err notreleased.Unknown) = Unit {0}
+Declined (Err notreleased.Spent) = Unit {0}
+Declined (Err (notreleased.Pool y)) = Unit {0}
 
 -- A REFUSAL LEAVES EVERY BYTE: where the answer is one, the window after the operation is the window s before it
 pub record RefusalLeaves (s : List ℕ) : Type 0 where
-  pub create : (origin first pages : ℕ) (y : PoolReason) → create_answer s origin first pages ≡ created.Refused y
+  pub create : (origin first pages : ℕ) (y : PoolReason) → create_answer s origin first pages ≡ Err y
       → carried s origin (create_writes s origin first pages) ≡ s
-  pub map : (sp : Space) (q : Asked) (y : Reason) → in_window s sp.origin map_answer sp q ≡ mapped.Refused y
+  pub map : (sp : Space) (q : Asked) (y : Reason) → in_window s sp.origin map_answer sp q ≡ Err y
       → carried s sp.origin (in_window s sp.origin map_writes sp q) ≡ s
-  pub unmap : (sp : Space) (va : ℕ) (y : Reason) → in_window s sp.origin unmap_answer sp va ≡ unmapped.Refused y
+  pub unmap : (sp : Space) (va : ℕ) (y : Reason) → in_window s sp.origin unmap_answer sp va ≡ Err y
       → carried s sp.origin (in_window s sp.origin unmap_writes sp va) ≡ s
-  pub protect : (sp : Space) (va : ℕ) (r : Rights) (y : Reason) → in_window s sp.origin protect_answer sp va r ≡ protected.Refused y
+  pub protect : (sp : Space) (va : ℕ) (r : Rights) (y : Reason) → in_window s sp.origin protect_answer sp va r ≡ Err y
       → carried s sp.origin (in_window s sp.origin protect_writes sp va r) ≡ s
   pub told : (sp : Space) (t : ℕ) → Declined (in_window s sp.origin told_answer sp t)
       → carried s sp.origin (in_window s sp.origin told_writes sp t) ≡ s

@@ -1,6 +1,6 @@
 -- NO PAGE IS WRITABLE AND EXECUTABLE: who asks for one is refused, for any bytes; where no address means one, none ever does, and no walk and no
 -- cache gives one. Tables that were made otherwise may have such pages, and are whole all the same (`older_tables`).
-use Rattle.std.specs.Prelude.{ℕ, Bool, true, false, List, ◌≢◌, ◌≡◌}
+use Rattle.std.specs.Prelude.{ℕ, Bool, true, false, List, ◌≢◌, ◌≡◌, Ok, Err}
 use Rattle.word.specs.Memory.{memory, holds}
 use Rattle.entry.specs.declared.Rights.{Rights}
 use Rattle.walk.specs.declared.Found.{Found}
@@ -12,10 +12,6 @@ use Rattle.plan.specs.Map.{shape_of}
 use Rattle.plan.specs.Rights.{write_execute}
 use Rattle.plan.specs.declared.Reason.TheVariants.{WriteExecute}
 use Rattle.plan.specs.declared.maps.Asked.{Asked}
-use Rattle.plan.specs.declared.maps.Shape.TheVariants.{Level}
-use Rattle.tablepath.specs.declared.Mapped.TheVariants as mapped
-use Rattle.tablepath.specs.declared.Unmapped.TheVariants as unmapped
-use Rattle.tablepath.specs.declared.Protected.TheVariants as protected
 use Rattle.tablepath.specs.Answers.{map_answer, unmap_answer, protect_answer}
 use Rattle.tablepath.specs.Calls.{means}
 use Rattle.tablepath.specs.Nights.{Night, present, Gets}
@@ -39,12 +35,12 @@ StrictBytes s sp = Strict (holds s sp.origin) sp (memory s sp.origin)
 -- WHO ASKS FOR ONE IS REFUSED, whatever memory says: by protect for that and before all else, by map for that or for its size, alignment or range;
 -- and for no other cause is this reason given
 pub record RefusesBoth (h : ℕ → Bool) (m : ℕ → ℕ) (sp : Space) : Type 0 where
-  pub map : (q : Asked) (l : ℕ) → shape_of q.size q.base q.frame ≡ Level l → write_execute q.rights ≡ true → map_answer h m sp q ≡ mapped.Refused WriteExecute
-  pub never_mapped : (q : Asked) (k : ℕ) → write_execute q.rights ≡ true → map_answer h m sp q ≢ mapped.Done k
-  pub protect : (va : ℕ) (r : Rights) → write_execute r ≡ true → protect_answer h m sp va r ≡ protected.Refused WriteExecute
-  pub only_map : (q : Asked) → map_answer h m sp q ≡ mapped.Refused WriteExecute → write_execute q.rights ≡ true
-  pub only_protect : (va : ℕ) (r : Rights) → protect_answer h m sp va r ≡ protected.Refused WriteExecute → write_execute r ≡ true
-  pub never_unmap : (va : ℕ) → unmap_answer h m sp va ≢ unmapped.Refused WriteExecute
+  pub map : (q : Asked) (l : ℕ) → shape_of q.size q.base q.frame ≡ Ok l → write_execute q.rights ≡ true → map_answer h m sp q ≡ Err WriteExecute
+  pub never_mapped : (q : Asked) (k : ℕ) → write_execute q.rights ≡ true → map_answer h m sp q ≢ Ok k
+  pub protect : (va : ℕ) (r : Rights) → write_execute r ≡ true → protect_answer h m sp va r ≡ Err WriteExecute
+  pub only_map : (q : Asked) → map_answer h m sp q ≡ Err WriteExecute → write_execute q.rights ≡ true
+  pub only_protect : (va : ℕ) (r : Rights) → protect_answer h m sp va r ≡ Err WriteExecute → write_execute r ≡ true
+  pub never_unmap : (va : ℕ) → unmap_answer h m sp va ≢ Err WriteExecute
 
 module _ (h : ℕ → Bool) (sp : Space) where
   -- AT EVERY MOMENT OF A NIGHT that began strict no address means such a page.

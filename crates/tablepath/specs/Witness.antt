@@ -1,12 +1,11 @@
 -- What the witnesses speak of: any five pages, made a pool, and a page of 4 KiB that is mapped there.
-use Rattle.std.specs.Prelude.{ℕ, true, List, ◌≡◌}
+use Rattle.std.specs.Prelude.{ℕ, true, List, ◌≡◌, Ok}
 use Rattle.word.specs.Writes.{carried}
 use Rattle.entry.specs.declared.Rights.{Rights}
 use Rattle.walk.specs.declared.Found.TheVariants.{Page}
 use Rattle.pool.specs.Create.{new_space}
 use Rattle.pool.specs.declared.Space.{Space}
 use Rattle.plan.specs.declared.maps.Asked.{Asked}
-use Rattle.tablepath.specs.declared.Mapped.TheVariants.{Done}
 use Rattle.tablepath.specs.Answers.{create_writes, map_answer}
 use Rattle.tablepath.specs.Looks.{in_window, look_up, with_page}
 
@@ -32,5 +31,5 @@ bytes s = carried s 0 (create_writes s 0 0 5)
 
 -- map of such a page is done, and then look-up answers it
 abbrev pub Mappable : List ℕ → ℕ → Type 0
-Mappable s va = ((k : ℕ) × (in_window (bytes s) 0 map_answer five (page_on va) ≡ Done k))
+Mappable s va = ((k : ℕ) × (in_window (bytes s) 0 map_answer five (page_on va) ≡ Ok k))
     × (look_up (with_page (bytes s) five (page_on va)) five va ≡ Page va 4096 1048576 of_data)

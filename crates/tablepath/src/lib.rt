@@ -9,21 +9,17 @@ ghost use Rattle.std.specs.Prelude.{◌≡◌};
 ghost use Rattle.word.specs.Writes.{Wrote, carried};
 ghost use Rattle.walk.specs.Walk.{walk};
 ghost use Rattle.pool.specs.State as say;
+ghost use Rattle.tablepath.specs.declared.NotReleased.TheVariants.{Pool};
 ghost use Rattle.tablepath.specs.Answers as the;
 ghost use Rattle.tablepath.specs.Looks.{in_window};
 ghost use Rattle.tablepath.specs.Says.{CreateSays};
 ghost use Rattle.tablepath.specs.Means.{MapMeans, UnmapMeans, ProtectMeans, ToldMeans, StateMeans, LookUpMeans};
 
-use plan::{Asked, Changing, Making, Reason, Unmapping};
-use pool::{Created, Due, Opened, Space, Stated};
+use plan::{Asked, Reason};
+use pool::{Counts, NotDue, Space};
 use walk::Found;
 
-#[derive(Clone, Copy)]
-pub enum Mapped {
-    // how many tables were made for it
-    Done(u64),
-    Refused(Reason),
-}
+mod display;
 
 // The page that was unmapped, how many tables were set aside, and the ticket with which to report that every cache was told. Calls that set
 // nothing aside answer the same ticket again: it speaks of the last moment at which it was answered.
@@ -35,12 +31,6 @@ pub struct Gone {
     pub ticket: u64,
 }
 
-#[derive(Clone, Copy)]
-pub enum Unmapped {
-    Done(Gone),
-    Refused(Reason),
-}
-
 // The page whose rights changed, and the ticket, as of unmap.
 #[derive(Clone, Copy)]
 pub struct Altered {
@@ -49,25 +39,44 @@ pub struct Altered {
     pub ticket: u64,
 }
 
-#[derive(Clone, Copy)]
-pub enum Protected {
-    Done(Altered),
-    Refused(Reason),
-}
-
-#[derive(Clone, Copy)]
-pub enum Report {
-    // how many pages are free again
-    Released(u64),
+// Why a report released nothing.
+#[derive(Clone, Copy, Debug, PartialEq, Eq)]
+pub enum NotReleased {
     // a ticket above the present one
     Unknown,
     // no ticket is left
     Spent,
-    Refused(pool::Reason),
+    // the window, the pool, the root or the book
+    Pool(pool::Reason),
+}
+
+impl From<pool::Reason> for NotReleased {
+    ghost from_gives = { λ r y. y ≡ Pool r };
+
+    fn from(r: pool::Reason) -> NotReleased {
+        NotReleased::Pool(r)
+    }
+}
+
+impl From<NotDue> for NotReleased {
+    ghost from_gives = { λ r y. y ≡ the.undue r };
+
+    fn from(r: NotDue) -> NotReleased {
+        match r {
+            NotDue::Unknown => NotReleased::Unknown,
+            NotDue::Spent => NotReleased::Spent,
+        }
+    }
 }
 
 // Create, up to so many writes.
-pub fn create_up_to(mem: &mut [u8], left: &mut u64, origin: u64, first: u64, pages: u64) -> Created
+pub fn create_up_to(
+    mem: &mut [u8],
+    left: &mut u64,
+    origin: u64,
+    first: u64,
+    pages: u64,
+) -> Result<u64, pool::Reason>
     ensures answer { result ≡ the.create_answer mem.old origin first pages }
     ensures order { Wrote origin (the.create_writes mem.old origin first pages) left.old left.new mem.old mem.new }
 {
@@ -75,7 +84,7 @@ pub fn create_up_to(mem: &mut [u8], left: &mut u64, origin: u64, first: u64, pag
 }
 
 // Makes a pool of these pages, its book and an empty root; answers the root's page.
-pub fn create(mem: &mut [u8], origin: u64, first: u64, pages: u64) -> Created
+pub fn create(mem: &mut [u8], origin: u64, first: u64, pages: u64) -> Result<u64, pool::Reason>
     ensures answer { result ≡ the.create_answer mem.old origin first pages }
     ensures bytes { mem.new ≡ carried mem.old origin (the.create_writes mem.old origin first pages) }
     ensures meaning { CreateSays mem.old mem.new origin first pages result }
@@ -85,19 +94,15 @@ pub fn create(mem: &mut [u8], origin: u64, first: u64, pages: u64) -> Created
 }
 
 // Map, up to so many writes.
-pub fn map_up_to(mem: &mut [u8], left: &mut u64, space: Space, q: Asked) -> Mapped
+pub fn map_up_to(mem: &mut [u8], left: &mut u64, space: Space, q: Asked) -> Result<u64, Reason>
     ensures answer { result ≡ in_window mem.old space.origin the.map_answer space q }
     ensures order { Wrote space.origin (in_window mem.old space.origin the.map_writes space q) left.old left.new mem.old mem.new }
 {
-    let d = plan::map(mem, left, space, q);
-    match d {
-        Making::Refused(r) => Mapped::Refused(r),
-        Making::Done(k) => Mapped::Done(k),
-    }
+    plan::map(mem, left, space, q)
 }
 
-// Maps the frame at the base, with these rights.
-pub fn map(mem: &mut [u8], space: Space, q: Asked) -> Mapped
+// Maps the frame at the base, with these rights; answers how many tables were made for it.
+pub fn map(mem: &mut [u8], space: Space, q: Asked) -> Result<u64, Reason>
     ensures answer { result ≡ in_window mem.old space.origin the.map_answer space q }
     ensures bytes { mem.new ≡ carried mem.old space.origin (in_window mem.old space.origin the.map_writes space q) }
     ensures meaning { MapMeans mem.old mem.new space q result }
@@ -107,27 +112,21 @@ pub fn map(mem: &mut [u8], space: Space, q: Asked) -> Mapped
 }
 
 // Unmap, up to so many writes.
-pub fn unmap_up_to(mem: &mut [u8], left: &mut u64, space: Space, base: u64) -> Unmapped
+pub fn unmap_up_to(mem: &mut [u8], left: &mut u64, space: Space, base: u64) -> Result<Gone, Reason>
     ensures answer { result ≡ in_window mem.old space.origin the.unmap_answer space base }
     ensures order { Wrote space.origin (in_window mem.old space.origin the.unmap_writes space base) left.old left.new mem.old mem.new }
 {
-    let d = plan::unmap(mem, left, space, base);
-    match d {
-        Unmapping::Refused(r) => Unmapped::Refused(r),
-        Unmapping::Done(p, ticket) => {
-            let s = p.page;
-            Unmapped::Done(Gone {
-                frame: s.frame,
-                size: s.size,
-                aside: p.empties,
-                ticket: ticket,
-            })
-        }
-    }
+    let (p, ticket) = plan::unmap(mem, left, space, base)?;
+    Ok(Gone {
+        frame: p.page.frame,
+        size: p.page.size,
+        aside: p.empties,
+        ticket,
+    })
 }
 
 // Unmaps the page that starts exactly at the base, and sets aside the tables that become empty.
-pub fn unmap(mem: &mut [u8], space: Space, base: u64) -> Unmapped
+pub fn unmap(mem: &mut [u8], space: Space, base: u64) -> Result<Gone, Reason>
     ensures answer { result ≡ in_window mem.old space.origin the.unmap_answer space base }
     ensures bytes { mem.new ≡ carried mem.old space.origin (in_window mem.old space.origin the.unmap_writes space base) }
     ensures meaning { UnmapMeans mem.old mem.new space base result }
@@ -143,23 +142,25 @@ pub fn protect_up_to(
     space: Space,
     base: u64,
     rights: entry::Rights,
-) -> Protected
+) -> Result<Altered, Reason>
     ensures answer { result ≡ in_window mem.old space.origin the.protect_answer space base rights }
     ensures order { Wrote space.origin (in_window mem.old space.origin the.protect_writes space base rights) left.old left.new mem.old mem.new }
 {
-    let d = plan::protect(mem, left, space, base, rights);
-    match d {
-        Changing::Refused(r) => Protected::Refused(r),
-        Changing::Go(c) => Protected::Done(Altered {
-            frame: c.frame,
-            size: c.size,
-            ticket: c.ticket,
-        }),
-    }
+    let c = plan::protect(mem, left, space, base, rights)?;
+    Ok(Altered {
+        frame: c.frame,
+        size: c.size,
+        ticket: c.ticket,
+    })
 }
 
 // Gives the page that starts exactly at the base other rights; the machine's marks stay.
-pub fn protect(mem: &mut [u8], space: Space, base: u64, rights: entry::Rights) -> Protected
+pub fn protect(
+    mem: &mut [u8],
+    space: Space,
+    base: u64,
+    rights: entry::Rights,
+) -> Result<Altered, Reason>
     ensures answer { result ≡ in_window mem.old space.origin the.protect_answer space base rights }
     ensures bytes { mem.new ≡ carried mem.old space.origin (in_window mem.old space.origin the.protect_writes space base rights) }
     ensures meaning { ProtectMeans mem.old mem.new space base rights result }
@@ -169,30 +170,24 @@ pub fn protect(mem: &mut [u8], space: Space, base: u64, rights: entry::Rights) -
 }
 
 // Told, up to so many writes.
-pub fn told_up_to(mem: &mut [u8], left: &mut u64, space: Space, ticket: u64) -> Report
+pub fn told_up_to(
+    mem: &mut [u8],
+    left: &mut u64,
+    space: Space,
+    ticket: u64,
+) -> Result<u64, NotReleased>
     ensures answer { result ≡ in_window mem.old space.origin the.told_answer space ticket }
     ensures order { Wrote space.origin (in_window mem.old space.origin the.told_writes space ticket) left.old left.new mem.old mem.new }
 {
-    let o = pool::open(mem, space);
-    match o {
-        Opened::Refused(r) => Report::Refused(r),
-        Opened::Book(b) => {
-            let d = pool::due_by(b, ticket);
-            match d {
-                Due::Unknown => Report::Unknown,
-                Due::Spent => Report::Spent,
-                Due::Pages(k) => {
-                    pool::release(mem, left, space, b, k);
-                    Report::Released(k)
-                }
-            }
-        }
-    }
+    let b = pool::open(mem, space)?;
+    let k = pool::due_by(b, ticket)?;
+    pool::release(mem, left, space, b, k);
+    Ok(k)
 }
 
 // The caller reports that every cache was told of what had happened when this ticket was answered last: the pages set aside until then are
-// free. A ticket between two that were answered frees exactly the pages with smaller numbers; one above the present one is unknown.
-pub fn told(mem: &mut [u8], space: Space, ticket: u64) -> Report
+// free again, and their number is the answer. A ticket between two that were answered frees exactly the pages with smaller numbers; one above the present one is unknown.
+pub fn told(mem: &mut [u8], space: Space, ticket: u64) -> Result<u64, NotReleased>
     ensures answer { result ≡ in_window mem.old space.origin the.told_answer space ticket }
     ensures bytes { mem.new ≡ carried mem.old space.origin (in_window mem.old space.origin the.told_writes space ticket) }
     ensures meaning { ToldMeans mem.old mem.new space ticket result }
@@ -202,7 +197,7 @@ pub fn told(mem: &mut [u8], space: Space, ticket: u64) -> Report
 }
 
 // How many of the pool's pages are free, set aside and tables, and the ticket of this moment. Writes nothing.
-pub fn state(mem: &[u8], space: Space) -> Stated
+pub fn state(mem: &[u8], space: Space) -> Result<Counts, pool::Reason>
     ensures answer { result ≡ in_window mem.now space.origin say.state_of space }
     ensures meaning { StateMeans mem.now space result }
 {

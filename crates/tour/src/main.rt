@@ -1,38 +1,62 @@
 // Walks through tables that were written by hand, entry by entry: pages of each size, and what the machine makes of damage.
 #![tactic(auto)]
 
-use entry::{Entry, Made, Rights};
+use entry::{Entry, Rights};
 use std::io;
-use walk::{Found, Place};
-use word::Cell;
+use walk::Place;
 
 // The window begins at 1 MiB; its first page is the root.
 const ORIGIN: u64 = 0x10_0000;
 
 const ROOT: u64 = 0x10_0000;
 
+const ALL: Rights = Rights {
+    writable: true,
+    user: true,
+    noexec: false,
+};
+
+const DATA: Rights = Rights {
+    writable: true,
+    user: true,
+    noexec: true,
+};
+
+// The addresses that are looked up, and what is found there: pages, and nothing.
+const SHOWN: [(&str, u64); 9] = [
+    ("a page of 4 KiB", 0x7f1234567abc),
+    ("a page of 2 MiB", 0x7f1234612345),
+    ("a page of 1 GiB", 0x7f1251234567),
+    (
+        "the same 4 KiB page by a way that is read-only",
+        0x7f12b4567abc,
+    ),
+    ("a hole", 0x7f1234568000),
+    ("a reserved bit", 0x7f1234800000),
+    ("a way that leaves the window", 0x7f12c0000000),
+    ("the upper half", 0xffffff1234567abc),
+    ("no address at all", 0x800000000000),
+];
+
+// As in the demonstration, in two lines: what the programs share, `say`, has words only.
 fn store(mem: &mut [u8], page: u64, index: u64, w: u64) {
     let mut left: u64 = word::ENDLESS;
     word::write(mem, &mut left, ORIGIN, page, index, w)
 }
 
 // Writes a word that was made, where it was not refused.
-fn put(rt: &impl Print, mem: &mut [u8], page: u64, index: u64, made: Made) -> io::Result<()> {
-    match made {
-        Made::Word(w) => {
-            store(mem, page, index, w);
-            Ok(())
-        }
-        Made::Refused => println!(rt; "refused"),
-    }
-}
-
-fn rights(noexec: bool) -> Rights {
-    Rights {
-        writable: true,
-        user: true,
-        noexec,
-    }
+fn put(
+    rt: &impl Print,
+    mem: &mut [u8],
+    page: u64,
+    index: u64,
+    made: Option<u64>,
+) -> io::Result<()> {
+    let Some(w) = made else {
+        return println!(rt; "refused");
+    };
+    store(mem, page, index, w);
+    Ok(())
 }
 
 // The way to 0x7f1234567000: four tables.
@@ -44,27 +68,9 @@ fn tables(rt: &impl Print, mem: &mut [u8]) -> io::Result<()> {
 
 // A page of 4 KiB there, and beside it one of 2 MiB and one of 1 GiB.
 fn pages(rt: &impl Print, mem: &mut [u8]) -> io::Result<()> {
-    put(
-        rt,
-        mem,
-        0x103,
-        359,
-        entry::page_word(0, 0x1234000, rights(false)),
-    )?;
-    put(
-        rt,
-        mem,
-        0x102,
-        419,
-        entry::page_word(1, 0x40000000, rights(true)),
-    )?;
-    put(
-        rt,
-        mem,
-        0x101,
-        73,
-        entry::page_word(2, 0x80000000, rights(true)),
-    )
+    put(rt, mem, 0x103, 359, entry::page_word(0, 0x1234000, ALL))?;
+    put(rt, mem, 0x102, 419, entry::page_word(1, 0x40000000, DATA))?;
+    put(rt, mem, 0x101, 73, entry::page_word(2, 0x80000000, DATA))
 }
 
 // What may go wrong: a table that grants less, a large page with a reserved bit, and a way that leaves the window.
@@ -77,19 +83,14 @@ fn damage(mem: &mut [u8]) {
     store(mem, 0x101, 75, 0x900007);
 }
 
-// What one entry, whose word is w, says in words.
-fn tell(rt: &impl Print, w: u64, e: Entry) -> io::Result<()> {
+// What one entry of level n, whose word is w, says in words; and why, where that is nothing: told here alone.
+fn tell(rt: &impl Print, n: u64, w: u64) -> io::Result<()> {
+    let e = entry::decode(n, w);
+    print!(rt; "{w:#x} says {e:#}")?;
     match e {
-        Entry::Nothing if w % 2 == 0 => say::text(rt, "nothing: not present"),
-        Entry::Nothing => say::text(rt, "nothing: a reserved bit is set"),
-        Entry::Page(f, g) => {
-            print!(rt; "a page at {f:#x}, ")?;
-            say::rights(rt, g)
-        }
-        Entry::Table(t, g) => {
-            print!(rt; "a table in page {t:#x}, ")?;
-            say::rights(rt, g)
-        }
+        Entry::Nothing if w % 2 == 0 => println!(rt; ": not present"),
+        Entry::Nothing => println!(rt; ": a reserved bit is set"),
+        _ => println!(rt),
     }
 }
 
@@ -98,13 +99,9 @@ fn tell_read(rt: &impl Print, mem: &[u8], n: u64, va: u64, t: u64) -> io::Result
     let i = walk::index(n, va);
     print!(rt; "  level {n}, entry {i} of page {t:#x}: ")?;
     match word::read(mem, ORIGIN, t, i) {
-        Cell::Word(w) => {
-            print!(rt; "{w:#x} says ")?;
-            tell(rt, w, entry::decode(n, w))?;
-        }
-        Cell::Outside => say::text(rt, "that page is outside the window")?,
+        Some(w) => tell(rt, n, w),
+        None => println!(rt; "that page is outside the window"),
     }
-    say::line(rt)
 }
 
 // One step, told before it is taken.
@@ -115,49 +112,13 @@ fn step(rt: &impl Print, mem: &[u8], n: u64, va: u64, p: Place) -> io::Result<Pl
     Ok(walk::step(mem, ORIGIN, n, va, p))
 }
 
-fn answer(rt: &impl Print, f: Found) -> io::Result<()> {
-    say::text(rt, "  so: ")?;
-    match f {
-        Found::Page {
-            base,
-            size,
-            frame,
-            rights,
-        } => say::page(rt, base, size, frame, rights)?,
-        Found::Nothing => say::text(rt, "nothing is mapped there")?,
-        Found::Outside => say::text(rt, "outside, the way leaves the window")?,
-        Found::NoAddress => say::text(rt, "that is no address")?,
-    }
-    say::line(rt)
-}
-
 fn show(rt: &impl Print, mem: &[u8], name: &str, va: u64) -> io::Result<()> {
     println!(rt; "{name}: {va:#x}")?;
-    let p3 = step(rt, mem, 3, va, walk::begin(ROOT, va))?;
-    let p2 = step(rt, mem, 2, va, p3)?;
-    let p1 = step(rt, mem, 1, va, p2)?;
-    let p0 = step(rt, mem, 0, va, p1)?;
-    answer(rt, walk::answer(p0))
-}
-
-fn sound(rt: &impl Print, mem: &[u8]) -> io::Result<()> {
-    show(rt, mem, "a page of 4 KiB", 0x7f1234567abc)?;
-    show(rt, mem, "a page of 2 MiB", 0x7f1234612345)?;
-    show(rt, mem, "a page of 1 GiB", 0x7f1251234567)?;
-    show(
-        rt,
-        mem,
-        "the same 4 KiB page by a way that is read-only",
-        0x7f12b4567abc,
-    )
-}
-
-fn others(rt: &impl Print, mem: &[u8]) -> io::Result<()> {
-    show(rt, mem, "a hole", 0x7f1234568000)?;
-    show(rt, mem, "a reserved bit", 0x7f1234800000)?;
-    show(rt, mem, "a way that leaves the window", 0x7f12c0000000)?;
-    show(rt, mem, "the upper half", 0xffffff1234567abc)?;
-    show(rt, mem, "no address at all", 0x800000000000)
+    let mut p = walk::begin(ROOT, va);
+    for n in (0..4).rev() {
+        p = step(rt, mem, n, va, p)?;
+    }
+    println!(rt; "  so: {}", walk::answer(p))
 }
 
 fn main(rt: HostRuntime) -> io::Result<()> {
@@ -166,6 +127,8 @@ fn main(rt: HostRuntime) -> io::Result<()> {
     tables(&rt, &mut mem)?;
     pages(&rt, &mut mem)?;
     damage(&mut mem);
-    sound(&rt, &mem)?;
-    others(&rt, &mem)
+    for (name, va) in SHOWN {
+        show(&rt, &mem, name, va)?;
+    }
+    Ok(())
 }

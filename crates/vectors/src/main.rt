@@ -1,135 +1,89 @@
 // Vectors from the manual and from document 01 of the source's description, run through the proved code; what they must give stands in `stdout`.
 #![tactic(auto)]
 
-use entry::{Entry, Made, Rights};
+use entry::Rights;
 use std::io;
+
+// rwx user
+const ALL: Rights = Rights {
+    writable: true,
+    user: true,
+    noexec: false,
+};
+
+// r-- kernel
+const LEAST: Rights = Rights {
+    writable: false,
+    user: false,
+    noexec: true,
+};
+
+// The edges of the two halves.
+const EDGES: [u64; 5] = [
+    0x7fffffffffff,
+    0x800000000000,
+    0xffff7fffffffffff,
+    0xffff800000000000,
+    0xffffffffffffffff,
+];
+
+// Words as they are found in memory.
+const WORDS: [(&str, u64); 9] = [
+    ("absent, every other bit set", 0xfffffffffffffffe),
+    ("a plain entry", 0x1234007),
+    ("bit 7: a page, a memory type, or reserved", 0x40000087),
+    ("bit 13 of a large page is reserved", 0x40002087),
+    ("bit 12 of a large page is a memory type's", 0x40001087),
+    ("bit 21: address of 2 MiB, reserved of 1 GiB", 0x40200087),
+    (
+        "free bits 9 to 11 and 52 to 62, and the marks",
+        0x7ff0000001234e65,
+    ),
+    ("every address bit", 0x000fffffffffffff),
+    ("no-execute", 0x8000000000001001),
+];
 
 // The four indices of an address.
 fn indices(rt: &impl Print, va: u64) -> io::Result<()> {
-    say::hex(rt, va)?;
-    println!(rt;
-        " goes through entries {}, {}, {}, {}",
-        walk::index(3, va),
-        walk::index(2, va),
-        walk::index(1, va),
-        walk::index(0, va)
-    )
-}
-
-fn entry_says(rt: &impl Print, e: Entry) -> io::Result<()> {
-    match e {
-        Entry::Nothing => say::text(rt, "nothing"),
-        Entry::Page(f, g) => {
-            print!(rt; "page {f:#x} ")?;
-            say::rights(rt, g)
-        }
-        Entry::Table(t, g) => {
-            print!(rt; "table {t:#x} ")?;
-            say::rights(rt, g)
-        }
-    }
-}
-
-fn level(rt: &impl Print, n: u64, w: u64) -> io::Result<()> {
-    print!(rt; "  level {n}: ")?;
-    entry_says(rt, entry::decode(n, w))?;
-    say::line(rt)
+    let [i3, i2, i1, i0] = [3, 2, 1, 0].map(|n| walk::index(n, va));
+    println!(rt; "{va:#x} goes through entries {i3}, {i2}, {i1}, {i0}")
 }
 
 // What a word says at each level, the root's first.
 fn levels(rt: &impl Print, name: &str, w: u64) -> io::Result<()> {
     println!(rt; "{name}, {w:#x}")?;
-    level(rt, 3, w)?;
-    level(rt, 2, w)?;
-    level(rt, 1, w)?;
-    level(rt, 0, w)
-}
-
-fn made(rt: &impl Print, name: &str, m: Made) -> io::Result<()> {
-    print!(rt; "{name}: ")?;
-    match m {
-        Made::Word(w) => say::hex(rt, w)?,
-        Made::Refused => say::text(rt, "refused")?,
+    for n in (0..4).rev() {
+        let e = entry::decode(n, w);
+        println!(rt; "  level {n}: {e}")?;
     }
-    say::line(rt)
+    Ok(())
 }
 
-fn rights(writable: bool, user: bool, noexec: bool) -> Rights {
-    Rights {
-        writable,
-        user,
-        noexec,
+fn made(rt: &impl Print, name: &str, word: Option<u64>) -> io::Result<()> {
+    match word {
+        Some(w) => println!(rt; "{name}: {w:#x}"),
+        None => println!(rt; "{name}: refused"),
     }
-}
-
-// Words as they are found in memory.
-fn words(rt: &impl Print) -> io::Result<()> {
-    levels(rt, "absent, every other bit set", 0xfffffffffffffffe)?;
-    levels(rt, "a plain entry", 0x1234007)?;
-    levels(rt, "bit 7: a page, a memory type, or reserved", 0x40000087)?;
-    levels(rt, "bit 13 of a large page is reserved", 0x40002087)?;
-    levels(rt, "bit 12 of a large page is a memory type's", 0x40001087)?;
-    levels(
-        rt,
-        "bit 21: address of 2 MiB, reserved of 1 GiB",
-        0x40200087,
-    )?;
-    levels(
-        rt,
-        "free bits 9 to 11 and 52 to 62, and the marks",
-        0x7ff0000001234e65,
-    )?;
-    levels(rt, "every address bit", 0x000fffffffffffff)?;
-    levels(rt, "no-execute", 0x8000000000001001)
 }
 
 // Words that we write.
 fn pages(rt: &impl Print) -> io::Result<()> {
-    let all = rights(true, true, false);
-    made(
-        rt,
-        "4 KiB at 0x1234000, rwx user",
-        entry::page_word(0, 0x1234000, all),
-    )?;
-    made(
-        rt,
-        "2 MiB at 0x40000000, rwx user",
-        entry::page_word(1, 0x40000000, all),
-    )?;
-    made(
-        rt,
-        "1 GiB at 0x40000000, r-- kernel",
-        entry::page_word(2, 0x40000000, rights(false, false, true)),
-    )?;
-    made(
-        rt,
-        "the last 4 KiB below 2^52",
-        entry::page_word(0, 0xffffffffff000, all),
-    )?;
-    made(
-        rt,
-        "4 KiB at 2^52",
-        entry::page_word(0, 0x10000000000000, all),
-    )
+    for (name, n, frame, rights) in [
+        ("4 KiB at 0x1234000, rwx user", 0, 0x1234000, ALL),
+        ("2 MiB at 0x40000000, rwx user", 1, 0x40000000, ALL),
+        ("1 GiB at 0x40000000, r-- kernel", 2, 0x40000000, LEAST),
+        ("the last 4 KiB below 2^52", 0, 0xffffffffff000, ALL),
+        ("4 KiB at 2^52", 0, 0x10000000000000, ALL),
+        ("4 KiB at 0x1234800", 0, 0x1234800, ALL),
+        ("2 MiB at 0x40001000", 1, 0x40001000, ALL),
+        ("a page at the root's level", 3, 0, ALL),
+    ] {
+        made(rt, name, entry::page_word(n, frame, rights))?;
+    }
+    Ok(())
 }
 
-fn refusals(rt: &impl Print) -> io::Result<()> {
-    let all = rights(true, true, false);
-    made(
-        rt,
-        "4 KiB at 0x1234800",
-        entry::page_word(0, 0x1234800, all),
-    )?;
-    made(
-        rt,
-        "2 MiB at 0x40001000",
-        entry::page_word(1, 0x40001000, all),
-    )?;
-    made(
-        rt,
-        "a page at the root's level",
-        entry::page_word(3, 0, all),
-    )?;
+fn tables(rt: &impl Print) -> io::Result<()> {
     made(rt, "the table in page 0x1234", entry::table_word(0x1234))?;
     made(
         rt,
@@ -140,9 +94,9 @@ fn refusals(rt: &impl Print) -> io::Result<()> {
 
 // Other rights, with the marks and the free bits as they were.
 fn changes(rt: &impl Print) -> io::Result<()> {
-    let read_only = entry::with_rights(0x7ff0000001234e67, rights(false, false, true));
+    let read_only = entry::with_rights(0x7ff0000001234e67, LEAST);
     println!(rt; "0x7ff0000001234e67 made r-- kernel: {read_only:#x}")?;
-    let all = entry::with_rights(0x8000000001234061, rights(true, true, false));
+    let all = entry::with_rights(0x8000000001234061, ALL);
     println!(rt; "0x8000000001234061 made rwx user: {all:#x}")
 }
 
@@ -154,21 +108,16 @@ fn address(rt: &impl Print, va: u64) -> io::Result<()> {
     println!(rt; "{va:#x} is no address")
 }
 
-// The edges of the two halves.
-fn edges(rt: &impl Print) -> io::Result<()> {
-    address(rt, 0x7fffffffffff)?;
-    address(rt, 0x800000000000)?;
-    address(rt, 0xffff7fffffffffff)?;
-    address(rt, 0xffff800000000000)?;
-    address(rt, 0xffffffffffffffff)
-}
-
 fn main(rt: HostRuntime) -> io::Result<()> {
     indices(&rt, 0x7f1234567000)?;
     indices(&rt, 0)?;
-    edges(&rt)?;
-    words(&rt)?;
+    for va in EDGES {
+        address(&rt, va)?;
+    }
+    for (name, w) in WORDS {
+        levels(&rt, name, w)?;
+    }
     pages(&rt)?;
-    refusals(&rt)?;
+    tables(&rt)?;
     changes(&rt)
 }

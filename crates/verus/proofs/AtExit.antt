@@ -3,6 +3,10 @@
 use Prim.Native.Nat.{ℕ}
 use mathlib.Core.List.{List}
 use mathlib.Core.Path.{◌≡◌}
+use Rattle.std.proofs.Common.{Result}
+use Rattle.plan.specs.declared.Reason.{Reason}
+use Rattle.tablepath.specs.declared.Gone.{Gone}
+use Rattle.tablepath.specs.declared.Altered.{Altered}
 use Rattle.word.specs.Memory.{memory, holds}
 use Rattle.word.specs.Writes.{carried}
 use Rattle.word.proofs.Writes.{memory_carried}
@@ -14,9 +18,6 @@ use Rattle.tablepath.specs.Answers.{map_answer, map_writes, unmap_answer, unmap_
 use Rattle.tablepath.specs.Calls.{Call, call_writes}
 use Rattle.tablepath.specs.Calls as calls
 use Rattle.tablepath.specs.Looks.{in_window, WholeBytes}
-use Rattle.tablepath.specs.declared.Mapped.{Mapped}
-use Rattle.tablepath.specs.declared.Unmapped.{Unmapped}
-use Rattle.tablepath.specs.declared.Protected.{Protected}
 use Rattle.tablepath.proofs.SaysAny.{refusal_leaves}
 use Rattle.tablepath.proofs.Wholes.{call_leaves, call_kept}
 use Rattle.verus.specs.AtExit.{InvIn, MapExit, UnmapExit, ProtectExit}
@@ -30,7 +31,7 @@ module _ (s : List ℕ) (sp : Space) (role : ℕ → Role) (w : WholeBytes s sp 
   inv_at_exit c = let k = call_kept s sp role w c in record { role = k.0; whole = k.1; inv = inv_holds k.1 }
 
   -- MAP_FRAME
-  pub map_exit : (q : Asked) (s' : List ℕ) (r : Mapped) → r ≡ in_window s sp.origin map_answer sp q → s' ≡ carried s sp.origin (in_window s sp.origin map_writes sp q)
+  pub map_exit : (q : Asked) (s' : List ℕ) (r : Result ℕ Reason) → r ≡ in_window s sp.origin map_answer sp q → s' ≡ carried s sp.origin (in_window s sp.origin map_writes sp q)
       → MapExit s s' sp q r
   unfolding call_writes
   map_exit q s' r answer bytes = rw (answer, bytes) (record {
@@ -42,7 +43,7 @@ module _ (s : List ℕ) (sp : Space) (role : ℕ → Role) (w : WholeBytes s sp 
   })
 
   -- UNMAP
-  pub unmap_exit : (base : ℕ) (s' : List ℕ) (r : Unmapped) → r ≡ in_window s sp.origin unmap_answer sp base → s' ≡ carried s sp.origin (in_window s sp.origin unmap_writes sp base)
+  pub unmap_exit : (base : ℕ) (s' : List ℕ) (r : Result Gone Reason) → r ≡ in_window s sp.origin unmap_answer sp base → s' ≡ carried s sp.origin (in_window s sp.origin unmap_writes sp base)
       → UnmapExit s s' sp base r
   unfolding call_writes
   unmap_exit base s' r answer bytes = rw (answer, bytes) (record {
@@ -54,7 +55,7 @@ module _ (s : List ℕ) (sp : Space) (role : ℕ → Role) (w : WholeBytes s sp 
   })
 
   -- PROTECT
-  pub protect_exit : (base : ℕ) (rights : Rights) (s' : List ℕ) (r : Protected) → r ≡ in_window s sp.origin protect_answer sp base rights
+  pub protect_exit : (base : ℕ) (rights : Rights) (s' : List ℕ) (r : Result Altered Reason) → r ≡ in_window s sp.origin protect_answer sp base rights
       → s' ≡ carried s sp.origin (in_window s sp.origin protect_writes sp base rights) → ProtectExit s s' sp base rights r
   unfolding call_writes
   protect_exit base rights s' r answer bytes = rw (answer, bytes) (record {

@@ -7,6 +7,8 @@ use mathlib.Core.Path.{◌≡◌, refl, sym, ap, ◌∙◌, subst, subst₂}
 use native.Mathlib.Decide.{ℕ_discrete}
 use native.Mathlib.Omega.{arith}
 use borrow.Author.Tests.{leb-false}
+use Rattle.std.proofs.Common.{Result, Ok, Err}
+use Rattle.plan.specs.declared.Reason.{Reason}
 use lib.Dec.{leb}
 use Rattle.word.specs.Memory.{at}
 use Rattle.word.specs.Writes.{Write, write, after, zeros, Every, none}
@@ -33,14 +35,11 @@ use Rattle.plan.specs.Unmap as unmap
 use Rattle.plan.specs.Unmap.{cut_writes, book1, book2}
 use Rattle.plan.specs.Protect as protect
 use Rattle.plan.specs.declared.finding.PageEntry.{PageEntry}
-use Rattle.plan.specs.declared.finding.Sought.{Sought}
-use Rattle.plan.specs.declared.finding.Sought.TheVariants as sought
 use Rattle.plan.specs.declared.building.TableReached.{TableReached}
 use Rattle.plan.specs.declared.maps.Asked.{Asked}
 use Rattle.plan.specs.declared.maps.Mapping.{Mapping}
 use Rattle.plan.specs.declared.unmaps.Removal.{Removal}
 use Rattle.plan.specs.declared.protects.Change.{Change}
-use Rattle.plan.specs.declared.protects.Changing.TheVariants as changing
 use Rattle.plan.proofs.Found.{found_at}
 use Rattle.plan.proofs.Strictly.{protect_strict}
 use Rattle.effect.specs.Whole.{Whole}
@@ -261,7 +260,7 @@ module _ {h : ℕ → Bool} {sp : Space} {m : ℕ → ℕ} {role : ℕ → Role}
 
 module _ {h : ℕ → Bool} {sp : Space} {m : ℕ → ℕ} {role : ℕ → Role} (w : Whole h sp m role) (va : ℕ) (rights : Rights) where
   -- PROTECT writes one word, in the last table of its way
-  pub protect_framed : (c : Change) → protect.decide_of h m sp va rights ≡ changing.Go c → KeepsOutside (setting_of h sp) m (protect.writes_of c) va
+  pub protect_framed : (c : Change) → protect.decide_of h m sp va rights ≡ Ok c → KeepsOutside (setting_of h sp) m (protect.writes_of c) va
   unfolding protect.changing_of protect.change_of protect.writes_of
   protect_framed c e = go (find_of h m sp va) refl (protect_strict h m sp va rights c e).1
     where
@@ -271,9 +270,9 @@ module _ {h : ℕ → Bool} {sp : Space} {m : ℕ → ℕ} {role : ℕ → Role}
           after_other m _ q i u (every_one s.way.a (index_of s.way.level va) v
           (λ z. unused (subst (UsedBy m l t) z (way_lifts k.comes d (way_ends d k.comes (page_plain _ _ k.entry)) itself))) (index_lt s.way.level va) small)
 
-      go : (x : Sought) → find_of h m sp va ≡ x → protect.changing_of m sp va rights x ≡ changing.Go c → KeepsOutside (setting_of h sp) m (protect.writes_of c) va
-      go (sought.Refused y) f j = let z : ◌≡◌ {A = ℕ} 0 1 = cc in absurd (omega arith)
-      go (sought.Found s) f j =
+      go : (x : Result PageEntry Reason) → find_of h m sp va ≡ x → protect.changing_of m sp va rights x ≡ Ok c → KeepsOutside (setting_of h sp) m (protect.writes_of c) va
+      go (Err y) f j = let z : ◌≡◌ {A = ℕ} 0 1 = cc in absurd (omega arith)
+      go (Ok s) f j =
           let same : protect.change_of va s rights (ticket_in (book_of m sp)) ≡ c = cc in
           subst (λ (x : Change). KeepsOutside (setting_of h sp) m (protect.writes_of x) va) same
           (one s (located w (found_at h m sp va s f)) (with_rights s.way.word rights) (with_rights_lt s.way.word rights))

@@ -6,6 +6,7 @@ use mathlib.Core.Option.{none}
 use mathlib.Core.Path.{◌≡◌, refl, sym, ap, ◌∙◌, subst}
 use native.Mathlib.Decide.{dec_le}
 use native.Mathlib.Omega.{arith}
+use Rattle.std.proofs.Common.{Ok, Err}
 use Rattle.word.specs.Writes.{after}
 use Rattle.entry.specs.Entry.{size_of}
 use Rattle.entry.specs.declared.Rights.{Rights}
@@ -34,7 +35,6 @@ use Rattle.effect.proofs.MapBuilt.{page_last}
 use Rattle.effect.proofs.MapDone.{decided_planned, decided_done, mapped_inside, mapped_outside}
 use Rattle.effect.proofs.MapRefused.{map_refused, map_succeeds}
 use Rattle.tablepath.specs.Answers.{map_answer, map_writes, map_said}
-use Rattle.tablepath.specs.declared.Mapped.TheVariants as mapped'
 use Rattle.verus.specs.Regions.{PTE, pte_of}
 use Rattle.verus.specs.Mappings.{CandidateOverlaps, AcceptedMapping, SameMap, inserted, max_phyaddr}
 use Rattle.verus.specs.Walks.{interp}
@@ -142,18 +142,18 @@ module _ {h : ℕ → Bool} {sp : Space} {m : ℕ → ℕ} {role : ℕ → Role}
 
   -- MAP_FRAME, OK: the candidate overlapped nothing; the one changing write was made, the last one of a table; the map has the page, and nothing
   -- else has changed; regions that are neither the subtree's nor new keep their words.
-  pub map_ok : (k : ℕ) → map_answer h m sp q ≡ mapped'.Done k → MapOk h sp m role (map_writes h m sp q) q.base (asked_entry q)
+  pub map_ok : (k : ℕ) → map_answer h m sp q ≡ Ok k → MapOk h sp m role (map_writes h m sp q) q.base (asked_entry q)
   unfolding map_answer map_writes map_said map.did_of
   map_ok k done = go (map.decide_of h m sp q) refl done
     where
-      go : (x : Placed) → map.decide_of h m sp q ≡ x → map_said x ≡ mapped'.Done k → MapOk h sp m role (map.did_of sp x) q.base (asked_entry q)
+      go : (x : Placed) → map.decide_of h m sp q ≡ x → map_said x ≡ Ok k → MapOk h sp m role (map.did_of sp x) q.base (asked_entry q)
       go (map.Refused r) e f = let z : ◌≡◌ {A = ℕ} 0 1 = cc in absurd (omega arith)
       go (map.Go p) e f = map_made p e
 
   -- MAP_FRAME, ERR, where accepted_mapping holds and the page is not both writable and executable, which the source allows, for every reason
   -- but the two that the source has no word for (its table memory and its frames lie apart, and there always is a page): nothing was written,
   -- and the candidate overlaps.
-  pub map_err : (y : Reason) → map_answer h m sp q ≡ mapped'.Refused y → AcceptedMapping q.base (asked_entry q) → write_execute q.rights ≡ false → y ≢ FrameInPool → y ≢ NoRoom
+  pub map_err : (y : Reason) → map_answer h m sp q ≡ Err y → AcceptedMapping q.base (asked_entry q) → write_execute q.rights ≡ false → y ≢ FrameInPool → y ≢ NoRoom
       → MapErr sp m (map_writes h m sp q) q.base (asked_entry q)
   unfolding map_answer map_writes map_said map.did_of pte_of
   map_err y refused a strict no_pool some_room = go (map.decide_of h m sp q) refl refused
@@ -175,7 +175,7 @@ module _ {h : ℕ → Bool} {sp : Space} {m : ℕ → ℕ} {role : ℕ → Role}
       because r (mapped l g c k) i o = (meant_overlaps w q.base (asked_entry q) wide).1 k
       because r (no_room l n g c x k u) i o = absurd (o refl)
 
-      go : (x : Placed) → map.decide_of h m sp q ≡ x → map_said x ≡ mapped'.Refused y → MapErr sp m (map.did_of sp x) q.base (asked_entry q)
+      go : (x : Placed) → map.decide_of h m sp q ≡ x → map_said x ≡ Err y → MapErr sp m (map.did_of sp x) q.base (asked_entry q)
       go (map.Go p) e g = let z : ◌≡◌ {A = ℕ} 0 1 = cc in absurd (omega arith)
       go (map.Refused r) e g =
           let same : r ≡ y = cc in

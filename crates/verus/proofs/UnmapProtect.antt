@@ -6,6 +6,9 @@ use mathlib.Core.Logic.{◌≢◌}
 use mathlib.Core.Option.{none, some}
 use mathlib.Core.Path.{◌≡◌, refl, sym, ap, ◌∙◌, subst}
 use native.Mathlib.Omega.{arith}
+use Rattle.std.proofs.Common.{Result, Ok, Err}
+use Rattle.plan.specs.declared.unmaps.Removal.{Removal}
+use Rattle.plan.specs.declared.protects.Change.{Change}
 use Rattle.word.specs.Writes.{Write, after}
 use Rattle.entry.specs.Entry.{size_of}
 use Rattle.entry.specs.declared.Rights.{Rights}
@@ -28,10 +31,6 @@ use Rattle.plan.specs.Protect as protect
 use Rattle.plan.specs.Rights.{write_execute}
 use Rattle.plan.specs.declared.Reason.{Reason}
 use Rattle.plan.specs.declared.Reason.TheVariants.{NothingStarts}
-use Rattle.plan.specs.declared.unmaps.Removing.{Removing}
-use Rattle.plan.specs.declared.unmaps.Removing.TheVariants as removing
-use Rattle.plan.specs.declared.protects.Changing.{Changing}
-use Rattle.plan.specs.declared.protects.Changing.TheVariants as changing
 use Rattle.effect.specs.Whole.{Whole}
 use Rattle.effect.specs.StartsAt as effect
 use Rattle.effect.specs.StartsAt.{StartsAt, NotProtected, write_execute_lem, not_there}
@@ -45,9 +44,7 @@ use Rattle.effect.proofs.UnmapInPool.{unmap_went}
 use Rattle.effect.proofs.ProtectDone.{protected}
 use Rattle.effect.proofs.Wholes.{root_low}
 use Rattle.tablepath.specs.Answers.{unmap_answer, unmap_writes, unmap_said, gone_of, protect_answer, protect_writes, altered_of, protect_said}
-use Rattle.tablepath.specs.declared.Unmapped.TheVariants as unmapped'
 use Rattle.tablepath.specs.declared.Gone.{Gone}
-use Rattle.tablepath.specs.declared.Protected.TheVariants as protected'
 use Rattle.tablepath.specs.declared.Altered.{Altered}
 use Rattle.verus.specs.Regions.{pte_of}
 use Rattle.verus.specs.Mappings.{ContainsKey, AcceptedUnmap, inserted, removed}
@@ -117,13 +114,13 @@ module _ {h : ℕ → Bool} {sp : Space} {m : ℕ → ℕ} {role : ℕ → Role}
       }
 
   -- UNMAP, OK: the base was mapped, and the frame and size that are answered are those; the one changing write was made, and the base is removed.
-  pub unmap_ok : (g : Gone) → unmap_answer h m sp base ≡ unmapped'.Done g → UnmapOk h sp m (unmap_writes h m sp base) base g.frame g.size
+  pub unmap_ok : (g : Gone) → unmap_answer h m sp base ≡ Ok g → UnmapOk h sp m (unmap_writes h m sp base) base g.frame g.size
   unfolding unmap_answer unmap_writes unmap_said unmap.did_of gone_of
   unmap_ok g done = go (unmap.decide_of h m sp base) refl done
     where
-      go : (x : Removing) → unmap.decide_of h m sp base ≡ x → unmap_said (book_of m sp) x ≡ unmapped'.Done g → UnmapOk h sp m (unmap.did_of sp base x) base g.frame g.size
-      go (removing.Refused y) e f = let z : ◌≡◌ {A = ℕ} 0 1 = cc in absurd (omega arith)
-      go (removing.Go r) e f =
+      go : (x : Result Removal Reason) → unmap.decide_of h m sp base ≡ x → unmap_said (book_of m sp) x ≡ Ok g → UnmapOk h sp m (unmap.did_of sp base x) base g.frame g.size
+      go (Err y) e f = let z : ◌≡◌ {A = ℕ} 0 1 = cc in absurd (omega arith)
+      go (Ok r) e f =
           let d : UnmapDone h sp m role base r = unmapped w base r e in
           let same : gone_of (book_of m sp) r ≡ g = cc in
           let made = removal_made r.page.size r.page.frame d.had d.before r.page.way.level Nothing (unmap.writes_of sp base r) d.role' d.size_is d.aligned d.changed d.whole refl in
@@ -137,17 +134,17 @@ module _ {h : ℕ → Bool} {sp : Space} {m : ℕ → ℕ} {role : ℕ → Role}
           })
 
   -- UNMAP, ERR: nothing was written, and the base was not mapped.
-  pub unmap_err : (y : Reason) → unmap_answer h m sp base ≡ unmapped'.Refused y → NotThere sp m (unmap_writes h m sp base) base
+  pub unmap_err : (y : Reason) → unmap_answer h m sp base ≡ Err y → NotThere sp m (unmap_writes h m sp base) base
   unfolding unmap_answer unmap_writes unmap_said unmap.did_of
   unmap_err y refused = go (unmap.decide_of h m sp base) refl refused
     where
-      go : (x : Removing) → unmap.decide_of h m sp base ≡ x → unmap_said (book_of m sp) x ≡ unmapped'.Refused y → NotThere sp m (unmap.did_of sp base x) base
-      go (removing.Go r) e f = let z : ◌≡◌ {A = ℕ} 0 1 = cc in absurd (omega arith)
-      go (removing.Refused z) e f =
+      go : (x : Result Removal Reason) → unmap.decide_of h m sp base ≡ x → unmap_said (book_of m sp) x ≡ Err y → NotThere sp m (unmap.did_of sp base x) base
+      go (Ok r) e f = let z : ◌≡◌ {A = ℕ} 0 1 = cc in absurd (omega arith)
+      go (Err z) e f =
           record { unchanged = refl; missing = λ k. nowhere (setting_of h sp) m base z (((unmap_exactly w base).refused z).0 e) (key_starts k) }
 
   -- where accepted_unmap holds, one reason is left, which is the source's
-  pub accepted_refused : (y : Reason) → unmap_answer h m sp base ≡ unmapped'.Refused y → AcceptedUnmap base → y ≡ NothingStarts
+  pub accepted_refused : (y : Reason) → unmap_answer h m sp base ≡ Err y → AcceptedUnmap base → y ≡ NothingStarts
   unfolding unmap_answer unmap_said
   accepted_refused y refused a = go (unmap.decide_of h m sp base) refl refused
     where
@@ -155,18 +152,18 @@ module _ {h : ℕ → Bool} {sp : Space} {m : ℕ → ℕ} {role : ℕ → Role}
       one z (effect.no_address n) = absurd (false≢true (sym n ∙ a.address))
       one z (effect.none_starts n k) = refl
 
-      go : (x : Removing) → unmap.decide_of h m sp base ≡ x → unmap_said (book_of m sp) x ≡ unmapped'.Refused y → y ≡ NothingStarts
-      go (removing.Go r) e f = let z : ◌≡◌ {A = ℕ} 0 1 = cc in absurd (omega arith)
-      go (removing.Refused z) e f = let same : z ≡ y = cc in sym same ∙ one z (((unmap_exactly w base).refused z).0 e)
+      go : (x : Result Removal Reason) → unmap.decide_of h m sp base ≡ x → unmap_said (book_of m sp) x ≡ Err y → y ≡ NothingStarts
+      go (Ok r) e f = let z : ◌≡◌ {A = ℕ} 0 1 = cc in absurd (omega arith)
+      go (Err z) e f = let same : z ≡ y = cc in sym same ∙ one z (((unmap_exactly w base).refused z).0 e)
 
   -- PROTECT, OK: the base was mapped; the one changing write was made; it has the same frame with the new flags.
-  pub protect_ok : (r : Rights) (g : Altered) → protect_answer h m sp base r ≡ protected'.Done g → ProtectOk h sp m (protect_writes h m sp base r) base g.frame g.size r
+  pub protect_ok : (r : Rights) (g : Altered) → protect_answer h m sp base r ≡ Ok g → ProtectOk h sp m (protect_writes h m sp base r) base g.frame g.size r
   unfolding protect_answer protect_writes protect_said altered_of protect.did_of change_made
   protect_ok r g done = go (protect.decide_of h m sp base r) refl done
     where
-      go : (x : Changing) → protect.decide_of h m sp base r ≡ x → protect_said x ≡ protected'.Done g → ProtectOk h sp m (protect.did_of x) base g.frame g.size r
-      go (changing.Refused y) e f = let z : ◌≡◌ {A = ℕ} 0 1 = cc in absurd (omega arith)
-      go (changing.Go c) e f =
+      go : (x : Result Change Reason) → protect.decide_of h m sp base r ≡ x → protect_said x ≡ Ok g → ProtectOk h sp m (protect.did_of x) base g.frame g.size r
+      go (Err y) e f = let z : ◌≡◌ {A = ℕ} 0 1 = cc in absurd (omega arith)
+      go (Ok c) e f =
           let d : ProtectDone h sp m role base r c = protected w base r c e in
           let same : altered_of c ≡ g = cc in
           let made = change_made c.size c.frame d.had d.before d.level (Page base c.size c.frame r) (protect.writes_of c) role d.size_is d.aligned d.changed d.whole r refl in
@@ -179,7 +176,7 @@ module _ {h : ℕ → Bool} {sp : Space} {m : ℕ → ℕ} {role : ℕ → Role}
           })
 
   -- PROTECT, ERR, where the page would not be writable and executable, which the source allows
-  pub protect_err : (r : Rights) (y : Reason) → protect_answer h m sp base r ≡ protected'.Refused y → write_execute r ≡ false → NotThere sp m (protect_writes h m sp base r) base
+  pub protect_err : (r : Rights) (y : Reason) → protect_answer h m sp base r ≡ Err y → write_execute r ≡ false → NotThere sp m (protect_writes h m sp base r) base
   unfolding protect_answer protect_writes protect_said protect.did_of
   protect_err r y refused strict = go (protect.decide_of h m sp base r) refl refused
     where
@@ -187,7 +184,7 @@ module _ {h : ℕ → Bool} {sp : Space} {m : ℕ → ℕ} {role : ℕ → Role}
       only_there z (write_execute_lem x) = absurd (true≢false (sym x ∙ strict))
       only_there z (not_there z' x n) = n
 
-      go : (x : Changing) → protect.decide_of h m sp base r ≡ x → protect_said x ≡ protected'.Refused y → NotThere sp m (protect.did_of x) base
-      go (changing.Go c) e f = let z : ◌≡◌ {A = ℕ} 0 1 = cc in absurd (omega arith)
-      go (changing.Refused z) e f =
+      go : (x : Result Change Reason) → protect.decide_of h m sp base r ≡ x → protect_said x ≡ Err y → NotThere sp m (protect.did_of x) base
+      go (Ok c) e f = let z : ◌≡◌ {A = ℕ} 0 1 = cc in absurd (omega arith)
+      go (Err z) e f =
           record { unchanged = refl; missing = λ k. nowhere (setting_of h sp) m base z (only_there z (((protect_exactly w base r).refused z).0 e)) (key_starts k) }

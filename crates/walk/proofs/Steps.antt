@@ -1,7 +1,6 @@
 -- A step by what its read answered, and a walk that has ended.
-use Rattle.std.proofs.Common.{◌≡◌, ℕ, zero, suc, ◌-◌, ◌<◌, Bool, List, refl, arith}
+use Rattle.std.proofs.Common.{◌≡◌, ℕ, zero, suc, ◌-◌, ◌<◌, Bool, List, refl, arith, Some, None}
 use Rattle.word.specs.Memory.{memory, holds, read_of}
-use Rattle.word.specs.declared.Cell.TheVariants as cell
 use Rattle.word.proofs.Memory.{read_word, read_outside}
 use Rattle.entry.specs.Entry.{says}
 use Rattle.entry.specs.declared.Rights.{Rights}
@@ -13,11 +12,11 @@ use Rattle.walk.specs.declared.Place.TheVariants.{Going, Ended}
 use Rattle.walk.proofs.Digits.{index_lt}
 
 module _ (s : List ℕ) (origin n va t : ℕ) (r : Rights) (i : ℕ) (e : i ≡ index_of n va) where
-  pub step_read : (w : ℕ) → read_of s origin t i ≡ cell.Word w → step_of (holds s origin) (memory s origin) n va (Going t r) ≡ entered n va r (says n w)
+  pub step_read : (w : ℕ) → read_of s origin t i ≡ Some w → step_of (holds s origin) (memory s origin) n va (Going t r) ≡ entered n va r (says n w)
   unfolding step_of
   step_read w h = let k = read_word s origin t (index_of n va) (index_lt n va) w (rw e at h) in rw (k.0, k.1)
 
-  pub step_outside : read_of s origin t i ≡ cell.Outside → step_of (holds s origin) (memory s origin) n va (Going t r) ≡ Ended Outside
+  pub step_outside : read_of s origin t i ≡ None → step_of (holds s origin) (memory s origin) n va (Going t r) ≡ Ended Outside
   unfolding step_of
   step_outside h = rw (read_outside s origin t (index_of n va) (index_lt n va) (rw e at h))
 

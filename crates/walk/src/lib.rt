@@ -6,12 +6,13 @@ ghost use Rattle.word.specs.Memory.{memory, holds};
 ghost use Rattle.walk.specs.Walk as the;
 
 use entry::{Entry, Rights};
-use word::Cell;
+
+mod display;
 
 // Half of all addresses: the lower half begins at 0, the upper so far below 2^64.
 pub const HALF: u64 = 140737488355328;
 
-// What a number means as an address.
+// What a number means as an address: an answer of one of four kinds, none of which is an error of the call.
 #[derive(Clone, Copy)]
 pub enum Found {
     // the page's first address, its size, where it lies in physical memory, and the rights of the whole way
@@ -29,7 +30,8 @@ pub enum Found {
     NoAddress,
 }
 
-// A walk on its way: at the table in a page, with the rights so far; or at its end.
+// A walk on its way: at the table in a page, with the rights so far; or at its end. Neither is a refusal, nor an end of a function: the laws of
+// walks (walk, tables, tablepath) speak of both as the state that a walk is in between two reads.
 #[derive(Clone, Copy)]
 pub enum Place {
     Going(u64, Rights),
@@ -74,10 +76,9 @@ fn arrive(mem: &[u8], origin: u64, n: u64, va: u64, t: u64, r: Rights) -> Place
     requires { n < 4 }
     ensures { result ≡ the.step_of (holds mem.now origin) (memory mem.now origin) n va (the.going t r) }
 {
-    let c = word::read(mem, origin, t, index(n, va));
-    match c {
-        Cell::Word(w) => enter(n, va, r, entry::decode(n, w)),
-        Cell::Outside => Place::Ended(Found::Outside),
+    match word::read(mem, origin, t, index(n, va)) {
+        Some(w) => enter(n, va, r, entry::decode(n, w)),
+        None => Place::Ended(Found::Outside),
     }
 }
 
@@ -133,9 +134,7 @@ pub fn look_up(mem: &[u8], origin: u64, cr3: u64, va: u64) -> Found
     ensures { result ≡ the.walk (holds mem.now origin) (memory mem.now origin) cr3 va }
 {
     let mut p = begin(cr3, va);
-    let mut n: u64 = 4;
-    while 0 < n {
-        n -= 1;
+    for n in (0..4).rev() {
         p = step(mem, origin, n, va, p);
     }
     answer(p)

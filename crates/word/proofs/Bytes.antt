@@ -1,9 +1,8 @@
 -- Laws of numbers in a list of bytes, each proved once for any number of bytes: what was put is read back, and what lies apart is as it was.
-use Rattle.std.proofs.Common.{◌≡◌, ℕ, zero, suc, ◌+◌, ◌*◌, ◌/◌, ◌%◌, ◌^◌, ◌<◌, ◌≤◌, ◌≢◌, List, length, get_or, set, refl, ◌∙◌, add-zero, add_comm, arith, length-set, get_or-set_other, get_or-set_same, shl_exact}
+use Rattle.std.proofs.Common.{◌≡◌, ℕ, zero, suc, ◌+◌, ◌*◌, ◌/◌, ◌%◌, ◌^◌, ◌<◌, ◌≤◌, ◌≢◌, List, length, get_or, set, refl, ◌∙◌, add_comm, arith, length-set, get_or-set_other, get_or-set_same}
 use native.Mathlib.Nat.{pow-succ', one-le-pow}
 use native.Mathlib.Decide.{dec_lt}
-use lib.Arith.{mod-mul, digits_lt}
-use lib.Bits.{bit_or, or_shifted_r}
+use lib.Arith.{mod-mul}
 use Rattle.word.specs.Bytes.{bytes_at, put_bytes, word_at, put_word}
 
 length_puts : (n : ℕ) (s : List ℕ) (o w : ℕ) → length (put_bytes n s o w) ≡ length s
@@ -64,27 +63,3 @@ word_put_apart s o w p h = read_apart 8 8 s o w p h
 pub byte_put_apart : (s : List ℕ) (o w i : ℕ) → ((k : ℕ) → k < 8 → i ≢ o + k) → get_or (put_word s o w) i 0 ≡ get_or s i 0
 unfolding put_word
 byte_put_apart s o w i h = put_out 8 s o w i h
-
--- lo is the number of the first n bytes
-pub record Part (n : ℕ) (s : List ℕ) (o lo : ℕ) : Type 0 where
-  pub same : lo ≡ bytes_at n s o
-  pub small : lo < 256 ^ n
-
-pub part_first : (s : List ℕ) (o b : ℕ) → (b ≡ get_or s o 0) × (b < 256) → Part 1 s o b
-unfolding bytes_at
-part_first s o b h = record { same = rw add-zero (omega (arith, h.0)); small = h.1 }
-
--- one byte more, put above the others by a shift and an or
-pub part_more : (n k : ℕ) (s : List ℕ) (o lo b : ℕ) → 256 ^ n ≡ 2 ^ k → 8 + k ≤ 64 → Part n s o lo → (b ≡ get_or s (o + n) 0) × (b < 256)
-    → Part (suc n) s o (bit_or lo (b * 2 ^ k % 2 ^ 64))
-unfolding bytes_at
-part_more n k s o lo b e f p h = rw joined (record { same = whole; small = rw (pow-succ' 256 n, e, add_comm lo (b * 2 ^ k)) (digits_lt h.1 small) })
-  where
-    small : lo < 2 ^ k
-    small = rw e at p.small
-
-    joined : bit_or lo (b * 2 ^ k % 2 ^ 64) ≡ lo + b * 2 ^ k
-    joined = rw (shl_exact {a = b} 8 k 64 h.1 f) (or_shifted_r b k lo small ∙ add_comm (b * 2 ^ k) lo)
-
-    whole : lo + b * 2 ^ k ≡ bytes_at n s o + get_or s (o + n) 0 * 256 ^ n
-    whole = rw (p.same, h.0, e)

@@ -1,11 +1,10 @@
 -- Writing a word into the bytes is setting the memory at one place: the one law by which everything above speaks of bytes.
-use Rattle.std.proofs.Common.{◌≡◌, ℕ, ◌+◌, ◌-◌, ◌*◌, ◌^◌, ◌<◌, ◌≤◌, Bool, true, false, cond, ◌&&◌, ltb, List, length, sym, refl, ◌∙◌, arith, ltb-true, lt-ltb, le-leb, leb-true}
+use Rattle.std.proofs.Common.{◌≡◌, ℕ, ◌+◌, ◌-◌, ◌*◌, ◌^◌, ◌<◌, ◌≤◌, Bool, true, false, cond, ◌&&◌, ltb, List, length, sym, refl, ◌∙◌, arith, ltb-true, lt-ltb, le-leb, leb-true, Some, None}
 use mathlib.Core.Path.{fun_ext}
 use native.Mathlib.Decide.{dec_le, ℕ_discrete}
 use borrow.Author.Tests.{lt-leb}
 use Rattle.word.specs.Bytes.{word_at, put_word}
 use Rattle.word.specs.Memory.{set, at, memory, holds, read_of, written}
-use Rattle.word.specs.declared.Cell.TheVariants.{Word, Outside}
 use Rattle.word.proofs.Bytes.{length_put, word_put_same, word_put_apart}
 use Rattle.word.proofs.Tests.{and_both}
 use Rattle.word.proofs.Set.{set_at, set_other}
@@ -90,22 +89,22 @@ memory_written s origin p i w h u f =
 -- What a read answered -------------------------------------------------------------------------------------------------------
 
 module _ (s : List ℕ) (origin p i : ℕ) (u : i < 512) where
-  read_tests : read_of s origin p i ≡ cond (holds s origin p) (Word (memory s origin (at p i))) Outside
+  read_tests : read_of s origin p i ≡ cond (holds s origin p) (Some (memory s origin (at p i))) None
   unfolding read_of
   read_tests = simp (lt-ltb i 512 u)
 
   -- a word: the page is held, and that is the word there
-  pub read_word : (w : ℕ) → read_of s origin p i ≡ Word w → (holds s origin p ≡ true) × (memory s origin (at p i) ≡ w)
+  pub read_word : (w : ℕ) → read_of s origin p i ≡ Some w → (holds s origin p ≡ true) × (memory s origin (at p i) ≡ w)
   read_word w e = go (holds s origin p) (sym read_tests ∙ e)
     where
-      go : (b : Bool) → cond b (Word (memory s origin (at p i))) Outside ≡ Word w → (b ≡ true) × (memory s origin (at p i) ≡ w)
+      go : (b : Bool) → cond b (Some (memory s origin (at p i))) None ≡ Some w → (b ≡ true) × (memory s origin (at p i) ≡ w)
       go true h = (refl, cc)
       go false h = let z : ◌≡◌ {A = ℕ} 0 1 = cc in absurd (omega arith)
 
   -- outside: the page is not held
-  pub read_outside : read_of s origin p i ≡ Outside → holds s origin p ≡ false
+  pub read_outside : read_of s origin p i ≡ None → holds s origin p ≡ false
   read_outside e = go (holds s origin p) (sym read_tests ∙ e)
     where
-      go : (b : Bool) → cond b (Word (memory s origin (at p i))) Outside ≡ Outside → b ≡ false
+      go : (b : Bool) → cond b (Some (memory s origin (at p i))) None ≡ None → b ≡ false
       go true h = let z : ◌≡◌ {A = ℕ} 0 1 = cc in absurd (omega arith)
       go false h = refl

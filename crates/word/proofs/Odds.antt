@@ -1,6 +1,8 @@
 -- Odd entries in parts of a page: the entries before one and those behind it are all others.
 use Rattle.std.proofs.Common.{◌≡◌, ℕ, zero, suc, ◌+◌, ◌-◌, ◌*◌, ◌/◌, ◌%◌, ◌<◌, ◌≤◌, max, Bool, true, false, cond, ◌||◌, eqb, sym, refl, ap, ◌∙◌, arith, eq-eqb, ne_eqb}
 use mathlib.Core.Bool.{or-false, or_assoc, or_comm}
+use Rattle.std.proofs.Common.{add_comm, add-one}
+use Rattle.std.proofs.Math.Nat.{mul-suc, mul-le-mul_left}
 use lib.Bits.{bit_or, or_step}
 use Rattle.word.specs.Memory.{at}
 use Rattle.word.specs.Scan.{odd, odd_of, other_of, besides_of}
@@ -27,6 +29,10 @@ pub odd_zero : (w : ℕ) → w ≡ 0 → odd w ≡ false
 unfolding odd
 odd_zero w e = rw e
 
+-- a block of n before the block `to` ends where that one begins, or before
+pub block_ends : (n k to : ℕ) → k < to → n * k + n ≤ n * to
+block_ends n k to u = let y : n * k + n ≡ n * (k + 1) = sym (rw (add-one k) (mul-suc n k)) in omega (arith, y, mul-le-mul_left {m = k + 1} {n = to} n (omega arith))
+
 module _ (m : ℕ → ℕ) (p : ℕ) where
   pub odd_none : (k : ℕ) → odd_of m p k 0 ≡ false
   unfolding odd_of
@@ -52,12 +58,21 @@ module _ (m : ℕ → ℕ) (p : ℕ) where
   pub odd_part : (k to n : ℕ) → n ≤ to - k → odd_of m p k (to - k) ≡ (odd_of m p k n || odd_of m p (k + n) (to - (k + n)))
   odd_part k to n u = let z : to - k ≡ n + (to - (k + n)) = omega arith in rw z (odd_join k n (to - (k + n)))
 
-  -- the next eight of the eights up to one
-  pub odd_eights : (k to : ℕ) → k < to → odd_of m p (8 * k) (8 * (to - k)) ≡ (odd_of m p (8 * k) 8 || odd_of m p (8 * (k + 1)) (8 * (to - (k + 1))))
-  odd_eights k to u =
-      let z : 8 * (to - k) ≡ 8 + 8 * (to - (k + 1)) = omega arith in
-      let y : 8 * k + 8 ≡ 8 * (k + 1) = omega arith in
-      rw z (rw y at (odd_join (8 * k) 8 (8 * (to - (k + 1)))))
+  -- the next of the blocks of n up to one
+  pub odd_blocks : (n k to : ℕ) → k < to → odd_of m p (n * k) (n * (to - k)) ≡ (odd_of m p (n * k) n || odd_of m p (n * (k + 1)) (n * (to - (k + 1))))
+  odd_blocks n k to u =
+      let x : to - k ≡ suc (to - (k + 1)) = omega arith in
+      let z : n * (to - k) ≡ n + n * (to - (k + 1)) = rw x (mul-suc n (to - (k + 1)) ∙ add_comm (n * (to - (k + 1))) n) in
+      let y : n * k + n ≡ n * (k + 1) = sym (rw (add-one k) (mul-suc n k)) in
+      rw z (rw y at (odd_join (n * k) n (n * (to - (k + 1)))))
+
+  -- blocks of one
+  pub odd_by_one : (k n : ℕ) → odd_of m p (1 * k) (1 * n) ≡ odd_of m p k n
+  odd_by_one k n = let y : 1 * k ≡ k = omega arith in let z : 1 * n ≡ n = omega arith in rw (y, z)
+
+  -- and one more entry
+  pub odd_last : (k n : ℕ) → odd_of m p k (n + 1) ≡ (odd_of m p k n || odd (m (at p (k + n))))
+  odd_last k n = odd_join k n 1 ∙ ap (◌||◌ (odd_of m p k n)) (odd_one (k + n))
 
   module _ (h : ℕ → Bool) (i : ℕ) where
     other_outside : (k : ℕ) → h p ≡ false → other_of h m p i k ≡ false

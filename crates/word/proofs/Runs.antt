@@ -1,5 +1,5 @@
 -- A run of pages that lies in the window, and reading in it.
-use Rattle.std.proofs.Common.{◌≡◌, ℕ, ◌+◌, ◌-◌, ◌*◌, ◌%◌, ◌^◌, ◌<◌, ◌≤◌, Bool, true, false, cond, ◌&&◌, ltb, leb, List, [], ◌∷◌, length, sym, refl, ◌∙◌, arith, ltb-true, le-ltb, lt-ltb, le-leb, leb-true}
+use Rattle.std.proofs.Common.{◌≡◌, ℕ, ◌+◌, ◌-◌, ◌*◌, ◌%◌, ◌^◌, ◌<◌, ◌≤◌, Bool, true, false, cond, ◌&&◌, ltb, leb, List, [], ◌∷◌, length, sym, refl, ◌∙◌, arith, ltb-true, le-ltb, lt-ltb, le-leb, leb-true, Some, None}
 use mathlib.Core.Bool.{false≢true}
 use native.Mathlib.Decide.{dec_le}
 use borrow.Author.Tests.{lt-leb}
@@ -7,7 +7,6 @@ use Rattle.word.specs.Bytes.{put_word}
 use Rattle.word.specs.Writes.{write}
 use Rattle.word.specs.Memory.{at, memory, holds, read_of, written}
 use Rattle.word.specs.Runs.{spans_of, is_among, among_of, among_writes}
-use Rattle.word.specs.declared.Cell.TheVariants.{Word, Outside}
 use Rattle.word.proofs.Tests.{and_both}
 use Rattle.word.proofs.Memory.{held, Offset, offset}
 use Rattle.word.proofs.Holding.{within}
@@ -100,7 +99,7 @@ module _ (s : List ℕ) (origin first pages : ℕ) where
     pub among_holds : InRun → holds s origin p ≡ true
     among_holds a = run_holds a.run p (omega (arith, a.behind)) a.before_end
 
-    pub among_word : InRun → Word (memory s origin (at p i)) ≡ among_of s origin first kept pages p i
+    pub among_word : InRun → Some (memory s origin (at p i)) ≡ among_of s origin first kept pages p i
     unfolding among_of
     among_word a = rw (among_is a)
 
@@ -132,18 +131,18 @@ module _ (s : List ℕ) (origin first pages : ℕ) where
         rw l (simp (le-leb (first + pages) (2 ^ 40) r.end, le-leb origin (4096 * first) r.from, le-leb (4096 * (first + pages)) (origin + length s) r.upto, lt-ltb j 512 u, le-leb (first + kept) p a.behind, lt-ltb p (first + pages) a.before_end))
 
     -- what it answered
-    pub word_among : (w : ℕ) → among_of s origin first kept pages p i ≡ Word w → InRun × (memory s origin (at p i) ≡ w)
+    pub word_among : (w : ℕ) → among_of s origin first kept pages p i ≡ Some w → InRun × (memory s origin (at p i) ≡ w)
     unfolding among_of
     word_among w e = go (is_among s origin first kept pages p i) refl e
       where
-        go : (t : Bool) → is_among s origin first kept pages p i ≡ t → cond t (Word (memory s origin (at p i))) Outside ≡ Word w → InRun × (memory s origin (at p i) ≡ w)
+        go : (t : Bool) → is_among s origin first kept pages p i ≡ t → cond t (Some (memory s origin (at p i))) None ≡ Some w → InRun × (memory s origin (at p i) ≡ w)
         go true h x = (is_among_lem h, cc)
         go false h x = let z : ◌≡◌ {A = ℕ} 0 1 = cc in absurd (omega arith)
 
     -- what is read there is what is read by any way
-    pub among_read : (w : ℕ) → among_of s origin first kept pages p i ≡ Word w → Word w ≡ read_of s origin p i
+    pub among_read : (w : ℕ) → among_of s origin first kept pages p i ≡ Some w → Some w ≡ read_of s origin p i
     unfolding read_of
     among_read w e = let k = word_among w e in simp (lt-ltb i 512 k.0.small, among_holds k.0, k.1)
 
-    pub outside_among : among_of s origin first kept pages p i ≡ Outside → InRun → ⊥
+    pub outside_among : among_of s origin first kept pages p i ≡ None → InRun → ⊥
     outside_among e a = let x = among_word a ∙ e in let z : ◌≡◌ {A = ℕ} 0 1 = cc x in absurd (omega arith)

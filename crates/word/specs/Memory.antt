@@ -1,10 +1,8 @@
 -- Physical memory is a function from a word's number, its address / 8, to the word: entry i of page p is word 512 * p + i.
 -- The lent bytes, the window, and the physical address of the first of them, the origin, give one.
-use Rattle.std.specs.Prelude.{ℕ, ◌+◌, ◌-◌, ◌*◌, ◌^◌, Bool, cond, ◌&&◌, List, length, nat_le, nat_lt}
+use Rattle.std.specs.Prelude.{ℕ, ◌+◌, ◌-◌, ◌*◌, ◌^◌, Bool, cond, ◌&&◌, List, length, nat_le, nat_lt, Option, Some, None}
 use Rattle.std.proofs.Math.Decide.{ℕ_discrete}
 use Rattle.word.specs.Bytes.{word_at, put_word}
-use Rattle.word.specs.declared.Cell.{Cell}
-use Rattle.word.specs.declared.Cell.TheVariants.{Word, Outside}
 
 -- How many pages physical memory has: physical addresses have 52 bits.
 abbrev pub page_count : ℕ
@@ -27,8 +25,8 @@ unfoldable pub holds : List ℕ → ℕ → ℕ → Bool
 holds s origin p = nat_lt p page_count && (nat_le origin (4096 * p) && nat_le (4096 * p + 4096) (origin + length s))
 
 -- what reading entry i of page p answers
-unfoldable pub read_of : List ℕ → ℕ → ℕ → ℕ → Cell
-read_of s origin p i = cond (nat_lt i 512 && holds s origin p) (Word (memory s origin (at p i))) Outside
+unfoldable pub read_of : List ℕ → ℕ → ℕ → ℕ → Option ℕ
+read_of s origin p i = cond (nat_lt i 512 && holds s origin p) (Some (memory s origin (at p i))) None
 
 -- the window with entry i of page p set to w; as it is where there is no such entry
 unfoldable pub written : List ℕ → ℕ → ℕ → ℕ → ℕ → List ℕ

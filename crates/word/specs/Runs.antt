@@ -1,9 +1,7 @@
 -- Runs of pages that lie in the window.
-use Rattle.std.specs.Prelude.{ℕ, ◌+◌, ◌*◌, Bool, cond, ◌&&◌, List, [], ◌∷◌, length, nat_le, nat_lt}
+use Rattle.std.specs.Prelude.{ℕ, ◌+◌, ◌*◌, Bool, cond, ◌&&◌, List, [], ◌∷◌, length, nat_le, nat_lt, Option, Some, None}
 use Rattle.word.specs.Memory.{page_count, at, memory}
 use Rattle.word.specs.Writes.{Write, write, zeros}
-use Rattle.word.specs.declared.Cell.{Cell}
-use Rattle.word.specs.declared.Cell.TheVariants.{Word, Outside}
 
 -- so many pages from the first one on lie in the window
 unfoldable pub spans_of : List ℕ → ℕ → ℕ → ℕ → Bool
@@ -15,8 +13,8 @@ unfoldable pub is_among : List ℕ → ℕ → ℕ → ℕ → ℕ → ℕ → �
 is_among s origin first kept pages p i = spans_of s origin first pages && (nat_lt i 512 && (nat_le (first + kept) p && nat_lt p (first + pages)))
 
 -- what reading such an entry answers
-unfoldable pub among_of : List ℕ → ℕ → ℕ → ℕ → ℕ → ℕ → ℕ → Cell
-among_of s origin first kept pages p i = cond (is_among s origin first kept pages p i) (Word (memory s origin (at p i))) Outside
+unfoldable pub among_of : List ℕ → ℕ → ℕ → ℕ → ℕ → ℕ → ℕ → Option ℕ
+among_of s origin first kept pages p i = cond (is_among s origin first kept pages p i) (Some (memory s origin (at p i))) None
 
 -- setting such an entry to w is one write; where there is none, no write
 unfoldable pub among_writes : List ℕ → ℕ → ℕ → ℕ → ℕ → ℕ → ℕ → ℕ → List Write

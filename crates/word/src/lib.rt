@@ -9,7 +9,7 @@ ghost use Rattle.word.specs.Writes.{Wrote, write, zeros, endless};
 mod run;
 mod scan;
 
-pub use run::{clear_among, read_among, read_by_run, spans, write_among, write_by_run};
+pub use run::Run;
 pub use scan::besides;
 
 // No budget: all writes are done.
@@ -18,53 +18,37 @@ pub const ENDLESS: u64 = 18446744073709551615;
 // How many pages physical memory has: physical addresses have 52 bits.
 pub const PAGE_COUNT: u64 = 1099511627776;
 
-// What reading an entry answers.
-#[derive(Clone, Copy)]
-pub enum Cell {
-    Word(u64),
-    Outside,
-}
-
-fn wide(x: u8) -> u64
-    ensures { (result ≡ x) × (result < 256) }
-{
-    x as u64
-}
-
-fn byte(w: u64) -> u8
-    ensures { result ≡ w % 256 }
-{
-    (w % 256) as u8
-}
-
-// The word whose first byte is at `at`. This form becomes one 8-byte load.
+// The word whose first byte is at `at`: std's number of bytes that are found in the window. This form becomes one 8-byte load.
 fn load(mem: &[u8], at: usize) -> u64
     requires { at + 8 ≤ length mem.now }
     ensures { result ≡ word_at mem.now at }
 {
-    wide(mem[at])
-        | (wide(mem[at + 1]) << 8)
-        | (wide(mem[at + 2]) << 16)
-        | (wide(mem[at + 3]) << 24)
-        | (wide(mem[at + 4]) << 32)
-        | (wide(mem[at + 5]) << 40)
-        | (wide(mem[at + 6]) << 48)
-        | (wide(mem[at + 7]) << 56)
+    u64::from_le_bytes([
+        mem[at],
+        mem[at + 1],
+        mem[at + 2],
+        mem[at + 3],
+        mem[at + 4],
+        mem[at + 5],
+        mem[at + 6],
+        mem[at + 7],
+    ])
 }
 
-// Puts the word w at byte `at`. This form becomes one 8-byte store.
+// Puts std's bytes of the word w at byte `at`. This form becomes one 8-byte store.
 fn store(mem: &mut [u8], at: usize, w: u64)
     requires { at + 8 ≤ length mem.old }
     ensures { mem.new ≡ put_word mem.old at w }
 {
-    mem[at] = byte(w);
-    mem[at + 1] = byte(w >> 8);
-    mem[at + 2] = byte(w >> 16);
-    mem[at + 3] = byte(w >> 24);
-    mem[at + 4] = byte(w >> 32);
-    mem[at + 5] = byte(w >> 40);
-    mem[at + 6] = byte(w >> 48);
-    mem[at + 7] = byte(w >> 56);
+    let bytes = w.to_le_bytes();
+    mem[at] = bytes[0];
+    mem[at + 1] = bytes[1];
+    mem[at + 2] = bytes[2];
+    mem[at + 3] = bytes[3];
+    mem[at + 4] = bytes[4];
+    mem[at + 5] = bytes[5];
+    mem[at + 6] = bytes[6];
+    mem[at + 7] = bytes[7];
 }
 
 // Does page p begin so far behind the origin, at most? One comparison finds that it begins in the window, too: where it begins before the
@@ -107,17 +91,17 @@ fn holds_to_read(mem: &[u8], origin: u64, p: u64) -> bool
     holds_within(origin, room, p)
 }
 
-// Entry i of page p, where that page lies in the window.
-pub fn read(mem: &[u8], origin: u64, p: u64, i: u64) -> Cell
+// Entry i of page p, where that page lies in the window; else none.
+pub fn read(mem: &[u8], origin: u64, p: u64, i: u64) -> Option<u64>
     ensures { result ≡ read_of mem.now origin p i }
 {
     if 512 <= i {
-        return Cell::Outside;
+        return None;
     }
     if holds_to_read(mem, origin, p) {
-        return Cell::Word(load(mem, (p * 4096 - origin + i * 8) as usize));
+        return Some(load(mem, (p * 4096 - origin + i * 8) as usize));
     }
-    Cell::Outside
+    None
 }
 
 // Sets entry i of page p, where that page lies in the window, and else nothing.
@@ -161,9 +145,7 @@ pub fn write(mem: &mut [u8], left: &mut u64, origin: u64, p: u64, i: u64, w: u64
 pub fn clear(mem: &mut [u8], left: &mut u64, origin: u64, p: u64)
     ensures { Wrote origin (zeros p 512) left.old left.new mem.old mem.new }
 {
-    let mut i: u64 = 0;
-    while i < 512 {
+    for i in 0..512 {
         write(mem, left, origin, p, i, 0);
-        i += 1;
     }
 }

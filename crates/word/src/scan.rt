@@ -15,7 +15,7 @@ fn is_odd(w: u64) -> bool
     w % 2 == 1
 }
 
-// Entry i of page p.
+// Entry i of page p. That the page is held `besides` has just tested; it alone calls this and the two below.
 fn word(mem: &[u8], origin: u64, p: u64, i: u64) -> u64
     requires { (holds mem.now origin p ≡ true) × (i < 512) }
     ensures { result ≡ memory mem.now origin (512 * p + i) }
@@ -23,54 +23,27 @@ fn word(mem: &[u8], origin: u64, p: u64, i: u64) -> u64
     load(mem, (p * 4096 - origin + i * 8) as usize)
 }
 
-// Entry k of page p and the next one, by one word that is odd where one of them is.
-fn two(mem: &[u8], origin: u64, p: u64, k: u64) -> u64
-    requires { (holds mem.now origin p ≡ true) × (k + 2 ≤ 512) }
-    ensures { the.odd result ≡ the.odd_of (memory mem.now origin) p k 2 }
+// N entries of page p from entry k on, by one word that is odd where one of them is.
+fn block<const N: u64>(mem: &[u8], origin: u64, p: u64, k: u64) -> u64
+    requires { (holds mem.now origin p ≡ true) × (k + N ≤ 512) }
+    ensures { the.odd result ≡ the.odd_of (memory mem.now origin) p k N }
 {
-    word(mem, origin, p, k) | word(mem, origin, p, k + 1)
-}
-
-fn four(mem: &[u8], origin: u64, p: u64, k: u64) -> u64
-    requires { (holds mem.now origin p ≡ true) × (k + 4 ≤ 512) }
-    ensures { the.odd result ≡ the.odd_of (memory mem.now origin) p k 4 }
-{
-    two(mem, origin, p, k) | two(mem, origin, p, k + 2)
-}
-
-fn eight(mem: &[u8], origin: u64, p: u64, k: u64) -> u64
-    requires { (holds mem.now origin p ≡ true) × (k + 8 ≤ 512) }
-    ensures { the.odd result ≡ the.odd_of (memory mem.now origin) p k 8 }
-{
-    four(mem, origin, p, k) | four(mem, origin, p, k + 4)
-}
-
-// Is one of the entries of page p odd, from one up to another?
-fn each(mem: &[u8], origin: u64, p: u64, from: u64, to: u64) -> bool
-    requires { (holds mem.now origin p ≡ true) × (to ≤ 512) }
-    ensures { result ≡ the.odd_of (memory mem.now origin) p from (to - from) }
-{
-    let mut k: u64 = from;
-    while k < to {
-        if is_odd(word(mem, origin, p, k)) {
-            return true;
-        }
-        k += 1;
+    let mut all = 0;
+    for j in 0..N {
+        all |= word(mem, origin, p, k + j);
     }
-    false
+    all
 }
 
-// The same by eights: is one of them odd, from one eight up to another?
-fn eights(mem: &[u8], origin: u64, p: u64, from: u64, to: u64) -> bool
-    requires { (holds mem.now origin p ≡ true) × (to ≤ 64) }
-    ensures { result ≡ the.odd_of (memory mem.now origin) p (8 * from) (8 * (to - from)) }
+// Is one of the entries of page p odd, from one block of N up to another?
+fn blocks<const N: u64>(mem: &[u8], origin: u64, p: u64, from: u64, to: u64) -> bool
+    requires { (holds mem.now origin p ≡ true) × (N * to ≤ 512) }
+    ensures { result ≡ the.odd_of (memory mem.now origin) p (N * from) (N * (to - from)) }
 {
-    let mut k: u64 = from;
-    while k < to {
-        if is_odd(eight(mem, origin, p, 8 * k)) {
+    for k in from..to {
+        if is_odd(block::<N>(mem, origin, p, N * k)) {
             return true;
         }
-        k += 1;
     }
     false
 }
@@ -81,19 +54,19 @@ pub fn besides(mem: &[u8], origin: u64, p: u64, i: u64) -> bool
 {
     if holds(mem, origin, p) {
         if 512 <= i {
-            return eights(mem, origin, p, 0, 64);
+            return blocks::<8>(mem, origin, p, 0, 64);
         }
         let b = i / 8;
-        if eights(mem, origin, p, 0, b) {
+        if blocks::<8>(mem, origin, p, 0, b) {
             return true;
         }
-        if each(mem, origin, p, 8 * b, i) {
+        if blocks::<1>(mem, origin, p, 8 * b, i) {
             return true;
         }
-        if each(mem, origin, p, i + 1, 8 * b + 8) {
+        if blocks::<1>(mem, origin, p, i + 1, 8 * b + 8) {
             return true;
         }
-        return eights(mem, origin, p, b + 1, 64);
+        return blocks::<8>(mem, origin, p, b + 1, 64);
     }
     false
 }

@@ -7,10 +7,10 @@ pub returns-then-level-ge4 : goal.returns-then-level-ge4
 unfolding entry_answer
 returns-then-level-ge4 c = record { answer = simp (le-ltb _ _ c.if-level-ge4.true, c.bare.ensures) }
 
-pub returns-in-Word : goal.returns-in-Word
+pub returns-in-Some : goal.returns-in-Some
 unfolding entry_answer said_in
-returns-in-Word c = record { answer = simp (lt-ltb _ _ c.if-level-ge4.false, sym c.table.ensures, sym c.read-c.ensures ∙ c.in-Word.is, c.of_word.ensures) }
+returns-in-Some c = record { answer = simp (lt-ltb _ _ c.if-level-ge4.false, sym c.table.ensures, sym c.read.ensures ∙ c.in-Some.is, c.of_word.ensures) }
 
-pub returns-in-Outside : goal.returns-in-Outside
+pub returns-in-None : goal.returns-in-None
 unfolding entry_answer said_in
-returns-in-Outside c = record { answer = simp (lt-ltb _ _ c.if-level-ge4.false, sym c.table.ensures, sym c.read-c.ensures ∙ c.in-Outside.is, c.bare-in-Outside.ensures) }
+returns-in-None c = record { answer = simp (lt-ltb _ _ c.if-level-ge4.false, sym c.table.ensures, sym c.read.ensures ∙ c.in-None.is, c.bare-in-None.ensures) }

@@ -1,7 +1,7 @@
 use Rattle.entry.specs.Words.{made_page, fits, page_word}
 use Rattle.std.proofs.Common.{arith, le-ltb, lt-ltb, eq-eqb, ne_eqb, le-leb}
 use borrow.Author.Tests.{lt-leb}
-use Rattle.entry.proofs.Levels.{size_pos}
+use Rattle.entry.proofs.Levels.{size_pos, from_flag}
 use Rattle.entry.proofs.page_word.Goals as goal
 
 pub returns-then-n-gt2 : goal.returns-then-n-gt2
@@ -29,8 +29,8 @@ returns c =
       eq-eqb _ _
           c.if-frame-size-ne0.false,
       lt-ltb _ _ c.if-frame-ge-FRAME_END.false,
-      c.flag.ensures.0,
-      c.flag-2.ensures.0,
-      c.flag-3.ensures.0,
+      from_flag _ _ c.from.ensures,
+      from_flag _ _ c.from-2.ensures,
+      from_flag _ _ c.from-3.ensures,
       c.large_flag.ensures.0,
     )

@@ -8,8 +8,8 @@ pub returns-then-space-ge-PAGE_COUNT : goal.returns-then-space-ge-PAGE_COUNT
 unfolding named_of
 returns-then-space-ge-PAGE_COUNT c = rw (far c.args.mem.now c.args.space.origin (c.args.space.first + c.args.k / 512) (omega arith))
 
-pub returns-in-Word : goal.returns-in-Word
-returns-in-Word c = c.usable.ensures ∙ named_word _ _ _ _ (sym c.read_by_run-c.ensures ∙ c.in-Word.is)
+pub returns : goal.returns
+returns c = c.usable.ensures ∙ named_word _ _ _ _ (sym (rw c.run_of.ensures at c.read_any.ensures) ∙ c.in_ok-p.was)
 
-pub returns-in-Outside : goal.returns-in-Outside
-returns-in-Outside c = named_outside _ _ _ (sym c.read_by_run-c.ensures ∙ c.in-Outside.is)
+pub returns-in_err-p : goal.returns-in_err-p
+returns-in_err-p c = rw c.from_residual.ensures (named_outside _ _ _ (sym (rw c.run_of.ensures at c.read_any.ensures) ∙ c.in_err-p.was))

@@ -1,11 +1,12 @@
-use mathlib.Core.Path.{sym, ◌∙◌}
+use Rattle.std.proofs.Common.{sym, ◌∙◌}
+use Rattle.std.proofs.lemmas.Result.{err_from_is_err_and}
 use Rattle.tablepath.specs.Answers.{protect_answer, protect_writes, protect_said, altered_of}
 use Rattle.tablepath.proofs.protect_up_to.Goals as goal
 
-pub returns-in-Refused : goal.returns-in-Refused
-unfolding protect_answer protect_writes protect_said altered_of
-returns-in-Refused c = record { answer = rw (sym c.protect-d.ensures.answer ∙ c.in-Refused.is); order = c.protect-d.ensures.order }
+pub returns-in_err-c : goal.returns-in_err-c
+unfolding protect_answer protect_writes protect_said
+returns-in_err-c c = let p = err_from_is_err_and c.from_residual.result c.from_residual.ensures.1 in record { answer = rw (p.1, p.2, sym c.protect.ensures.answer ∙ c.in_err-c.was); order = c.protect.ensures.order }
 
-pub returns-in-Go : goal.returns-in-Go
+pub returns : goal.returns
 unfolding protect_answer protect_writes protect_said altered_of
-returns-in-Go c = record { answer = rw (sym c.protect-d.ensures.answer ∙ c.in-Go.is); order = c.protect-d.ensures.order }
+returns c = record { answer = rw (sym c.protect.ensures.answer ∙ c.in_ok-c.was); order = c.protect.ensures.order }

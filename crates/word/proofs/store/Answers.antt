@@ -25,16 +25,4 @@ bounds-mem-at-8 c = simp length-set (omega arith)
 
 pub returns : goal.returns
 unfolding put_word put_bytes
-returns c =
-    rw (
-      add-zero,
-      div-one,
-      c.byte.ensures,
-      c.byte-2.ensures,
-      c.byte-3.ensures,
-      c.byte-4.ensures,
-      c.byte-5.ensures,
-      c.byte-6.ensures,
-      c.byte-7.ensures,
-      c.byte-8.ensures,
-    )
+returns c = rw (add-zero, div-one, c.to_le_bytes-bytes.ensures)

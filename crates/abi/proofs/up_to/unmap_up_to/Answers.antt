@@ -1,11 +1,18 @@
-use mathlib.Core.Path.{refl, sym, ◌∙◌}
+use mathlib.Core.Path.{sym, ap, ◌∙◌}
+use Rattle.std.proofs.lemmas.Result.{err_from_is_err_and}
+use Rattle.abi.specs.Answers.{unmapped_to_c}
 use Rattle.abi.specs.Calls.{unmap_answer}
+use Rattle.abi.specs.Inner.{numbered}
 use Rattle.abi.proofs.up_to.unmap_up_to.Goals as goal
 
-pub returns-in-Refused : goal.returns-in-Refused
+pub returns-in_err-space-clause-answer : goal.returns-in_err-space-clause-answer
 unfolding unmap_answer
-returns-in-Refused c = let e = sym c.site_first-s.ensures ∙ c.in-Refused.is in record { answer = rw e; order = rw e (refl, refl) }
+returns-in_err-space-clause-answer c = let p = err_from_is_err_and c.from_residual.result c.from_residual.ensures.1 in rw (p.1, p.2, c.space.ensures ∙ ap numbered c.in_err-space.was)
 
-pub returns-in-At : goal.returns-in-At
+pub returns-in_err-unmap_up_to-clause-answer : goal.returns-in_err-unmap_up_to-clause-answer
+unfolding unmap_answer unmapped_to_c
+returns-in_err-unmap_up_to-clause-answer c = let p = err_from_is_err_and c.from_residual-in_err-unmap_up_to.result c.from_residual-in_err-unmap_up_to.ensures.1 in rw (p.1, p.2, c.space.ensures ∙ ap numbered c.in_ok-space.was, sym c.unmap_up_to.ensures.answer ∙ c.in_err-unmap_up_to.was)
+
+pub returns-clause-answer : goal.returns-clause-answer
 unfolding unmap_answer
-returns-in-At c = let e = sym c.site_first-s.ensures ∙ c.in-At.is in record { answer = rw (e) (rw (c.of_unmap.ensures, c.unmap_up_to.ensures.answer)); order = rw (e) c.unmap_up_to.ensures.order }
+returns-clause-answer c = rw (c.space.ensures ∙ ap numbered c.in_ok-space.was, sym c.unmap_up_to.ensures.answer ∙ c.in_ok-unmap_up_to.was)

@@ -4,12 +4,8 @@ use Rattle.plan.proofs.spare.spared.Goals as goal
 
 pub returns-then-apart : goal.returns-then-apart
 unfolding spared_of
-returns-then-apart c = rw (c.in-Pages.is, sym c.apart.ensures ∙ c.if-apart.true)
+returns-then-apart c = rw (sym c.apart.ensures ∙ c.if-apart.true)
 
-pub returns-in-Lacking : goal.returns-in-Lacking
+pub returns : goal.returns
 unfolding spared_of
-returns-in-Lacking c = rw c.in-Lacking.is
-
-pub returns-else-apart : goal.returns-else-apart
-unfolding spared_of
-returns-else-apart c = rw (c.in-Pages.is, sym c.apart.ensures ∙ c.if-apart.false)
+returns c = rw (sym c.apart.ensures ∙ c.if-apart.false)

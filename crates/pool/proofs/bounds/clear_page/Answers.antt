@@ -10,4 +10,4 @@ returns-then-sp-gt4294967296 c = simp (lt-leb _ _ c.if-sp-gt4294967296.true) (wr
 
 pub returns : goal.returns
 unfolding clear_writes
-returns c = simp (le-leb _ _ c.if-sp-gt4294967296.false) (rw (← c.book_of.ensures) c.clear_among.ensures)
+returns c = simp (le-leb _ _ c.if-sp-gt4294967296.false) (rw c.behind_book.ensures at c.clear.ensures)

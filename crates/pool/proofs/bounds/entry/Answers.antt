@@ -9,4 +9,4 @@ returns-then-space-gt4294967296 c = simp (lt-leb _ _ c.if-space-gt4294967296.tru
 
 pub returns : goal.returns
 unfolding read_entry_of
-returns c = simp (le-leb _ _ c.if-space-gt4294967296.false, c.read_among.ensures, c.book_of.ensures)
+returns c = simp (le-leb _ _ c.if-space-gt4294967296.false, rw c.behind_book.ensures at c.read.ensures)
