@@ -11,7 +11,7 @@ import subprocess
 
 # What is called otherwise in the printed modules.
 KINDS = {'Syntax.cond': 'If', 'Syntax.int_big': 'Int'}
-# A callee that a function does not name: a closure, or a function of a type that it is generic over. Each of ours is among the functions itself.
+# A callee that a function does not name: a closure, or a function of a type that it is generic over.
 GIVEN = 'something that it was given'
 
 
@@ -116,7 +116,7 @@ def printed(text):
     """The function of a printed module: its statements, in which the bodies of loops, say, are cited by name."""
     symbols = {alias or 'Symbol': path.replace('.proofs.', '.').replace('.', '::')
                for path, alias in re.findall(r'^use Rattle\.(\S+)\.Symbol(?: as (\S+))?$', text, re.M)}
-    named = {name: parsed(term) for name, term in re.findall(r'^(\S+) =((?:.*\n)(?: .*\n)*)', text, re.M)}
+    named = {name: parsed(term) for name, term in re.findall(r'^(\S+) =((?:.*\n)(?:[ )].*\n)*)', text, re.M)}
     body = Body(slots=text.count('Syntax.memory_slot'))
     for name in named:
         if re.fullmatch(r's-\d+', name):
